@@ -12,7 +12,6 @@ use Rattle.sd_core.specs.declared.Effect.TheVariants.{Quiet}
 use Rattle.sd_core.specs.declared.registers.Registers.{Registers}
 use Rattle.sd_core.specs.Calls as calls
 use Rattle.sd_core.specs.Calls.{Making, Call, Past}
-use Rattle.sd_core.specs.Living.{Life}
 use Rattle.sd_core.specs.Words as words
 use Rattle.sd_core.specs.Words.{after, effect_of, report_at}
 use Rattle.sd_core.specs.Lives.{past_of}
@@ -25,14 +24,15 @@ use Rattle.sd_sched.specs.Events.{device_of, counter_of}
 use Rattle.sd_history.specs.Things.{failure_of, mended}
 use Rattle.sd_history.specs.World.{Setting, is_up, makes, fails, in_force, epoch_in_force, staged, staged_epoch, latest_reading}
 use Rattle.sd_history.specs.Steps.{Act, Makes, Calls, Asks, Passes, tells_nothing, tells_made, tells_called, Step, seen_of, changed, act_by, flight_numbered, step_of}
-use Rattle.sd_history.specs.Refusals.{causes, refusal, makes_some}
+use Rattle.sd_history.specs.Refusals.{refusal, makes_some}
 use Rattle.sd_history.specs.Chronicle.{answers_by, new_past, past_in, past_after, told_by, next_step, chronicle, IsHistory}
 use Rattle.sd_history.specs.Nodes.{answers_of, NodeStep, steps_of, node_in, node_before, IsMade, IsCalled, IsAsked, Allows, IsRun}
 use Rattle.sd_history.proofs.Among.{first, later}
-use Rattle.sd_history.proofs.Contained.{none_holds}
+use Rattle.sd_history.specs.Admitted.{Admits, IsAdmitted, IsAdmittedRun}
+use Rattle.sd_history.proofs.Admitted.{rule_holds, history_is_admitted}
 use Rattle.sd_history.proofs.Known.{has_some, kept_past, makes_past, up_by}
 use Rattle.sd_history.proofs.Given.{some_is, HasDuties, GivesSuch, duties_after}
-use Rattle.sd_history.proofs.Devices.{device, made_is, answers_are, Lives, RunGoes, run_goes, not_falling, due_of, goes_forward, started_duties, IsOfAPlan, IsIdleAlone, idle_made, idle_after, past_is}
+use Rattle.sd_history.proofs.Devices.{device, made_is, answers_are, Lives, RunGoes, admitted_run_goes, not_falling, due_of, admitted_goes_forward, started_duties, IsOfAPlan, IsIdleAlone, idle_made, idle_after, past_is}
 
 -- the registers of a device, by the words of its past
 abbrev registers_in : List Step → ℕ → Option Registers
@@ -101,14 +101,14 @@ started_by m f n (Some x) up d ok none named =
     subst (λ y. up y ≡ true) same (not-false (up x) fine)
 
 -- an accepted event that calls or asks a device
-is_there : (setting : Setting) (history : List Event) (e : Event) (d : ℕ) → refusal setting (chronicle setting history) e ≡ None
+is_there : (setting : Setting) (history : List Event) (e : Event) (d : ℕ) → Admits setting (chronicle setting history) e
     → (makes_some e || is_some (failure_of e) || is_some (mended e)) ≡ false → device_of e ≡ Some d
     → (past : Past) × (past_in (chronicle setting history) d ≡ Some past)
 is_there setting history e d none calls_ named =
     has_some (past_in (chronicle setting history) d)
     (up_is_made setting history d
     (started_by (makes_some e) (is_some (failure_of e)) (is_some (mended e)) (device_of e) (is_up (seen_of (chronicle setting history))) d
-    (none_holds (causes setting (chronicle setting history) e) _ none (later (later (later (later (later (later (later (later (later first)))))))))) calls_
+    (rule_holds setting (chronicle setting history) e _ none (later (later (later (later (later (later (later (later (later first))))))))) refl) calls_
     named))
 
 -- What the kind allows
@@ -145,7 +145,7 @@ module _ (setting : Setting) (history : List Event) (going : RunGoes (run_of (ch
       subst (λ x. Lives x d (registers_of past)) (steps_are steps)
       (going.live d (registers_of past) (nodes_are steps d ∙ ap (option_map registers_of) is))
 
-  allows_called : (e : Event) (s : Step) (m : ℕ) (call : Call) → s.act ≡ Calls m call → refusal setting steps e ≡ None → Addresses e → makes_some e ≡ false
+  allows_called : (e : Event) (s : Step) (m : ℕ) (call : Call) → s.act ≡ Calls m call → Admits setting steps e → Addresses e → makes_some e ≡ false
       → device_of e ≡ Some m
       → counter_of e ≡ words.counter_of call → GivesSuch IsOfAPlan call
       → IsCalled device (node_in (run_of steps) m) call (told_by steps (Calls m call)) (registers_in (s ∷ steps) m)
@@ -190,14 +190,14 @@ module _ (setting : Setting) (history : List Event) (going : RunGoes (run_of (ch
           due_of (registers_of past).last (words.counter_of call)
           (λ c counts.
           let read : latest_reading (seen_of steps) m ≤ c =
-          not_falling (makes_some e) (device_of e) (counter_of e) (latest_reading (seen_of steps)) (goes_forward setting steps e none) makes_not m c
+          not_falling (makes_some e) (device_of e) (counter_of e) (latest_reading (seen_of steps)) (admitted_goes_forward setting steps e none) makes_not m c
           (ap (λ o. same_number o m) named ∙ eq-eqb m m refl) (same ∙ counts) in
           omega (arith, lives.read, read))
 
       stood : Stood lives.life call (called (registers_of past) call)
       stood = stands_after (registers_of past) lives.life call stands due
 
-  allows_asked : (e : Event) (m counter : ℕ) → refusal setting steps e ≡ None → Addresses e → device_of e ≡ Some m
+  allows_asked : (e : Event) (m counter : ℕ) → Admits setting steps e → Addresses e → device_of e ≡ Some m
       → IsAsked device (node_in (run_of steps) m) counter (told_by steps (Asks m counter)) None
   allows_asked e m counter none addresses named =
       let there : (past : Past) × (past_in steps m ≡ Some past) = is_there setting history e m none addresses named in
@@ -216,18 +216,18 @@ module _ (setting : Setting) (history : List Event) (going : RunGoes (run_of (ch
 
   allows_give : (s : Step) (r d : ℕ) (o : Option Plan)
       → s.act ≡ map_or o Passes (λ plan. Calls d (calls.Give (duty_of setting.net plan (staged_epoch (seen_of steps)) d)))
-      → refusal setting steps (event.Give r d) ≡ None
+      → Admits setting steps (event.Give r d)
       → IsAllowed s (map_or o Passes (λ plan. Calls d (calls.Give (duty_of setting.net plan (staged_epoch (seen_of steps)) d))))
   allows_give s r d None is none = (refl, refl)
   allows_give s r d (Some plan) is none =
       allows_called (event.Give r d) s d (calls.Give (duty_of setting.net plan (staged_epoch (seen_of steps)) d)) is none refl refl refl refl (omega arith)
 
   allows_receipt : (s : Step) (r d c n : ℕ) (o : Option Flight) → s.act ≡ map_or o Passes (λ f. Calls d (calls.Receive f.link f.message c))
-      → refusal setting steps (event.Recv r d c n) ≡ None → IsAllowed s (map_or o Passes (λ f. Calls d (calls.Receive f.link f.message c)))
+      → Admits setting steps (event.Recv r d c n) → IsAllowed s (map_or o Passes (λ f. Calls d (calls.Receive f.link f.message c)))
   allows_receipt s r d c n None is none = (refl, refl)
   allows_receipt s r d c n (Some f) is none = allows_called (event.Recv r d c n) s d (calls.Receive f.link f.message c) is none refl refl refl refl tt
 
-  allows_event : (e : Event) (s : Step) → s.act ≡ act_by setting steps e → refusal setting steps e ≡ None → IsAllowed s (act_by setting steps e)
+  allows_event : (e : Event) (s : Step) → s.act ≡ act_by setting steps e → Admits setting steps e → IsAllowed s (act_by setting steps e)
   allows_event (event.Start r d c clock eps) s is none =
       allows_made steps s d (calls.Started (duty_of setting.net (in_force setting (seen_of steps)) (epoch_in_force (seen_of steps)) d) c clock eps) is
       (started_duties setting steps d c clock eps)
@@ -250,19 +250,27 @@ module _ (setting : Setting) (history : List Event) (going : RunGoes (run_of (ch
 
 -- Whole histories
 
-pub history_runs : (setting : Setting) (history : List Event) → IsHistory setting history → IsRun device setting (run_of (chronicle setting history))
-history_runs setting [] is = tt
-history_runs setting (e ∷ earlier) is =
+pub admitted_history_runs : (setting : Setting) (history : List Event) → IsAdmitted setting history → IsAdmittedRun device setting (run_of (chronicle setting history))
+admitted_history_runs setting [] is = tt
+admitted_history_runs setting (e ∷ earlier) is =
     let steps_ = chronicle setting earlier in
     let s : Step = next_step setting steps_ e in
-    let before : IsRun device setting (run_of steps_) = history_runs setting earlier is.0 in (
+    let before : IsAdmittedRun device setting (run_of steps_) = admitted_history_runs setting earlier is.0 in (
       before,
-      subst (λ x. refusal setting x e ≡ None) (sym (steps_are steps_)) is.1,
+      subst (λ x. Admits setting x e) (sym (steps_are steps_)) is.1,
       record {
         is = ap (λ x. step_of setting x e (told_by steps_ (act_by setting steps_ e))) (sym (steps_are steps_));
-        allowed = allows_event setting earlier (run_goes setting (run_of steps_) before) e s refl is.1;
+        allowed = allows_event setting earlier (admitted_run_goes setting (run_of steps_) before) e s refl is.1;
       },
     )
+
+pub history_runs : (setting : Setting) (history : List Event) → IsHistory setting history → IsRun device setting (run_of (chronicle setting history))
+history_runs setting [] is = tt
+history_runs setting (e ∷ earlier) is = (
+  history_runs setting earlier is.0,
+  subst (λ x. refusal setting x e ≡ None) (sym (steps_are (chronicle setting earlier))) is.1,
+  (admitted_history_runs setting (e ∷ earlier) (history_is_admitted setting (e ∷ earlier) is)).2,
+)
 
 -- a run of devices with this chronicle
 pub record HasRun (setting : Setting) (history : List Event) : Type 0 where

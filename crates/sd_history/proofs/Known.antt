@@ -15,20 +15,25 @@ use Rattle.sd_sched.specs.declared.Event.TheVariants as event
 use Rattle.sd_sched.specs.Events.{device_of}
 use Rattle.sd_history.specs.World.{Setting, makes, fails, is_up, in_force, epoch_in_force}
 use Rattle.sd_history.specs.Steps.{Act, Makes, Calls, Asks, Passes, Step, seen_of, act_by}
-use Rattle.sd_history.specs.Refusals.{causes, refusal}
+use Rattle.sd_history.specs.Refusals.{refusal}
 use Rattle.sd_history.specs.Chronicle.{new_past, past_after, chronicle, IsHistory}
+use Rattle.sd_history.specs.Admitted.{Admits, IsAdmitted}
 use Rattle.sd_history.proofs.Among.{first}
-use Rattle.sd_history.proofs.Contained.{none_holds}
+use Rattle.sd_history.proofs.Admitted.{rule_holds, accepted_is_admitted, history_is_admitted}
 
--- an accepted event names a device of the network
-pub named_is_known : (setting : Setting) (steps : List Step) (e : Event) (d : ℕ) → refusal setting steps e ≡ None → device_of e ≡ Some d
+-- an event that the rules admit names a device of the network
+pub admitted_named_is_known : (setting : Setting) (steps : List Step) (e : Event) (d : ℕ) → Admits setting steps e → device_of e ≡ Some d
     → d < length setting.net.devices
-named_is_known setting steps e d none named = go (device_of e) named (none_holds (causes setting steps e) _ none first)
+admitted_named_is_known setting steps e d admits named = go (device_of e) named (rule_holds setting steps e _ admits first refl)
   where
     go : (o : Option ℕ) → o ≡ Some d → map_or o false (λ x. nat_le (length setting.net.devices) x) ≡ false → d < length setting.net.devices
     go None same h = cc
     go (Some x) same h =
         subst (λ n. n < length setting.net.devices) (ap (λ o. map_or o x (λ z. z)) same) (leb-false (length setting.net.devices) x h)
+
+pub named_is_known : (setting : Setting) (steps : List Step) (e : Event) (d : ℕ) → refusal setting steps e ≡ None → device_of e ≡ Some d
+    → d < length setting.net.devices
+named_is_known setting steps e d none named = admitted_named_is_known setting steps e d (accepted_is_admitted setting steps e none) named
 
 made_named : (e : Event) (d : ℕ) → makes d e ≡ true → device_of e ≡ Some d
 made_named (event.Start r m c clock eps) d made = by (nat_eq m d) refl made
@@ -47,16 +52,20 @@ up_case false true before h = cc
 up_case false false before h = λ e. h
 
 -- a device that is up is one of the network's
-pub up_is_known : (setting : Setting) (history : List Event) → IsHistory setting history → (d : ℕ) → is_up (seen_of (chronicle setting history)) d ≡ true
+pub admitted_up_is_known : (setting : Setting) (history : List Event) → IsAdmitted setting history → (d : ℕ) → is_up (seen_of (chronicle setting history)) d ≡ true
     → d < length setting.net.devices
-up_is_known setting [] is d up = cc
-up_is_known setting (e ∷ earlier) is d up =
-    go (makes d e) refl (up_case (makes d e) (fails (thing.Device d) e) (is_up (seen_of (chronicle setting earlier)) d) up) (up_is_known setting earlier is.0 d)
+admitted_up_is_known setting [] is d up = cc
+admitted_up_is_known setting (e ∷ earlier) is d up =
+    go (makes d e) refl (up_case (makes d e) (fails (thing.Device d) e) (is_up (seen_of (chronicle setting earlier)) d) up) (admitted_up_is_known setting earlier is.0 d)
   where
     go : (m : Bool) → makes d e ≡ m → (makes d e ≡ false → is_up (seen_of (chronicle setting earlier)) d ≡ true)
         → (is_up (seen_of (chronicle setting earlier)) d ≡ true → d < length setting.net.devices) → d < length setting.net.devices
-    go true made before rest = named_is_known setting (chronicle setting earlier) e d is.1 (made_named e d made)
+    go true made before rest = admitted_named_is_known setting (chronicle setting earlier) e d is.1 (made_named e d made)
     go false made before rest = rest (before made)
+
+pub up_is_known : (setting : Setting) (history : List Event) → IsHistory setting history → (d : ℕ) → is_up (seen_of (chronicle setting history)) d ≡ true
+    → d < length setting.net.devices
+up_is_known setting history is d up = admitted_up_is_known setting history (history_is_admitted setting history is) d up
 
 -- A device that is up was made, and has a past.
 

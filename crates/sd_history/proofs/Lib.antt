@@ -10,10 +10,12 @@ pub mod Bridges
 pub mod Tellings
 pub mod Accepting
 pub mod Among
+pub mod Admitted
 pub mod Filters
 pub mod Given
 pub mod Owned
 pub mod Contained
+pub mod Owning
 pub mod Known
 pub mod Parts
 pub mod Devices

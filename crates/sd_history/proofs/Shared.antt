@@ -1,14 +1,19 @@
 -- Lemmas that several crates above share.
 use Rattle.sd_sched.specs.declared.Event.TheVariants as event
-use Rattle.std.specs.Prelude.{◌≡◌, ℕ, Some, Bool, true, false, ◌&&◌, ◌||◌, not, List, [], ◌∷◌, nat_lt, refl, if◌then◌else◌, zero, suc, slice_get, ◌<◌, ◌≤◌, ◌++◌, ◌⊎◌, find, None}
-use Rattle.std.proofs.lemmas.Bool.{or_left, or_right, cases_lt}
-use Rattle.std.proofs.Common.{subst, arith, sym, inl, inr}
+use Rattle.std.specs.Prelude.{◌≡◌, ℕ, ◌+◌, count_by, Some, Bool, true, false, ◌&&◌, ◌||◌, not, List, [], ◌∷◌, nat_lt, refl, if◌then◌else◌, zero, suc, slice_get, ◌<◌, ◌≤◌, ◌++◌, ◌⊎◌, find, None}
+use Rattle.std.proofs.lemmas.Bool.{or_left, or_right, cases_lt, or_parts, not-true, ltb-false}
+use Rattle.std.proofs.Common.{subst, arith, sym, inl, inr, ap, ◌∙◌, cond}
+use Rattle.std.proofs.lemmas.List.Sums.{sum_by-cons}
 use Rattle.sd_sched.specs.declared.Event.{Event}
 use Rattle.sd_sched.specs.Events.{message_of, received, reference_of}
-use Rattle.sd_sched.specs.Num.Lists.{below}
+use Rattle.sd_sched.specs.Num.Lists.{below, map_or}
 use Rattle.sd_core.specs.Msg.declared.Flight.{Flight}
 use Rattle.sd_core.specs.Topo.Network.{Each}
-use Rattle.sd_history.specs.World.{Seen}
+use Rattle.sd_core.specs.Topo.declared.Thing.TheVariants as thing
+use Rattle.sd_sched.proofs.Num.Shared.{or_first}
+use Rattle.sd_history.specs.World.{Setting, Seen, makes, fails, is_up, was_made, epoch_in_force, latest_reference}
+use Rattle.sd_history.specs.Refusals.{unknown_device, unknown_link, time_falls}
+use Rattle.sd_history.specs.Open.{may_be_seen}
 use Rattle.sd_history.specs.Premises.{was_received, is_overdue, was_interrupted, spoils}
 use Rattle.sd_history.proofs.Among.{Among, first, later}
 use Rattle.sd_history.proofs.Given.{some_is}
@@ -74,3 +79,43 @@ pub none_passes : {A : Type 0} (p : A → Bool) (xs : List A) (x : A) → find p
 none_passes p [] x none a = elim a [ ]
 none_passes p (y ∷ xs) x none first = (passed_by p x xs (p x) refl none).0
 none_passes p (y ∷ xs) x none (later a) = none_passes p xs x (passed_by p y xs (p y) refl none).1 a
+
+-- what is up was made
+pub up_made : (seen : List Seen) (d : ℕ) → is_up seen d ≡ true → was_made seen d ≡ true
+up_made [] d up = cc
+up_made (s ∷ seen) d up = go (makes d s.event) (fails (thing.Device d) s.event) up (up_made seen d)
+  where
+    go : (m f : Bool) → map_or (if m then Some true else if f then Some false else None) (is_up seen d) (λ told. told) ≡ true
+        → (is_up seen d ≡ true → was_made seen d ≡ true) → (m || was_made seen d) ≡ true
+    go true f up' rest = refl
+    go false true up' rest = cc
+    go false false up' rest = rest up'
+
+-- an event that closes no window keeps the epoch in force
+pub epoch_kept : (s : Seen) (seen : List Seen) → s.closed ≡ false → epoch_in_force (s ∷ seen) ≡ epoch_in_force seen
+epoch_kept s seen open_ =
+    ap (λ n. n + 1)
+    (sum_by-cons (λ (x : Seen). cond x.closed 1 0) s seen ∙ ap (λ b. cond b 1 0 + count_by (λ (x : Seen). x.closed) seen) open_
+    ∙ nothing (count_by (λ (x : Seen). x.closed) seen))
+  where
+    nothing : (n : ℕ) → 0 + n ≡ n
+    nothing n = omega arith
+
+-- An event that may be seen
+
+parts : (a b c d e f g h i j k l m n : Bool) → not (a || b || c || d || e || f || g || h || i || j || k || l || m || n) ≡ true
+    → (a ≡ false) × (b ≡ false) × (e ≡ false)
+parts a b c d e f g h i j k l m n all =
+    let five : (a || b || c || d || e) ≡ false =
+    or_first _ f (or_first _ g (or_first _ h (or_first _ i (or_first _ j (or_first _ k (or_first _ l (or_first _ m (or_first _ n (not-true _ all))))))))) in
+    let two : (a || b) ≡ false = or_first _ c (or_first _ d (or_first _ e five)) in
+    ((or_parts a b two).0, (or_parts a b two).1, (or_parts (a || b || c || d) e five).1)
+
+-- it names what is known, and time does not fall
+pub seen_parts : (setting : Setting) (earlier : List Seen) (e : Event) → may_be_seen setting earlier e ≡ true
+    → (unknown_device setting e ≡ false) × (unknown_link setting e ≡ false) × (time_falls earlier e ≡ false)
+seen_parts setting earlier e allowed = parts _ _ _ _ _ _ _ _ _ _ _ _ _ _ allowed
+
+-- the reference does not fall
+pub time_rises : (setting : Setting) (earlier : List Seen) (e : Event) → may_be_seen setting earlier e ≡ true → latest_reference earlier ≤ reference_of e
+time_rises setting earlier e allowed = ltb-false (reference_of e) (latest_reference earlier) (seen_parts setting earlier e allowed).2

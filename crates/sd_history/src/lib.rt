@@ -4,7 +4,7 @@
 //!
 //! # Reading order
 //!
-//! `Things`, `World`, `Steps`, `Refusals`, `Chronicle`, `Nodes`, `Premises`, `Lines`, `Text`.
+//! `Things`, `World`, `Steps`, `Refusals`, `Chronicle`, `Nodes`, `Admitted`, `Premises`, `Lines`, `Text`.
 //!
 //! # Three levels
 //!
@@ -26,10 +26,15 @@
 //!
 //! Where each node tells what the words say (`TellsByWords`) the two are the same.
 //!
+//! A history has at most 2^26 events. `Admitted` has histories and runs of any length: of the causes
+//! of a refusal it leaves out `TooManyEvents`. Lemmas named `admitted_..` speak of these, and the
+//! lemmas of the same name without it follow.
+//!
 //! # Laws, for every topology, list of plans and history
 //!
 //! - While clocks, oscillators and links are honest each report contains its reference
 //!   (`Contained`, from `Owned`, `Given` and `Among`).
+//! - What a device has is its own, whatever its clock does (`Owning`).
 //! - The past of a device in a list of steps is that of its calls there, and in a chronicle each
 //!   device answers what the words say of it (`Bridges`).
 //! - A run whose steps tell by the words is the chronicle of its events, which are a history

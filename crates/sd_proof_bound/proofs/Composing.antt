@@ -1,7 +1,7 @@
 -- The bound of a report from the uncertainty with which its estimate was set and the age of that estimate: a report is the one aged by the other.
-use Rattle.std.specs.Prelude.{◌≡◌, ℕ, ◌+◌, ◌-◌, ◌*◌, ◌/◌, ◌≤◌, Bool, true, false, ◌&&◌, ◌||◌, not, List, [], ◌∷◌, ◌++◌, nat_le, Option, Some, None, option_map, IsTrue, refl}
+use Rattle.std.specs.Prelude.{◌≡◌, ℕ, ◌+◌, ◌-◌, ◌≤◌, Bool, true, false, ◌||◌, not, List, [], ◌∷◌, ◌++◌, nat_le, Option, Some, None, option_map, IsTrue, refl}
 use Rattle.std.proofs.Common.{arith, sym, ◌∙◌, ap, subst}
-use Rattle.std.proofs.lemmas.Bool.{and_parts, and_from, leb-true}
+use Rattle.std.proofs.lemmas.Bool.{and_parts, leb-true}
 use Rattle.sd_drill.specs.Num.Numbers.{grow}
 use Rattle.sd_drill.specs.Num.Lists.{map_or}
 use Rattle.sd_drill.specs.Num.declared.Rates.{Rates}
@@ -13,26 +13,24 @@ use Rattle.sd_proof_safety.specs.Core.Calls.{Past}
 use Rattle.sd_proof_safety.specs.Core.Words.{estimate_now, rates_now, report_at}
 use Rattle.sd_proof_safety.specs.Sched.declared.Event.{Event}
 use Rattle.sd_proof_safety.specs.Sched.declared.Event.TheVariants as event
-use Rattle.sd_proof_safety.specs.History.World.{Setting, is_counted}
+use Rattle.sd_proof_safety.specs.History.World.{Setting, is_counted, alone}
 use Rattle.sd_proof_safety.specs.History.Steps.{Step, seen_of, acts_in}
-use Rattle.sd_proof_safety.specs.History.Chronicle.{past_in, next_step, chronicle, IsHistory}
-use Rattle.sd_proof_safety.specs.History.Premises.{start_holds, drift_holds, delay_holds, all_hold, is_honest}
+use Rattle.sd_proof_safety.specs.History.Chronicle.{past_in, next_step, chronicle}
+use Rattle.sd_proof_safety.specs.History.Admitted.{IsAdmitted}
 use Rattle.sd_proof_safety.specs.History.Lines.{asked_report}
-use Rattle.sd_proof_safety.proofs.History.Parts.{premises_of}
 use Rattle.sd_proof_safety.proofs.History.Given.{some_is}
 use Rattle.sd_proof_safety.proofs.History.Owned.{rates_are_own}
-use Rattle.sd_proof_safety.proofs.History.Contained.{always_containing}
+use Rattle.sd_proof_safety.proofs.History.Owning.{own_pasts}
 use Rattle.sd_drill.specs.ages.Ages.{ageing}
 use Rattle.sd_drill.specs.declared.Budget.{Budget}
-use Rattle.sd_drill.specs.Drill.{IsWorst}
+use Rattle.sd_drill.specs.Drill.{source}
 use Rattle.sd_proof_safety.specs.messages.Moments.{Tail, whole, behind}
 use Rattle.sd_proof_safety.proofs.messages.Tails.{rest_of}
-use Rattle.sd_proof_safety.proofs.messages.Prefixes.{all_hold_before}
 use Rattle.sd_proof_safety.proofs.timers.Spans.{grow_rises}
-use Rattle.sd_proof_bound.specs.Bound.{alone, no_stage, within_base, within_hold, held_briefly, FailsSo}
-use Rattle.sd_proof_bound.specs.Holding.{BoundHolds}
-use Rattle.sd_proof_bound.specs.Recovering.{steps_under, Recovers}
-use Rattle.sd_proof_bound.specs.Halves.{IsBased, BasesHold, AgesHold}
+use Rattle.sd_proof_bound.specs.Bound.{within_hold, held_briefly}
+use Rattle.sd_proof_bound.specs.Recovering.{steps_under}
+use Rattle.sd_proof_bound.specs.Steady.{RecoversSteadily, AlwaysBelow}
+use Rattle.sd_proof_bound.specs.Halves.{IsBased, BasesHold, IsCovered, AgesHold}
 
 -- Histories and their steps
 
@@ -41,7 +39,7 @@ pub tail_steps : (setting : Setting) {history whole_ : List Event} → Tail hist
 tail_steps setting whole = whole
 tail_steps setting (behind t) = behind (tail_steps setting t)
 
-pub tail_history : (setting : Setting) {history whole_ : List Event} → Tail history whole_ → IsHistory setting whole_ → IsHistory setting history
+pub tail_history : (setting : Setting) {history whole_ : List Event} → Tail history whole_ → IsAdmitted setting whole_ → IsAdmitted setting history
 tail_history setting whole is = is
 tail_history setting (behind t) is = tail_history setting t is.0
 
@@ -129,25 +127,17 @@ aged past rates counter age same le =
 -- The bound
 
 module _ (net : Network) (plan : Plan) (budget : Budget) (f : DomainId) (bases : BasesHold net plan) (ages : AgesHold net plan) where
-  rates_own : (history before : List Event) → Recovers net plan budget f history → Tail before history → (d : ℕ) (past : Past)
+  rates_own : (history before : List Event) → RecoversSteadily net plan budget f history → Tail before history → (d : ℕ) (past : Past)
       → past_in (steps_under net plan before) d ≡ Some past → rates_now past ≡ rates_of net d
   rates_own history before run t d past there =
-      let premises =
-      premises_of (alone net plan) (seen_of (steps_under net plan before))
-      (all_hold_before (alone net plan) (steps_under net plan before) (steps_under net plan history) (tail_steps (alone net plan) t) run.premises) in
-      let honest : is_honest (alone net plan) (seen_of (steps_under net plan before)) ≡ true =
-      and_from (start_holds (seen_of (steps_under net plan before)) && drift_holds (alone net plan) (seen_of (steps_under net plan before)))
-      (delay_holds (alone net plan) (seen_of (steps_under net plan before)))
-      (and_from (start_holds (seen_of (steps_under net plan before)))
-      (drift_holds (alone net plan) (seen_of (steps_under net plan before))) premises.start premises.drift) premises.delay in
-      let inv = always_containing (alone net plan) before (tail_history (alone net plan) t run.is) honest in
-      rates_are_own net d past (inv.own d past there)
+      rates_are_own net d past (own_pasts (alone net plan) before d past there)
 
   -- at an ask
-  bounded : (history before : List Event) (r d c : ℕ) (past : Past) → Recovers net plan budget f history → Tail (event.Ask r d c ∷ before) history
+  bounded : (history before : List Event) (r d c : ℕ) (past : Past) → RecoversSteadily net plan budget f history → Tail (event.Ask r d c ∷ before) history
       → past_in (steps_under net plan before) d ≡ Some past
-      → IsTrue (is_counted (alone net plan) (seen_of (steps_under net plan before)) d) → (w : ℕ) → IsWorst net plan budget f d w → (report_at past c).eps ≤ w
-  bounded history before r d c past run t there counted w worst = by_role (acts_in (steps_under net plan before) d) refl
+      → IsTrue (is_counted (alone net plan) (seen_of (steps_under net plan before)) d) → (far oldest : ℕ) → IsCovered net plan f d far oldest
+      → (report_at past c).eps ≤ source net plan budget + far + ageing (rates_of net d) oldest
+  bounded history before r d c past run t there counted far oldest covered = by_role (acts_in (steps_under net plan before) d) refl
     where
       based : IsBased net plan budget f (steps_under net plan before) d (estimate_now past).base
       based = bases budget f history before run (rest_of t) d past counted there
@@ -161,34 +151,22 @@ module _ (net : Network) (plan : Plan) (budget : Budget) (f : DomainId) (bases :
           (held_at budget (steps_under net plan before) (steps_under net plan history)
           (next_step (alone net plan) (steps_under net plan before) (event.Ask r d c)) (tail_steps (alone net plan) t) run.held)
 
-      by_role : (b : Bool) → acts_in (steps_under net plan before) d ≡ b → (report_at past c).eps ≤ w
+      by_role : (b : Bool) → acts_in (steps_under net plan before) d ≡ b
+          → (report_at past c).eps ≤ source net plan budget + far + ageing (rates_of net d) oldest
       by_role true acts =
           let age = aged past (rates_of net d) c budget.hold rates (held acts) in
           let most = based.acting acts in
-          let sum = worst.sum in
-          omega (arith, age, most, sum)
+          omega (arith, age, most)
       by_role false idle =
-          let age = aged past (rates_of net d) c worst.oldest rates (ages budget f history before r d c run t past counted there idle w worst) in
-          let most = based.walked worst.far worst.is_far in
-          let sum = worst.sum in
-          omega (arith, age, most, sum)
+          let age = aged past (rates_of net d) c oldest rates (ages budget f history before r d c run t past counted there idle far oldest covered) in
+          let most = based.walked far covered.is_far in
+          omega (arith, age, most)
 
-  pub bound_holds : BoundHolds net plan budget f
-  bound_holds network fits accepted d w worst history later s earlier report is same premises unstaged based held failed told counted =
-      let run : Recovers net plan budget f history =
-      record {
-        network = network;
-        fits = fits;
-        accepted = accepted;
-        is = is;
-        premises = subst (λ steps. IsTrue (all_hold (alone net plan) (seen_of steps))) (sym same) premises;
-        unstaged = subst (λ steps. IsTrue (no_stage (seen_of steps))) (sym same) unstaged;
-        based = subst (λ steps. IsTrue (within_base budget (seen_of steps))) (sym same) based;
-        held = subst (λ steps. IsTrue (within_hold budget steps)) (sym same) held;
-        failed = subst (λ steps. FailsSo net f (seen_of steps)) (sym same) failed;
-      } in
+  pub stays_below : (d far oldest : ℕ) → IsCovered net plan f d far oldest
+      → AlwaysBelow net plan budget f d (source net plan budget + far + ageing (rates_of net d) oldest)
+  stays_below d far oldest covered history later s earlier report run same told counted =
       let ends = ends_in (alone net plan) history later s earlier same in
       let by = asked (alone net plan) (steps_under net plan ends.before) ends.e d report (ap asked_report ends.step_is ∙ told) in
-      subst (λ (x : Report). x.eps ≤ w) by.report_is
+      subst (λ (x : Report). x.eps ≤ source net plan budget + far + ageing (rates_of net d) oldest) by.report_is
       (bounded history ends.before by.reference d by.counter by.past run (subst (λ e. Tail (e ∷ ends.before) history) by.is ends.tail) by.there
-      (subst (λ steps. IsTrue (is_counted (alone net plan) (seen_of steps) d)) (sym ends.earlier_is) counted) w worst)
+      (subst (λ steps. IsTrue (is_counted (alone net plan) (seen_of steps) d)) (sym ends.earlier_is) counted) far oldest covered)

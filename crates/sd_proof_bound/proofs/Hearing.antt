@@ -25,11 +25,12 @@ use Rattle.sd_proof_safety.specs.Msg.declared.Message.{Message}
 use Rattle.sd_proof_safety.specs.Sched.declared.Event.{Event}
 use Rattle.sd_proof_safety.specs.Sched.Events.{reference_of, is_stage}
 use Rattle.sd_proof_safety.specs.History.Things.{failure_of}
-use Rattle.sd_proof_safety.specs.History.World.{Setting, Seen, makes, is_up, joined_in_window, is_counted, plan_numbered}
+use Rattle.sd_proof_safety.specs.History.World.{Setting, Seen, makes, is_up, joined_in_window, is_counted, plan_numbered, alone}
 use Rattle.sd_proof_safety.specs.History.Steps.{Step, seen_of, acts_in}
 use Rattle.sd_proof_safety.specs.History.Chronicle.{chronicle, next_step}
-use Rattle.sd_proof_safety.proofs.History.Known.{up_is_known}
-use Rattle.sd_proof_safety.proofs.History.Parts.{premises_of}
+use Rattle.sd_proof_safety.proofs.History.Known.{admitted_up_is_known}
+use Rattle.sd_proof_safety.proofs.invariant.Parts.{premises_of, accepted_is_guarded, all_are_more}
+use Rattle.sd_proof_safety.proofs.History.Admitted.{history_is_admitted}
 use Rattle.sd_drill.specs.declared.Budget.{Budget}
 use Rattle.sd_drill.specs.Drill.{IsWorst, quiet, source, root_halves}
 use Rattle.sd_proof_safety.specs.invariant.Bounds.{depth, delay, losses, rounds_gap, tick_gap, first_up, second_up, wait_up, first_low, second_low, wait_low}
@@ -72,8 +73,8 @@ use Rattle.sd_proof_bound.proofs.chains.Hearing.{HeardAt, heard_moment, HeardBy,
 use Rattle.sd_proof_bound.proofs.ages.Takeovers.{takes_over_by}
 use Rattle.sd_proof_bound.proofs.ages.Silences.{turned_by}
 use Rattle.sd_proof_bound.proofs.ages.Ages.{counted_member}
-use Rattle.sd_proof_bound.specs.Bound.{alone}
-use Rattle.sd_proof_bound.specs.Hearing.{IsServed, IsUndisturbedSince, recovery, HearsAgain, HearsByAge, HearsByBound}
+use Rattle.sd_proof_bound.specs.Hearing.{IsServed, recovery, IsUndisturbedSince, HearsAgain, HearsByAge, HearsByBound}
+use Rattle.sd_proof_bound.specs.Steady.{IsSteadySince, AlwaysHearsAgain, AlwaysHearsByAge, AlwaysHearsByBound}
 
 -- Sums
 
@@ -349,15 +350,15 @@ since_before steps d since calm lately le (inr heard) =
       acts = heard.acts;
     })
 
-module _ (net : Network) (plan : Plan) (f : DomainId) (network : IsNetwork net) (fits : Fits net plan) (accepted : IsAccepted net plan) (since : ℕ)
-    (e x : Event) (h : List Event) (calm : IsUndisturbedSince net plan f since (e ∷ x ∷ h)) (late : since + recovery net plan < reference_of e) where
+module _ (net : Network) (plan : Plan) (f : DomainId) (since : ℕ) (e x : Event) (h : List Event)
+    (calm : IsSteadySince net plan f since (e ∷ x ∷ h)) (late : since + recovery net plan < reference_of e) where
   abbrev setting : Setting
   setting = alone net plan
 
   comes_ : IsNextEvent (alone net plan) (x ∷ h) e
   comes_ =
       comes (alone net plan) (x ∷ h) e
-      (record { network = network; some_plan = omega arith; fit = each_one _ plan fits; accepted = each_one _ plan accepted })
+      (record { network = calm.network; some_plan = omega arith; fit = each_one _ plan calm.fits; guarded = each_one _ plan calm.guarded })
       (record { is = calm.is; premises = calm.premises })
 
   unstaged : IsUnstaged (seen_of (chronicle (alone net plan) (e ∷ x ∷ h)))
@@ -441,7 +442,7 @@ module _ (net : Network) (plan : Plan) (f : DomainId) (network : IsNetwork net) 
         let member : is_member (the_plan (alone net plan)) d ≡ true =
         subst (λ n. is_member (plan_numbered (alone net plan) n) d ≡ true) (first_era (alone net plan) (x ∷ h) unstaged_then) live.1 in
         record {
-          known = up_is_known setting (x ∷ h) comes_.clean.is.0 d live.0;
+          known = admitted_up_is_known setting (x ∷ h) comes_.clean.is.0 d live.0;
           member = member;
           self = (scene setting x h e settled_at way later_at).well d live.0 member;
         }
@@ -454,10 +455,10 @@ module _ (net : Network) (plan : Plan) (f : DomainId) (network : IsNetwork net) 
 
 -- The theorems
 
-pub hears_again : (net : Network) (plan : Plan) (f : DomainId) → HearsAgain net plan f
-hears_again net plan f network fits accepted budget d w worst since e [] calm counted late = cc
-hears_again net plan f network fits accepted budget d w worst since e (x ∷ h) calm counted late =
-    hears_then net plan f network fits accepted since e x h calm late d counted worst.fed worst.long (λ hops walked. worst.is_long.greatest hops walked)
+pub always_hears_again : (net : Network) (plan : Plan) (f : DomainId) → AlwaysHearsAgain net plan f
+always_hears_again net plan f budget d w worst since e [] calm counted late = cc
+always_hears_again net plan f budget d w worst since e (x ∷ h) calm counted late =
+    hears_then net plan f since e x h calm late d counted worst.fed worst.long (λ hops walked. worst.is_long.greatest hops walked)
     worst.short_enough
 
 -- the recovery takes no longer than an estimate may age
@@ -498,9 +499,9 @@ within_age net plan budget f d w worst =
 later_than : (s a b r : ℕ) → a ≤ b → s + b < r → s + a < r
 later_than s a b r le less = omega (arith, le, less)
 
-pub hears_by_age : (net : Network) (plan : Plan) (f : DomainId) → HearsByAge net plan f
-hears_by_age net plan f network fits accepted budget d w worst since e history calm counted late =
-    hears_again net plan f network fits accepted budget d w worst since e history calm counted
+pub always_hears_by_age : (net : Network) (plan : Plan) (f : DomainId) → AlwaysHearsByAge net plan f
+always_hears_by_age net plan f budget d w worst since e history calm counted late =
+    always_hears_again net plan f budget d w worst since e history calm counted
     (later_than since (recovery net plan) worst.oldest (reference_of e) (within_age net plan budget f d w worst) late)
 
 -- what the oscillator adds over the age is part of the bound
@@ -512,9 +513,9 @@ drift_in_bound net plan budget f d w worst =
     by : (drift a b c grain : ℕ) → w ≡ a + b + c + (grain + (drift + 999999) / 1000000) → drift ≤ 1000000 * w
     by drift a b c grain is = omega (arith, is)
 
-pub hears_by_bound : (net : Network) (plan : Plan) (f : DomainId) → HearsByBound net plan f
-hears_by_bound net plan f network fits accepted budget d w worst time more since e history calm counted late =
-    hears_by_age net plan f network fits accepted budget d w worst since e history calm counted
+pub always_hears_by_bound : (net : Network) (plan : Plan) (f : DomainId) → AlwaysHearsByBound net plan f
+always_hears_by_bound net plan f budget d w worst time more since e history calm counted late =
+    always_hears_by_age net plan f budget d w worst since e history calm counted
     (later_than since worst.oldest time (reference_of e) (go (cases_lt worst.oldest time)) late)
   where
     go : (worst.oldest < time) ⊎ (time ≤ worst.oldest) → worst.oldest ≤ time
@@ -528,3 +529,33 @@ hears_by_bound net plan f network fits accepted budget d w worst time more since
 
         never : (a b c : ℕ) → a < b → b ≤ c → c ≤ a → ⊥
         never a b c one two three = omega (arith, one, two, three)
+
+-- The same under accepted plans, on histories in which no premise is broken.
+
+undisturbed_is_steady : (net : Network) (plan : Plan) (f : DomainId) (since : ℕ) (history : List Event) → IsNetwork net → Fits net plan
+    → IsAccepted net plan → IsUndisturbedSince net plan f since history → IsSteadySince net plan f since history
+undisturbed_is_steady net plan f since history network fits accepted calm =
+    record {
+      network = network;
+      fits = fits;
+      guarded = accepted_is_guarded net plan accepted;
+      is = history_is_admitted (alone net plan) history calm.is;
+      premises = all_are_more (alone net plan) (seen_of (chronicle (alone net plan) history)) calm.premises;
+      inside = calm.inside;
+      unstaged = calm.unstaged;
+      unfailed = calm.unfailed;
+      begun = calm.begun;
+    }
+
+pub hears_again : (net : Network) (plan : Plan) (f : DomainId) → HearsAgain net plan f
+hears_again net plan f network fits accepted budget d w worst since e history calm =
+    always_hears_again net plan f budget d w worst since e history (undisturbed_is_steady net plan f since (e ∷ history) network fits accepted calm)
+
+pub hears_by_age : (net : Network) (plan : Plan) (f : DomainId) → HearsByAge net plan f
+hears_by_age net plan f network fits accepted budget d w worst since e history calm =
+    always_hears_by_age net plan f budget d w worst since e history (undisturbed_is_steady net plan f since (e ∷ history) network fits accepted calm)
+
+pub hears_by_bound : (net : Network) (plan : Plan) (f : DomainId) → HearsByBound net plan f
+hears_by_bound net plan f network fits accepted budget d w worst time more since e history calm =
+    always_hears_by_bound net plan f budget d w worst time more since e history
+    (undisturbed_is_steady net plan f since (e ∷ history) network fits accepted calm)

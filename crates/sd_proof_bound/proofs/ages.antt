@@ -10,7 +10,7 @@
 --
 -- # What it takes as given
 --
--- That the invariant stays (`StaysInvariant`), and the silences of clean histories (`AreSilent`), of which it uses 13 and
+-- That the invariant stays (`StaysInvariant`), and the silences of steady histories (`AreSilent`), of which it uses 13 and
 -- 16: so only what puts these in stands on their proofs.
 -- How long devices are silent at most, and how old their estimates are.
 pub mod Beginnings

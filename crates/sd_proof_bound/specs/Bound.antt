@@ -13,7 +13,7 @@ use Rattle.sd_proof_safety.specs.Core.Words.{estimate_now}
 use Rattle.sd_proof_safety.specs.Sched.declared.Event.{Event}
 use Rattle.sd_proof_safety.specs.Sched.Events.{reference_of, device_of, counter_of, is_stage}
 use Rattle.sd_proof_safety.specs.History.Things.{failure_of}
-use Rattle.sd_proof_safety.specs.History.World.{Setting, Seen, is_counted}
+use Rattle.sd_proof_safety.specs.History.World.{Setting, Seen, is_counted, alone}
 use Rattle.sd_proof_safety.specs.History.Steps.{Step, seen_of, acts_in}
 use Rattle.sd_proof_safety.specs.History.Chronicle.{chronicle, past_in, IsHistory}
 use Rattle.sd_proof_safety.specs.Sched.Honesty.{clock_set}
@@ -53,10 +53,6 @@ pub record FailsAtOnce (net : Network) (f : DomainId) (seen : List Seen) (refere
 -- nothing fails, or the domain does so
 abbrev pub FailsSo : Network → DomainId → List Seen → Type 0
 FailsSo net f seen = (failures seen ≡ []) ⊎ ((reference : ℕ) × FailsAtOnce net f seen reference)
-
--- one plan, which is never renewed
-abbrev pub alone : Network → Plan → Setting
-alone net plan = record { net = net; plans = plan ∷ [] }
 
 -- No report of the device while it is live is above w: on every history under this plan alone, without a stage, in which nothing fails or the
 -- domain fails at once, while no premise is broken, clocks are set within the base, and acting roots hold their estimates no longer than the

@@ -17,7 +17,7 @@ use Rattle.sd_proof_safety.specs.Msg.declared.Message.{Message}
 use Rattle.sd_proof_safety.specs.Sched.declared.Event.{Event}
 use Rattle.sd_proof_safety.specs.Sched.Events.{reference_of, is_stage}
 use Rattle.sd_proof_safety.specs.History.Things.{failure_of}
-use Rattle.sd_proof_safety.specs.History.World.{is_counted}
+use Rattle.sd_proof_safety.specs.History.World.{is_counted, alone}
 use Rattle.sd_proof_safety.specs.History.Steps.{Step, seen_of, acts_in}
 use Rattle.sd_proof_safety.specs.History.Chronicle.{IsHistory}
 use Rattle.sd_proof_safety.specs.History.Premises.{all_hold}
@@ -27,7 +27,6 @@ use Rattle.sd_proof_safety.specs.invariant.Bounds.{depth, delay, tick_gap, round
 use Rattle.sd_proof_safety.specs.messages.Moments.{Moment, upto, when, IsIn, IsBefore, Emits, Receipt}
 use Rattle.sd_proof_bound.specs.Recovering.{steps_under}
 use Rattle.sd_proof_bound.specs.chains.Chains.{turning}
-use Rattle.sd_proof_bound.specs.Bound.{alone}
 
 -- The device accepted a message of a round that a root sent later than one reference, and no earlier than another. A root is a device that acted as root then,
 -- and acts still.

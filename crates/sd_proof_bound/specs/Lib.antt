@@ -7,6 +7,8 @@ pub mod chains
 pub mod timeouts
 pub mod traces
 pub mod Hearing
+pub mod Steady
+pub mod Tight
 -- Handed on: what crates above name of those below.
 pub use Rattle.sd_drill.specs as Drill
 pub use Rattle.sd_proof_safety.specs.History as History

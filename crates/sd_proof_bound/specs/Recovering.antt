@@ -10,8 +10,9 @@ use Rattle.sd_proof_safety.specs.Sched.declared.Event.{Event}
 use Rattle.sd_proof_safety.specs.History.Steps.{Step, seen_of}
 use Rattle.sd_proof_safety.specs.History.Chronicle.{chronicle, IsHistory}
 use Rattle.sd_proof_safety.specs.History.Premises.{all_hold}
+use Rattle.sd_proof_safety.specs.History.World.{alone}
 use Rattle.sd_drill.specs.declared.Budget.{Budget}
-use Rattle.sd_proof_bound.specs.Bound.{alone, no_stage, within_base, within_hold, FailsSo}
+use Rattle.sd_proof_bound.specs.Bound.{no_stage, within_base, within_hold, FailsSo}
 
 -- the steps of a history under one plan
 abbrev pub steps_under : Network → Plan → List Event → List Step

@@ -12,12 +12,16 @@
 //! domains (`recovery`). `hears_by_age` and `hears_by_bound` say it by the age of the drill, and by
 //! its number. Their statements stand in specs/Hearing. Nothing else rests on them.
 //!
+//! These four are cases of `always_bounded`, `always_hears_again`, `always_hears_by_age` and
+//! `always_hears_by_bound` (specs/Steady), which ask for five conditions and all premises but start,
+//! and speak of histories of any length. The proofs are of those.
+//!
 //! # The route
 //!
 //! A report's eps is the uncertainty with which the estimate was set, and what the device's oscillator
 //! may have added since. An acting root is bounded by the budget's hold alone.
 //!
-//! 1. `Composing` composes the two: `BasesHold net plan → AgesHold net plan → BoundHolds net plan budget f`.
+//! 1. `Composing` composes the two: `BasesHold net plan → AgesHold net plan → AlwaysBounded net plan budget f`.
 //! 2. `histories` says what such a history is like, and `bases` with which uncertainty an estimate is
 //!    set (`BasesHold`): the invariant of `sd_proof_safety` says where devices are.
 //! 3. `timeouts`, `traces` and `chains` say when devices hear, and `ages` how old their estimates are

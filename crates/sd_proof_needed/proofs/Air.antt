@@ -17,7 +17,7 @@ use Rattle.sd_history.specs.Core.declared.Effect.TheVariants.{Send}
 use Rattle.sd_history.specs.Sched.declared.Event.{Event}
 use Rattle.sd_history.specs.Sched.declared.Event.TheVariants as event
 use Rattle.sd_history.specs.Sched.Events.{reference_of, device_of, message_of}
-use Rattle.sd_history.specs.World.{Setting, Seen, window, fails, is_up, link_has_failed, plan_numbered, staged, in_force, epoch_in_force, staged_epoch}
+use Rattle.sd_history.specs.World.{Setting, Seen, window, fails, is_up, link_has_failed, plan_numbered, staged, in_force, epoch_in_force, staged_epoch, alone}
 use Rattle.sd_history.specs.Steps.{Step, seen_of, flights, flight_numbered, ends_at}
 use Rattle.sd_history.specs.Chronicle.{next_step}
 use Rattle.sd_history.specs.Accepted.{AreSteps}
@@ -29,7 +29,6 @@ use Rattle.sd_history.proofs.Given.{some_is}
 use Rattle.sd_history.proofs.Filters.{kept_among}
 use Rattle.sd_history.proofs.flights.Sending.{WasSent, was_sent}
 use Rattle.sd_history.proofs.flights.Places.{IsBelow, ends_below, changed_named}
-use Rattle.sd_proof_needed.specs.Alone.{alone}
 use Rattle.sd_proof_needed.proofs.Elements.{on_left, passes_kept, any_of}
 use Rattle.sd_proof_needed.proofs.Worlds.{IsCalm, ticks, receives, is_live, World}
 

@@ -9,12 +9,11 @@ use Rattle.sd_checker.specs.Topo.Network.{Network, device_numbers}
 use Rattle.sd_checker.specs.Plan.declared.Plan.{Plan}
 use Rattle.sd_history.specs.Sched.declared.Event.{Event}
 use Rattle.sd_history.specs.Sched.Events.{reference_of}
-use Rattle.sd_history.specs.World.{Setting, is_counted}
+use Rattle.sd_history.specs.World.{Setting, is_counted, alone}
 use Rattle.sd_history.specs.Steps.{Step, seen_of, acts_in}
 use Rattle.sd_history.specs.Chronicle.{next_step, chronicle}
 use Rattle.sd_history.specs.Premises.{breaks}
 use Rattle.sd_history.specs.Lines.{first_on_loop, roots, broken_lines, loop_lines, root_lines, report_lines, asked_report, lines_of}
-use Rattle.sd_proof_needed.specs.Alone.{alone}
 use Rattle.sd_proof_needed.specs.Roots.{is_roots_alarm, IsAlarmed, TwoRootsAreSeen}
 use Rattle.sd_proof_needed.proofs.Taken.{has_roots}
 

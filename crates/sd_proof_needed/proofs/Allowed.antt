@@ -11,10 +11,9 @@ use Rattle.sd_checker.specs.Plan.declared.Plan.{Plan}
 use Rattle.sd_checker.specs.Plan.Plans.{is_member}
 use Rattle.sd_history.specs.declared.ApplyFault.{ApplyFault}
 use Rattle.sd_history.specs.Sched.declared.Event.{Event}
-use Rattle.sd_history.specs.World.{Setting, Seen, latest_reading}
+use Rattle.sd_history.specs.World.{Setting, Seen, latest_reading, alone}
 use Rattle.sd_history.specs.Steps.{Step, seen_of}
 use Rattle.sd_history.specs.Refusals.{causes, refusal, unknown_device, dead_device, unknown_message, spent_message, wrong_device, time_falls, counter_falls, not_started, window_order, after_end, too_many}
-use Rattle.sd_proof_needed.specs.Alone.{alone}
 use Rattle.sd_proof_needed.proofs.Worlds.{IsCalm, ticks, receives, is_live, World}
 
 -- none of the causes holds

@@ -16,7 +16,7 @@ use Rattle.sd_history.specs.Msg.declared.Flight.{Flight}
 use Rattle.sd_history.specs.Sched.declared.Event.{Event}
 use Rattle.sd_history.specs.Sched.declared.Event.TheVariants as event
 use Rattle.sd_history.specs.Sched.Events.{reference_of, is_end_event, is_stage}
-use Rattle.sd_history.specs.World.{Setting, Seen, is_up, was_made, has_failed, has_ever_failed, is_untouched, latest_reference, latest_reading, has_commit, window, plan_numbered}
+use Rattle.sd_history.specs.World.{Setting, Seen, is_up, was_made, has_failed, has_ever_failed, is_untouched, latest_reference, latest_reading, has_commit, window, plan_numbered, alone}
 use Rattle.sd_history.specs.Steps.{Step, seen_of, flights}
 use Rattle.sd_history.specs.Chronicle.{next_step, chronicle, past_in, new_past, IsHistory}
 use Rattle.sd_history.specs.Refusals.{causes, was_used, unknown_device, unknown_link, dead_device, dead_link, started_twice, not_member, after_end, too_many}
@@ -28,11 +28,12 @@ use Rattle.sd_checker.proofs.Plan.Forest.{or_none}
 use Rattle.sd_checker.proofs.Num.Shared.{equal_swap}
 use Rattle.sd_history.specs.Core.Calls.{Past, Started}
 use Rattle.sd_history.proofs.Among.{Among, first, later, all_pass}
-use Rattle.sd_proof_needed.specs.Alone.{alone, fails_only}
+use Rattle.sd_proof_needed.specs.Alone.{fails_only}
 use Rattle.sd_proof_needed.proofs.Elements.{found_some}
 use Rattle.sd_proof_needed.proofs.Worlds.{is_live, window_on, closings_on}
 use Rattle.sd_proof_needed.proofs.Allowed.{Live, live_parts, none_hold}
-use Rattle.sd_proof_needed.proofs.Going.{Good, length-chronicle}
+use Rattle.sd_history.proofs.Admitted.{length-chronicle}
+use Rattle.sd_proof_needed.proofs.Going.{Good}
 
 -- the past of a device that has just started with a true clock
 abbrev pub fresh : Network → Plan → ℕ → Past

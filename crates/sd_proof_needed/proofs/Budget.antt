@@ -14,6 +14,7 @@ use Rattle.sd_checker.specs.Plan.declared.Duty.{Duty}
 use Rattle.sd_checker.specs.Plan.declared.Role.TheVariants.{Root, BackupRoot, Ordinary}
 use Rattle.sd_checker.specs.Plan.Plans.{is_root, is_backup_root}
 use Rattle.sd_checker.specs.Plan.Duties.{duty_of, ends_of}
+use Rattle.sd_checker.specs.Num.Counts.{one_if}
 use Rattle.sd_history.specs.Msg.declared.Flight.{Flight}
 use Rattle.sd_history.specs.Msg.declared.Message.{Message}
 use Rattle.sd_history.specs.Msg.declared.Stamp.{Stamp}
@@ -25,7 +26,7 @@ use Rattle.sd_history.specs.Core.Words.{stamp_now, is_acting, after, effect_of, 
 use Rattle.sd_history.specs.Sched.declared.Event.{Event}
 use Rattle.sd_history.specs.Sched.declared.Event.TheVariants as event
 use Rattle.sd_history.specs.Sched.Events.{reference_of}
-use Rattle.sd_history.specs.World.{Setting}
+use Rattle.sd_history.specs.World.{Setting, alone}
 use Rattle.sd_history.specs.Steps.{Act, Calls, Passes, Step, seen_of, flights, flight_numbered, flight_count, act_by, ends_at, flights_by, flights_of, tells_nothing, tells_called}
 use Rattle.sd_history.specs.Chronicle.{next_step, past_in, past_after, answers_by, told_by}
 use Rattle.sd_history.specs.Accepted.{AreSteps}
@@ -33,7 +34,6 @@ use Rattle.sd_history.specs.Refusals.{was_used}
 use Rattle.sd_history.proofs.Among.{Among, first, later, either_side}
 use Rattle.sd_history.proofs.Given.{some_is}
 use Rattle.sd_history.proofs.flights.Counts.{length-flights_to}
-use Rattle.sd_proof_needed.specs.Alone.{alone}
 use Rattle.sd_proof_needed.proofs.Worlds.{IsCalm, ticks, receives, is_live, World}
 use Rattle.sd_proof_needed.proofs.Allowed.{live_parts}
 use Rattle.sd_proof_needed.proofs.Air.{IsNew, is_new}
@@ -186,10 +186,6 @@ ends_few net plan dom down steps t world epoch d =
     by true c = omega arith
     by false true = omega arith
     by false false = omega arith
-
--- what a truth value counts
-abbrev one_if : Bool → ℕ
-one_if b = if b then 1 else 0
 
 one_if_more : (x y : Bool) → (x ≡ true → y ≡ true) → one_if x ≤ one_if y
 one_if_more false y on = omega arith

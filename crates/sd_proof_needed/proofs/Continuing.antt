@@ -23,7 +23,7 @@ use Rattle.sd_history.specs.Sched.declared.Event.{Event}
 use Rattle.sd_history.specs.Sched.declared.Event.TheVariants as event
 use Rattle.sd_history.specs.Sched.Events.{is_stage}
 use Rattle.sd_history.specs.Things.{failure_of}
-use Rattle.sd_history.specs.World.{Setting, Seen, is_up, was_made, has_failed, link_has_failed, plan_numbered, in_force, window}
+use Rattle.sd_history.specs.World.{Setting, Seen, is_up, was_made, has_failed, link_has_failed, plan_numbered, in_force, window, alone}
 use Rattle.sd_history.specs.Steps.{Act, changed, Calls, Passes, Step, seen_of, flights, flights_of, flight_numbered, act_by, tells_nothing, tells_called}
 use Rattle.sd_history.specs.Chronicle.{next_step, chronicle, past_in, past_after, answers_by, told_by, IsHistory}
 use Rattle.sd_history.specs.Accepted.{AreSteps}
@@ -35,7 +35,6 @@ use Rattle.sd_history.proofs.Known.{named_is_known}
 use Rattle.sd_history.proofs.Accepting.{history_is_accepted}
 use Rattle.sd_history.proofs.flights.Sending.{WasSent, was_sent}
 use Rattle.sd_history.proofs.flights.Places.{IsBelow, ends_below}
-use Rattle.sd_proof_needed.specs.Alone.{alone}
 use Rattle.sd_proof_needed.specs.Reaches.{leaves_as_is}
 use Rattle.sd_proof_needed.proofs.Worlds.{is_live, window_on, closings_on}
 use Rattle.sd_proof_needed.proofs.Air.{ends_are}

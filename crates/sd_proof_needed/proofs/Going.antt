@@ -14,18 +14,19 @@ use Rattle.sd_checker.proofs.Plan.Topo.Laws.{link_law}
 use Rattle.sd_history.specs.Msg.declared.Flight.{Flight}
 use Rattle.sd_history.specs.Sched.declared.Event.{Event}
 use Rattle.sd_history.specs.Sched.declared.Event.TheVariants as event
-use Rattle.sd_history.specs.World.{Setting, latest_reference}
+use Rattle.sd_history.specs.World.{Setting, latest_reference, alone}
 use Rattle.sd_history.specs.Steps.{Step, seen_of, flights, flight_numbered, flight_count}
 use Rattle.sd_history.specs.Chronicle.{next_step, chronicle, IsHistory}
 use Rattle.sd_history.specs.Accepted.{AreSteps}
 use Rattle.sd_history.specs.Refusals.{was_used, is_spent, refusal, unknown_message, spent_message, wrong_device}
 use Rattle.sd_history.specs.Premises.{arrives_in_time, is_in_time, all_hold}
+use Rattle.sd_history.proofs.Admitted.{length-chronicle}
 use Rattle.sd_history.proofs.Among.{Among}
 use Rattle.sd_history.proofs.Accepting.{history_is_accepted}
 use Rattle.sd_history.proofs.Parts.{premises_hold}
 use Rattle.sd_history.proofs.flights.Numbers.{numbers_within, numbered_itself}
 use Rattle.sd_history.proofs.flights.Places.{flights_of_network}
-use Rattle.sd_proof_needed.specs.Alone.{alone, fails_only}
+use Rattle.sd_proof_needed.specs.Alone.{fails_only}
 use Rattle.sd_proof_needed.proofs.Worlds.{IsCalm, ticks, receives, is_live, World, OnTime, world_goes_on}
 use Rattle.sd_proof_needed.proofs.Allowed.{allowed}
 use Rattle.sd_proof_needed.proofs.Air.{FlightLaw, Air, NoneDue, Receives, nothing, one, loss_held, air_goes_on}
@@ -51,10 +52,6 @@ premises_held net plan dom down history t good =
       domain = good.world.domain_held;
       renew = good.world.renew_held;
     })
-
-pub length-chronicle : (setting : Setting) (history : List Event) → length (chronicle setting history) ≡ length history
-length-chronicle setting [] = refl
-length-chronicle setting (e ∷ earlier) = let rest = length-chronicle setting earlier in omega (arith, rest)
 
 -- bounds of delays are in order
 abbrev IsInOrder : Delay → Type 0

@@ -23,13 +23,12 @@ use Rattle.sd_history.specs.Core.Calls.{Started, Call, Tick, Receive, Past, Noth
 use Rattle.sd_history.specs.Core.Words.{starts_as_root, duty_given, transition_of, after, effect_of, wait_to_move}
 use Rattle.sd_history.specs.Sched.declared.Event.{Event}
 use Rattle.sd_history.specs.Sched.declared.Event.TheVariants as event
-use Rattle.sd_history.specs.World.{Setting}
+use Rattle.sd_history.specs.World.{Setting, alone}
 use Rattle.sd_history.specs.Steps.{Act, Calls, Passes, Step, seen_of, flights, flight_numbered, act_by, tells_nothing, tells_called}
 use Rattle.sd_history.specs.Chronicle.{next_step, past_in, past_after, answers_by, told_by}
 use Rattle.sd_history.specs.Accepted.{AreSteps}
 use Rattle.sd_history.proofs.Among.{Among, either_side}
 use Rattle.sd_history.proofs.Given.{some_is}
-use Rattle.sd_proof_needed.specs.Alone.{alone}
 use Rattle.sd_proof_needed.proofs.Elements.{on_left}
 use Rattle.sd_proof_needed.proofs.Worlds.{IsCalm, ticks, receives, is_live, World}
 use Rattle.sd_proof_needed.proofs.Air.{Air, IsNew, is_new}

@@ -18,13 +18,15 @@ use Rattle.sd_checker.specs.Plan.Walks.{is_hit}
 use Rattle.sd_checker.specs.Conditions as condition
 use Rattle.sd_checker.specs.CheckLoop.Loops.{IsChain, AreDifferent, IsNextShown, LeadsTo, IsShownCycle}
 use Rattle.sd_checker.proofs.Exclusive.{chain_tail}
+use Rattle.sd_checker.proofs.Plan.Forest.{IsParent}
 use Rattle.sd_history.specs.Chronicle.{chronicle}
 use Rattle.sd_history.specs.Lines.{counted_parent}
-use Rattle.sd_proof_needed.specs.Alone.{alone, holds_besides}
+use Rattle.sd_history.specs.World.{alone}
+use Rattle.sd_proof_needed.specs.Alone.{holds_besides}
 use Rattle.sd_proof_needed.specs.Loops.{IsRing, ClosesLoop, event_bound, LoopIsNeeded, LoopRefusalIsRight}
 use Rattle.sd_proof_needed.proofs.Going.{premises_held}
 use Rattle.sd_proof_needed.proofs.Rings as rings
-use Rattle.sd_proof_needed.proofs.Rings.{domain_among, domain_is, IsParent, Led, chain_of, next_in, led_next, ring_zone}
+use Rattle.sd_proof_needed.proofs.Rings.{domain_among, domain_is, Led, chain_of, next_in, led_next, ring_zone}
 use Rattle.sd_proof_needed.proofs.Zones.{zone_in, IsOnPrimary, is_zone}
 use Rattle.sd_proof_needed.proofs.Moving.{HasMoved, has_moved}
 

@@ -21,7 +21,7 @@ use Rattle.sd_history.specs.Core.Calls.{Started, Past, Tick, Moved}
 use Rattle.sd_history.specs.Core.Words.{starts_as_root, parent_now, after, effect_of, transition_of}
 use Rattle.sd_history.specs.Sched.declared.Event.{Event}
 use Rattle.sd_history.specs.Sched.declared.Event.TheVariants as event
-use Rattle.sd_history.specs.World.{Setting, is_up, is_counted}
+use Rattle.sd_history.specs.World.{Setting, is_up, is_counted, alone}
 use Rattle.sd_history.specs.Steps.{Step, seen_of, flights, answers_in, parent_in, tells_nothing, tells_called}
 use Rattle.sd_history.specs.Chronicle.{next_step, chronicle, past_in, answers_by}
 use Rattle.sd_history.specs.Accepted.{AreSteps}
@@ -30,7 +30,6 @@ use Rattle.sd_history.specs.Premises.{latest_tick}
 use Rattle.sd_history.proofs.Among.{Among, either_side}
 use Rattle.sd_history.proofs.Accepting.{history_is_accepted}
 use Rattle.sd_history.proofs.Bridges.{answers_by_words}
-use Rattle.sd_proof_needed.specs.Alone.{alone}
 use Rattle.sd_proof_needed.specs.Loops.{ticks_of_wait, event_bound}
 use Rattle.sd_proof_needed.proofs.Worlds.{is_live, ticks, tick_later}
 use Rattle.sd_proof_needed.proofs.Allowed.{live_parts}

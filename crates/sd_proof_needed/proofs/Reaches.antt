@@ -25,7 +25,7 @@ use Rattle.sd_history.specs.Core.Calls.{Past, Tick}
 use Rattle.sd_history.specs.Core.Words.{after, accepted_over, wait_to_move}
 use Rattle.sd_history.specs.Chronicle.{chronicle}
 use Rattle.sd_history.proofs.Given.{some_is}
-use Rattle.sd_proof_needed.specs.Alone.{alone}
+use Rattle.sd_history.specs.World.{alone}
 use Rattle.sd_proof_needed.specs.Loops.{ticks_of_wait, event_bound}
 use Rattle.sd_proof_needed.specs.Reaches.{StaysDeaf, ReachIsNeeded, ReachRefusalIsRight}
 use Rattle.sd_proof_needed.proofs.Going.{premises_held}

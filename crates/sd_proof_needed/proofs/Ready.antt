@@ -17,14 +17,13 @@ use Rattle.sd_history.specs.Msg.declared.Flight.{Flight}
 use Rattle.sd_history.specs.Core.Calls.{Past}
 use Rattle.sd_history.specs.Core.Words.{stamp_now}
 use Rattle.sd_history.specs.Sched.declared.Event.{Event}
-use Rattle.sd_history.specs.World.{Setting}
+use Rattle.sd_history.specs.World.{Setting, alone}
 use Rattle.sd_history.specs.Steps.{Step, seen_of, flights}
 use Rattle.sd_history.specs.Chronicle.{chronicle, past_in}
 use Rattle.sd_history.specs.Refusals.{was_used}
 use Rattle.sd_history.specs.Premises.{latest_tick}
 use Rattle.sd_history.proofs.Among.{Among}
 use Rattle.sd_history.proofs.Given.{some_is}
-use Rattle.sd_proof_needed.specs.Alone.{alone}
 use Rattle.sd_proof_needed.specs.Loops.{hop_count, events_until}
 use Rattle.sd_proof_needed.proofs.Worlds.{is_live}
 use Rattle.sd_proof_needed.proofs.Allowed.{live_parts}

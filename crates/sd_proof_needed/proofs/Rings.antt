@@ -20,7 +20,7 @@ use Rattle.sd_checker.specs.Plan.declared.PlanRow.{PlanRow}
 use Rattle.sd_checker.specs.Plan.Plans.{Fits, is_member, primary_of, backup_of, row_of}
 use Rattle.sd_checker.specs.Plan.Walks.{ends_walks, is_hit, epath, things_of, short_path, short_walk}
 use Rattle.sd_checker.specs.Plan.Structure.{structure_breach}
-use Rattle.sd_checker.proofs.Plan.Forest.{IsForest, forest_of, climb}
+use Rattle.sd_checker.proofs.Plan.Forest.{IsForest, forest_of, climb, IsParent, one_parent}
 use Rattle.sd_checker.specs.CheckLoop.Loops.{LeadsTo, IsChain, AreDifferent}
 use Rattle.sd_history.proofs.Among as among
 use Rattle.sd_history.proofs.Among.{Among, on_right, either_side}
@@ -177,21 +177,10 @@ next_has first others x = elim (next_or first (first ∷ others) x) [
 
 -- Who leads to whom
 
--- the hop is there, and leads to the device
-abbrev pub IsParent : Option Hop → ℕ → Type 0
-IsParent o y = (hop : Hop) × (o ≡ Some hop) × (hop.parent ≡ y)
-
 pub record Led (net : Network) (plan : Plan) (f : DomainId) (x y : ℕ) : Type 0 where
   pub member : is_member plan x ≡ true
   pub other : ends_walks plan x ≡ false
   pub by : IsParent (primary_of plan x) y ⊎ ((is_hit net plan f x ≡ true) × IsParent (backup_of plan x) y)
-
-parent_of : (o : Option Hop) (y : ℕ) → list_any (λ hop. nat_eq hop.parent y) (option_to_list o) ≡ true → IsParent o y
-parent_of None y some = cc
-parent_of (Some hop) y some = elim (or_cases (nat_eq hop.parent y) false some) [
-  | inl here ↦ (hop, refl, eqb-true hop.parent y here)
-  | inr never ↦ absurd (both_ways false refl never)
-]
 
 -- the same by what is known of the device
 abbrev LedBy : Bool → Bool → Bool → Option Hop → Option Hop → ℕ → Type 0
@@ -208,8 +197,8 @@ led_by true false true primary backup y some = (
   refl,
   elim (or_cases (list_any (λ hop. nat_eq hop.parent y) (option_to_list primary)) (list_any (λ hop. nat_eq hop.parent y) (option_to_list backup))
       (sym (list_any-append (λ hop. nat_eq hop.parent y) (option_to_list primary) (option_to_list backup)) ∙ some)) [
-        | inl one ↦ inl (parent_of primary y one)
-        | inr two ↦ inr (refl, parent_of backup y two)
+        | inl one ↦ inl (one_parent primary y one)
+        | inr two ↦ inr (refl, one_parent backup y two)
       ],
 )
 led_by true false false primary backup y some = (
@@ -217,7 +206,7 @@ led_by true false false primary backup y some = (
   refl,
   elim (or_cases (list_any (λ hop. nat_eq hop.parent y) (option_to_list primary)) false
       (sym (list_any-append (λ hop. nat_eq hop.parent y) (option_to_list primary) []) ∙ some)) [
-        | inl one ↦ inl (parent_of primary y one)
+        | inl one ↦ inl (one_parent primary y one)
         | inr never ↦ absurd (both_ways false refl never)
       ],
 )

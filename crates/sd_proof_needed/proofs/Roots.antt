@@ -26,14 +26,14 @@ use Rattle.sd_history.specs.Core.Calls.{Started, Past, Tick, Receive, Nothing, M
 use Rattle.sd_history.specs.Core.Words.{starts_as_root, is_acting, after, transition_of}
 use Rattle.sd_history.specs.Sched.declared.Event.{Event}
 use Rattle.sd_history.specs.Sched.declared.Event.TheVariants as event
-use Rattle.sd_history.specs.World.{Setting, is_up, is_counted}
+use Rattle.sd_history.specs.World.{Setting, is_up, is_counted, alone}
 use Rattle.sd_history.specs.Steps.{Step, seen_of, answers_in, acts_in}
 use Rattle.sd_history.specs.Chronicle.{chronicle, past_in, answers_by}
 use Rattle.sd_history.specs.Lines.{roots}
 use Rattle.sd_history.proofs.Bridges.{answers_by_words}
 use Rattle.sd_history.proofs.Given.{some_is}
 use Rattle.sd_history.proofs.Shared.{among_below}
-use Rattle.sd_proof_needed.specs.Alone.{alone, holds_besides}
+use Rattle.sd_proof_needed.specs.Alone.{holds_besides}
 use Rattle.sd_proof_needed.specs.Loops.{ticks_until, events_until}
 use Rattle.sd_proof_needed.specs.Roots.{both_roots, fallback, TakesBoth, MakesTwoRoots, ticks_of_takeover, RootIsNeeded}
 use Rattle.sd_proof_needed.proofs.Elements.{any_of, among_kept}

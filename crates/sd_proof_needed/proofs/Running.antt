@@ -13,7 +13,7 @@ use Rattle.sd_history.specs.Msg.declared.Flight.{Flight}
 use Rattle.sd_history.specs.Core.Calls.{Past, Tick}
 use Rattle.sd_history.specs.Sched.declared.Event.{Event}
 use Rattle.sd_history.specs.Sched.declared.Event.TheVariants as event
-use Rattle.sd_history.specs.World.{Setting}
+use Rattle.sd_history.specs.World.{Setting, alone}
 use Rattle.sd_history.specs.Steps.{Step, seen_of, flights, flight_numbered}
 use Rattle.sd_history.specs.Chronicle.{chronicle}
 use Rattle.sd_history.specs.Accepted.{AreSteps}
@@ -23,7 +23,6 @@ use Rattle.sd_history.proofs.Among.{Among, first, later}
 use Rattle.sd_history.proofs.Filters.{kept_among}
 use Rattle.sd_history.proofs.Accepting.{history_is_accepted}
 use Rattle.sd_history.proofs.flights.Numbers.{numbered_itself}
-use Rattle.sd_proof_needed.specs.Alone.{alone}
 use Rattle.sd_proof_needed.proofs.Elements.{passes_kept, among_kept}
 use Rattle.sd_proof_needed.proofs.Worlds.{is_live, OnTime, tick_later}
 use Rattle.sd_proof_needed.proofs.Allowed.{live_parts}

@@ -2,17 +2,17 @@
 use Rattle.std.specs.Prelude.{◌≡◌, ℕ, zero, suc, ◌+◌, ◌<◌, ◌≤◌, Bool, true, false, not, List, [], ◌∷◌, ◌++◌, length, filter, nat_eq, Option, Some, None, option_and_then, refl, if◌then◌else◌}
 use Rattle.std.proofs.Common.{sym, ap, ◌∙◌, subst, arith}
 use Rattle.std.proofs.lemmas.Bool.{and_parts, or_left, or_parts, eqb-true, eqb-false, eq-eqb, both_ways, not-true, false_from_ne_true}
-use Rattle.sd_checker.specs.Num.Lists.{has, same_number}
+use Rattle.sd_checker.specs.Num.Lists.{has, same_number, follow}
 use Rattle.sd_checker.specs.Topo.Network.{Network, device_numbers}
 use Rattle.sd_checker.specs.Plan.declared.Plan.{Plan}
 use Rattle.sd_checker.specs.CheckLoop.Loops.{IsChain, AreDifferent}
-use Rattle.sd_history.specs.World.{is_up, is_counted}
+use Rattle.sd_checker.proofs.Num.Shared.{follow_first}
+use Rattle.sd_history.specs.World.{is_up, is_counted, alone}
 use Rattle.sd_history.specs.Steps.{seen_of, parent_in}
 use Rattle.sd_history.specs.Chronicle.{chronicle}
-use Rattle.sd_history.specs.Lines.{counted_parent, follow, is_on_loop}
+use Rattle.sd_history.specs.Lines.{counted_parent, is_on_loop}
 use Rattle.sd_history.proofs.Known.{up_is_known}
 use Rattle.sd_history.proofs.Shared.{among_below}
-use Rattle.sd_proof_needed.specs.Alone.{alone}
 use Rattle.sd_proof_needed.specs.Loops.{LoopIsSeen}
 use Rattle.sd_proof_needed.proofs.Elements.{found_some, any_of, kept_has}
 use Rattle.sd_proof_needed.proofs.Rings.{next_in, leads_next}
@@ -65,10 +65,6 @@ different_few (suc n) xs different within =
     omega (arith, rest, most)
 
 -- Following
-
-follow_first : (parent : ℕ → Option ℕ) (n x y : ℕ) → parent x ≡ Some y → follow parent (suc n) x ≡ follow parent n y
-follow_first parent zero x y is = is
-follow_first parent (suc n) x y is = ap (option_and_then parent) (follow_first parent n x y is)
 
 follow_chain : (parent : ℕ → Option ℕ) (x z : ℕ) (ys : List ℕ) → IsChain (λ d e. parent d ≡ Some e) (x ∷ (ys ++ z ∷ []))
     → follow parent (suc (length ys)) x ≡ Some z

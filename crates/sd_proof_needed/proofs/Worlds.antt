@@ -19,14 +19,13 @@ use Rattle.sd_history.specs.Sched.declared.Event.{Event}
 use Rattle.sd_history.specs.Sched.declared.Event.TheVariants as event
 use Rattle.sd_history.specs.Sched.Events.{reference_of, is_end_event, is_stage}
 use Rattle.sd_history.specs.Things.{failure_of}
-use Rattle.sd_history.specs.World.{Setting, Seen, is_up, was_made, has_failed, is_untouched, latest_reference, latest_reading, window, plan_numbered}
+use Rattle.sd_history.specs.World.{Setting, Seen, is_up, was_made, has_failed, is_untouched, latest_reference, latest_reading, window, plan_numbered, alone}
 use Rattle.sd_history.specs.Steps.{Step, Told, seen_of, first_step, can_close}
 use Rattle.sd_history.specs.Chronicle.{next_step}
 use Rattle.sd_history.specs.Premises.{readings, reads_honestly, start_holds, drift_holds, delay_holds, tick_holds, domain_holds, renew_holds, arrives_in_time, ticks_in_time, latest_tick, is_current_member, first_reference, failures_since_closing, fails_within_one}
 use Rattle.sd_history.proofs.Among.{Among, first, later, all_pass}
 use Rattle.sd_history.proofs.Filters.{kept_among}
 use Rattle.sd_history.proofs.flights.Places.{among_below}
-use Rattle.sd_proof_needed.specs.Alone.{alone}
 use Rattle.sd_proof_needed.proofs.Elements.{passes_kept, found_some}
 
 -- a tick or a receipt of a device at a reference, with a clock that shows just this

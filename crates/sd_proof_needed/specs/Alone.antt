@@ -10,14 +10,10 @@ use Rattle.sd_checker.specs.Domain.declared.DomainId.{DomainId}
 use Rattle.sd_checker.specs.Plan.declared.Plan.{Plan}
 use Rattle.sd_history.specs.Sched.declared.Event.{Event}
 use Rattle.sd_history.specs.Things.{failure_of}
-use Rattle.sd_history.specs.World.{Setting}
+use Rattle.sd_history.specs.World.{Setting, alone}
 use Rattle.sd_history.specs.Steps.{seen_of}
 use Rattle.sd_history.specs.Chronicle.{chronicle, IsHistory}
 use Rattle.sd_history.specs.Premises.{all_hold}
-
--- the setting of the one plan
-abbrev pub alone : Network → Plan → Setting
-alone net plan = record { net = net; plans = plan ∷ [] }
 
 -- the thing is one of the domain, and none of these devices
 abbrev pub holds_besides : Network → DomainId → List ℕ → Thing → Bool

@@ -21,7 +21,8 @@ use Rattle.sd_checker.specs.declared.Breach.TheVariants as breach
 use Rattle.sd_history.specs.Sched.declared.Event.{Event}
 use Rattle.sd_history.specs.Chronicle.{chronicle}
 use Rattle.sd_history.specs.Lines.{counted_parent, first_on_loop}
-use Rattle.sd_proof_needed.specs.Alone.{alone, holds_besides, IsClean}
+use Rattle.sd_history.specs.World.{alone}
+use Rattle.sd_proof_needed.specs.Alone.{holds_besides, IsClean}
 
 -- different devices each of which may follow the next while things of the domain fail, and the last of them the first
 pub record IsRing (net : Network) (plan : Plan) (f : DomainId) (first : ℕ) (others : List ℕ) : Type 0 where

@@ -22,10 +22,10 @@ use Rattle.sd_history.specs.Core.Words.{accepted_over}
 use Rattle.sd_history.specs.Sched.declared.Event.{Event}
 use Rattle.sd_history.specs.Sched.Events.{is_stage}
 use Rattle.sd_history.specs.Things.{failure_of}
-use Rattle.sd_history.specs.World.{is_up}
+use Rattle.sd_history.specs.World.{is_up, alone}
 use Rattle.sd_history.specs.Steps.{Step, seen_of}
 use Rattle.sd_history.specs.Chronicle.{chronicle, past_in, IsHistory}
-use Rattle.sd_proof_needed.specs.Alone.{alone, IsClean}
+use Rattle.sd_proof_needed.specs.Alone.{IsClean}
 use Rattle.sd_proof_needed.specs.Loops.{event_bound}
 
 -- no call of the device's life has accepted a message

@@ -25,7 +25,8 @@ use Rattle.sd_checker.specs.declared.Breach.TheVariants as breach
 use Rattle.sd_history.specs.Sched.declared.Event.{Event}
 use Rattle.sd_history.specs.Chronicle.{chronicle}
 use Rattle.sd_history.specs.Lines.{Line, RootsAlarm, roots, lines_of}
-use Rattle.sd_proof_needed.specs.Alone.{alone, holds_besides, IsClean}
+use Rattle.sd_history.specs.World.{alone}
+use Rattle.sd_proof_needed.specs.Alone.{holds_besides, IsClean}
 use Rattle.sd_proof_needed.specs.Loops.{ticks_until, events_until}
 
 -- the root and the backup root of a plan

@@ -1,6 +1,7 @@
 -- The invariant that safety follows from: its clauses, what it gives at once, and facts that the other folders share.
 -- src/lib.rt has the words in reading order and the lemmas by number.
 pub mod Arithmetic
+pub mod Parts
 pub mod Timed
 pub mod Prefix
 pub mod Known

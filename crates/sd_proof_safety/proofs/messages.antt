@@ -25,7 +25,7 @@
 --
 -- # What is only stated
 --
--- `Wanted`: that each term is of one acting life while all premises hold, which the invariant has
+-- `Wanted`: that each term is of one acting life while all premises but start hold, which the invariant has
 -- to give, and lemma 6 in the form that is taken here. No proof uses them.
 --
 -- # Why some things are as they are

@@ -3,7 +3,7 @@
 -- # The result (`Each`)
 --
 -- `each_keeps : AreSilent setting → AtNext EntersSoon setting → EachKeeps setting`, and with `safe` of
--- `invariant` `safe_if_silent : AreSilent setting → AtNext EntersSoon setting → StaysSafe setting`.
+-- `invariant` `safe_if_silent : AreSilent setting → AtNext EntersSoon setting → AlwaysSafe setting`.
 -- Nothing is assumed beside the silences.
 --
 -- | Kind of event | Name | From | Module |

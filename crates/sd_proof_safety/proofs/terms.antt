@@ -2,7 +2,7 @@
 --
 -- # The result
 --
--- `termed` (`Terms`): in each clean history with the invariant after each event,
+-- `termed` (`Terms`): in each steady history with the invariant after each event,
 --
 -- | Field of `IsTermed` | In words |
 -- |---|---|

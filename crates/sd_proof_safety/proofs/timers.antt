@@ -30,7 +30,7 @@
 -- | 7 | of one past; of an entry, in a list of steps | `Pasts`, `Turns`; `OneWay` |
 -- | since it last heard a device that does not act has kept its entry | `same_since_heard`, `primary_then`, `backup_then` | `Unmarked`, `LookingBack` |
 --
--- Of a history, `timely` (`Histories`) makes `Timely` of `all_hold`, and `at_event` gives what
+-- Of a history, `timely` (`Histories`) makes `Timely` of `all_but_start_hold`, and `at_event` gives what
 -- deadlines ask for, of a device that is up and a current member.
 --
 -- # Why some things are as they are

@@ -1,6 +1,6 @@
 -- Lemmas 3 to 7 on timers in the words of the invariant: how long old devices are silent, rest and
 -- send nothing, at most and at least, and how they stood at earlier events; and C0 in every clean
--- history over accepted plans.
+-- history over guarded plans.
 --
 -- | In words | Names | Module |
 -- |---|---|---|

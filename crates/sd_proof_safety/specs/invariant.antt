@@ -3,6 +3,7 @@ pub mod Bounds
 pub mod Eras
 pub mod Clauses
 pub mod Invariant
+pub mod Guarded
 pub mod Coming
 pub mod Silences
 pub mod Kept

@@ -7,12 +7,16 @@
 //! `stays_safe : (setting : Setting) → StaysSafe setting` (proofs/whole/Safe). Nothing is assumed
 //! beside the premises of the history. `StaysSafe` stands in specs/invariant/Kept: for accepted plans
 //! that fit their network, in each history in which no premise is broken, following parents of
-//! counted devices comes back to nobody, and at most one of them acts. `sd_replay` and
-//! `sd_proof_bound` stand on it. docs/SAFETY.md tells in words why it is true.
+//! counted devices comes back to nobody, and at most one of them acts. `sd_replay` stands on it.
+//! docs/SAFETY.md tells in words why it is true.
+//!
+//! It is a case of `always_safe`, and the proof is of that: five conditions (`AreGuarded`), all
+//! premises but start, and a history of any length (`IsSteady`). What it is proved with is named so
+//! throughout. `Parts` goes from accepted plans and clean histories to these.
 //!
 //! # The route
 //!
-//! 1. `invariant` has the invariant in clauses, and `safe : EachKeeps setting → StaysSafe setting`: it
+//! 1. `invariant` has the invariant in clauses, and `safe : EachKeeps setting → AlwaysSafe setting`: it
 //!    is enough that each kind of event keeps its core (`EachKeeps`).
 //! 2. `frame`, `moves`, `windows`, `receipts` and `renewals` show that, event by event, from how long
 //!    devices can be silent: `safe_if_silent` (renewals/Each).
@@ -29,8 +33,8 @@
 //! # The words, in reading order
 //!
 //! `Bounds` the numbers; `Eras` era, old and new, hits, when a device heard, moved and sent;
-//! `Clauses` each clause as a test that computes; `Invariant` its records; `Coming` what is given at
-//! an event; `Silences` and `Kept` what is to be shown.
+//! `Clauses` each clause as a test that computes; `Invariant` its records; `Guarded` what safety uses;
+//! `Coming` what is given at an event; `Silences` and `Kept` what is to be shown.
 //!
 //! # The parts of the invariant
 //!

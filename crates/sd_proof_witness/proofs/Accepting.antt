@@ -20,6 +20,7 @@ use Rattle.sd_proof_bound.specs.Drill.CheckLoop.Loops.{hops_of, same_hop, is_wal
 use Rattle.sd_proof_bound.specs.Drill.CheckReach.Reach.{acting_end, is_sound, next_hop, Fed, acts, stands_by, spared, turns, DomainHolds, ReachHolds}
 use Rattle.sd_proof_bound.specs.Drill.Checker.Verdicts.{IsAccepted}
 use Rattle.sd_proof_bound.proofs.Drill.Plan.Numbered.{none_found}
+use Rattle.sd_proof_bound.proofs.Drill.Plan.Forest.{onward}
 
 -- Lists
 
@@ -128,10 +129,6 @@ fed_by net plan f (suc n) d fed =
         let (free, fed) = and_parts (not (holds_link net f hop.link) && not (holds_device net f hop.parent)) (is_fed net plan f n hop.parent) turning in
         let (link, parent) = and_parts (not (holds_link net f hop.link)) (not (holds_device net f hop.parent)) free in
         turns hop sound hit is link parent (rest hop.parent fed)
-
--- the hops from a first one on
-abbrev onward : (ℕ → Bool) → (ℕ → List Hop) → Option Hop → List Hop
-onward ends more found = elim found [ None ↦ [] | Some hop ↦ hop ∷ (elim (ends hop.parent) [ true ↦ [] | false ↦ more hop.parent ]) ]
 
 -- the four parts of a test of a domain
 record Parts (net : Network) (plan : Plan) (f : DomainId) : Type 0 where

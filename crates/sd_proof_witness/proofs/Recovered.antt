@@ -19,11 +19,11 @@ use Rattle.sd_proof_bound.specs.Drill.Drill.{IsWorst, quiet}
 use Rattle.sd_proof_bound.specs.History.Clock.declared.Report.{Report}
 use Rattle.sd_proof_bound.specs.History.Sched.Lines.{event_of_line}
 use Rattle.sd_proof_bound.specs.History.Sched.declared.Event.{Event}
-use Rattle.sd_proof_bound.specs.History.World.{Setting, Seen}
+use Rattle.sd_proof_bound.specs.History.World.{Setting, Seen, alone}
 use Rattle.sd_proof_bound.specs.History.Steps.{Step, seen_of}
 use Rattle.sd_proof_bound.specs.History.Premises.{all_hold}
 use Rattle.sd_proof_bound.specs.History.Lines.{roots}
-use Rattle.sd_proof_bound.specs.Bound.{alone, no_stage, within_base, within_hold, failures, FailsAtOnce, FailsSo}
+use Rattle.sd_proof_bound.specs.Bound.{no_stage, within_base, within_hold, failures, FailsAtOnce, FailsSo}
 use Rattle.sd_proof_bound.specs.Recovering.{Recovers, steps_under}
 use Rattle.sd_proof_bound.proofs.Bounded.{bound_holds}
 use Rattle.sd_proof_witness.specs.Texts.{schedule_lines}

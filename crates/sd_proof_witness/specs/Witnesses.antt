@@ -15,14 +15,14 @@ use Rattle.sd_proof_bound.specs.Drill.Drill.{IsWorst}
 use Rattle.sd_proof_bound.specs.History.Clock.declared.Report.{Report}
 use Rattle.sd_proof_bound.specs.History.Msg.Observed.{ReportAt}
 use Rattle.sd_proof_bound.specs.History.Sched.declared.Event.{Event}
-use Rattle.sd_proof_bound.specs.History.World.{Setting, Seen, has_failed, window_is_open, has_commit, epoch_in_force, is_counted}
+use Rattle.sd_proof_bound.specs.History.World.{Setting, Seen, has_failed, window_is_open, has_commit, epoch_in_force, is_counted, alone}
 use Rattle.sd_proof_bound.specs.History.Steps.{Step, seen_of, epoch_in, given_in, has_settled}
 use Rattle.sd_proof_bound.specs.History.Chronicle.{chronicle, IsHistory}
 use Rattle.sd_proof_bound.specs.History.Premises.{start_holds, drift_holds, delay_holds, tick_holds, loss_holds, domain_holds, renew_holds, all_hold}
 use Rattle.sd_proof_bound.specs.History.Lines.{asked_report, reports, roots}
 use Rattle.sd_proof_bound.specs.ProofSafety.invariant.Coming.{IsFair, IsClean}
 use Rattle.sd_proof_bound.specs.ProofSafety.invariant.Kept.{IsSafe}
-use Rattle.sd_proof_bound.specs.Bound.{alone, FailsAtOnce}
+use Rattle.sd_proof_bound.specs.Bound.{FailsAtOnce}
 use Rattle.sd_proof_bound.specs.Recovering.{Recovers, steps_under}
 use Rattle.sd_proof_witness.specs.Texts.{text_of, topology_lines, first_plan_lines, second_plan_lines, schedule_lines}
 use Rattle.sd_proof_witness.specs.Schedules.{events_of, after_line}

@@ -1,4 +1,4 @@
--- The age half of the bound, from the invariant and the silences of clean histories: the silence of a live device that does not act and comes to hear again, as
+-- The age half of the bound, from the invariant and the silences of steady histories: the silence of a live device that does not act and comes to hear again, as
 -- its counter sees it.
 use Rattle.std.specs.Prelude.{◌≡◌, ℕ, zero, suc, ◌+◌, ◌-◌, ◌*◌, ◌≤◌, Bool, true, false, ◌&&◌, ◌||◌, not, max, List, [], ◌∷◌, nat_eq, Option, Some, None, refl}
 use Rattle.std.specs.List.{list_all, list_any, cons_option}
@@ -18,12 +18,13 @@ use Rattle.sd_proof_safety.specs.Sched.declared.Event.{Event}
 use Rattle.sd_proof_safety.specs.Sched.declared.Event.TheVariants as event
 use Rattle.sd_proof_safety.specs.Sched.Events.{reference_of, is_stage}
 use Rattle.sd_proof_safety.specs.History.Things.{failure_of}
-use Rattle.sd_proof_safety.specs.History.World.{Setting, Seen, is_up, joined_in_window, plan_numbered}
+use Rattle.sd_proof_safety.specs.History.World.{Setting, Seen, is_up, joined_in_window, plan_numbered, alone}
 use Rattle.sd_proof_safety.specs.History.Steps.{Step, seen_of}
 use Rattle.sd_proof_safety.specs.History.Chronicle.{chronicle, next_step}
 use Rattle.sd_proof_safety.specs.invariant.Bounds.{depth, delay, losses, tick_gap, first_up, second_up, wait_up}
 use Rattle.sd_proof_safety.specs.invariant.Eras.{era, heard_at}
-use Rattle.sd_proof_safety.specs.invariant.Coming.{IsFair, IsClean, IsNextEvent}
+use Rattle.sd_proof_safety.specs.invariant.Coming.{IsNextEvent}
+use Rattle.sd_proof_safety.specs.invariant.Guarded.{AreGuarded, IsSteady}
 use Rattle.sd_proof_safety.specs.invariant.Kept.{StaysInvariant}
 use Rattle.sd_proof_safety.specs.invariant.Silences.{AreSilent}
 use Rattle.sd_proof_safety.proofs.invariant.Prefix.{clean_before}
@@ -39,7 +40,7 @@ use Rattle.sd_proof_safety.proofs.timers.NetworkBounds.{rate_is_low}
 use Rattle.sd_proof_safety.proofs.waits.SameReferences.{heard_is}
 use Rattle.sd_proof_safety.proofs.waits.Standing.{times}
 use Rattle.sd_drill.specs.Drill.{quiet}
-use Rattle.sd_proof_bound.specs.Bound.{alone, failures, FailsSo}
+use Rattle.sd_proof_bound.specs.Bound.{failures, FailsSo}
 use Rattle.sd_proof_bound.specs.Recovering.{steps_under}
 use Rattle.sd_proof_bound.specs.Halves.{AgesHold}
 use Rattle.sd_proof_bound.proofs.Composing.{tail_steps}
@@ -87,7 +88,7 @@ none_staged (s ∷ seen) all =
     let parts = and_parts (not (is_stage s.event)) (list_all (λ x. not (is_stage x.event)) seen) all in
     or_from (is_stage s.event) (list_any (λ x. is_stage x.event) seen) (not-true (is_stage s.event) parts.0) (none_staged seen parts.1)
 
-clean_tail : (setting : Setting) {history whole_ : List Event} → Tail history whole_ → IsClean setting whole_ → IsClean setting history
+clean_tail : (setting : Setting) {history whole_ : List Event} → Tail history whole_ → IsSteady setting whole_ → IsSteady setting history
 clean_tail setting whole is = is
 clean_tail setting (behind {x = e} {xs = earlier} t) is = clean_tail setting t (clean_before setting e earlier is)
 
@@ -137,26 +138,27 @@ counted_member true false true is none = cc
 counted_member true false false is none = cc
 counted_member false member joined is none = cc
 
-within_quiet : (r h s k : ℕ) → r ≤ h + s → s ≤ k → r - h ≤ k
-within_quiet r h s k one two = omega (arith, one, two)
+within_silence : (r h s : ℕ) → r ≤ h + s → r - h ≤ s
+within_silence r h s one = omega (arith, one)
 
 age_by : (c h a o : ℕ) → c - h ≤ o → h ≤ a → c - a ≤ o
 age_by c h a o one two = omega (arith, one, two)
 
-upto_sum : (l r q : ℕ) → l ≤ r → r ≤ q → l ≤ q
+-- what lies below what lies below the third
+pub upto_sum : (l r q : ℕ) → l ≤ r → r ≤ q → l ≤ q
 upto_sum l r q one two = omega (arith, one, two)
 
 -- the age half
 pub ages_hold : (net : Network) (plan : Plan) → StaysInvariant (alone net plan) → AreSilent (alone net plan) → AgesHold net plan
-ages_hold net plan stays silent budget f whole_ [] reference d counter recovers tail past counted there idle w worst = cc
-ages_hold net plan stays silent budget f whole_ (x ∷ h) reference d counter recovers tail past counted there idle w worst =
+ages_hold net plan stays silent budget f whole_ [] reference d counter recovers tail past counted there idle far oldest covered = cc
+ages_hold net plan stays silent budget f whole_ (x ∷ h) reference d counter recovers tail past counted there idle far oldest covered =
     let setting : Setting = alone net plan in
     let e : Event = event.Ask reference d counter in
-    let fair : IsFair (alone net plan) =
-    record { network = recovers.network; some_plan = omega arith; fit = each_one _ plan recovers.fits; accepted = each_one _ plan recovers.accepted } in
-    let clean : IsClean (alone net plan) (event.Ask reference d counter ∷ x ∷ h) =
+    let fair : AreGuarded (alone net plan) =
+    record { network = recovers.network; some_plan = omega arith; fit = each_one _ plan recovers.fits; guarded = each_one _ plan recovers.guarded } in
+    let clean : IsSteady (alone net plan) (event.Ask reference d counter ∷ x ∷ h) =
     clean_tail (alone net plan) tail (record { is = recovers.is; premises = recovers.premises }) in
-    let before : IsClean (alone net plan) (x ∷ h) = clean_before (alone net plan) (event.Ask reference d counter) (x ∷ h) clean in
+    let before : IsSteady (alone net plan) (x ∷ h) = clean_before (alone net plan) (event.Ask reference d counter) (x ∷ h) clean in
     let comes : IsNextEvent (alone net plan) (x ∷ h) (event.Ask reference d counter) = record { fair = fair; clean = clean; before = stays (x ∷ h) fair before } in
     let unstaged : IsUnstaged (seen_of (chronicle (alone net plan) (event.Ask reference d counter ∷ x ∷ h))) =
     unstaged_tail (chronicle (alone net plan) (event.Ask reference d counter ∷ x ∷ h)) (steps_under net plan whole_) (tail_steps (alone net plan) tail)
@@ -173,16 +175,15 @@ ages_hold net plan stays silent budget f whole_ (x ∷ h) reference d counter re
     let outage : OneOutage (alone net plan) (event.Ask reference d counter ∷ x ∷ h) f =
     one_outage net plan f (event.Ask reference d counter ∷ x ∷ h) whole_ tail recovers.failed in
     let by : reference ≤ heard_at (chronicle (alone net plan) (x ∷ h)) d + silence_at_most net plan =
-    silent_at_most (alone net plan) silent x h (event.Ask reference d counter) comes unstaged f outage.reference outage.fails_in d live.0 member idle worst.fed
-    worst.long (λ hops walked. worst.is_long.greatest hops walked) worst.short_enough in
+    silent_at_most (alone net plan) silent x h (event.Ask reference d counter) comes unstaged f outage.reference outage.fails_in d live.0 member idle covered.fed
+    covered.long (λ hops walked. covered.is_long.greatest hops walked) covered.short_enough in
     let all_timed : AreTimed (alone net plan) (chronicle (alone net plan) (event.Ask reference d counter ∷ x ∷ h)) =
     timed (alone net plan) (event.Ask reference d counter ∷ x ∷ h) (times (alone net plan) x h (event.Ask reference d counter) comes) in
     let heard_same : heard_at (chronicle (alone net plan) (x ∷ h)) d ≡ heard_in (chronicle (alone net plan) (x ∷ h)) d =
     heard_is (alone net plan) (chronicle (alone net plan) (x ∷ h)) all_timed.0 d in
-    let quiet_ : reference - heard_in (chronicle (alone net plan) (x ∷ h)) d ≤ quiet net plan worst.long =
-    subst (λ t. reference - t ≤ quiet net plan worst.long) heard_same
-    (within_quiet reference (heard_at (chronicle (alone net plan) (x ∷ h)) d) (silence_at_most net plan)
-    (quiet net plan worst.long) by (silence_is_quiet net plan worst.long)) in
+    let quiet_ : reference - heard_in (chronicle (alone net plan) (x ∷ h)) d ≤ silence_at_most net plan =
+    subst (λ t. reference - t ≤ silence_at_most net plan) heard_same
+    (within_silence reference (heard_at (chronicle (alone net plan) (x ∷ h)) d) (silence_at_most net plan) by) in
     let keeps : Keeps (rates_of net d) (reference, counter) (heard_in (chronicle (alone net plan) (x ∷ h)) d, heard past) =
     honest_reading (alone net plan) (next_step (alone net plan) (chronicle (alone net plan) (x ∷ h)) (event.Ask reference d counter)).seen
     (seen_of (chronicle (alone net plan) (x ∷ h))) d counter (heard_in (chronicle (alone net plan) (x ∷ h)) d, heard past) all_timed.1.honest refl refl refl
@@ -190,9 +191,9 @@ ages_hold net plan stays silent budget f whole_ (x ∷ h) reference d counter re
     let low_ : low (rates_of net d) (counter - heard past) ≤ reference - heard_in (chronicle (alone net plan) (x ∷ h)) d =
     timer_low (rates_of net d) (counter - heard past) (counter - heard past) (reference - heard_in (chronicle (alone net plan) (x ∷ h)) d)
     (rate_is_low net d recovers.network) keeps (least (counter - heard past)) in
-    let old : counter - heard past ≤ worst.oldest = worst.is_oldest.greatest (counter - heard past) (upto_sum _ _ _ low_ quiet_) in
+    let old : counter - heard past ≤ oldest = covered.covers (counter - heard past) (upto_sum _ _ _ low_ quiet_) in
     let order : IsOrdered past _ = in_order (alone net plan) (x ∷ h) before.is d past there in
-    age_by counter (heard past) (estimate_now past).at worst.oldest old order.estimate
+    age_by counter (heard past) (estimate_now past).at oldest old order.estimate
   where
     least : (n : ℕ) → n ≤ n
     least n = omega arith

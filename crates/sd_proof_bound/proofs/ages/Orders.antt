@@ -17,8 +17,9 @@ use Rattle.sd_proof_safety.specs.Sched.Events.{device_of, counter_of}
 use Rattle.sd_proof_safety.specs.History.World.{Setting, makes, latest_reading}
 use Rattle.sd_proof_safety.specs.History.Refusals.{makes_some}
 use Rattle.sd_proof_safety.specs.History.Steps.{Act, Makes, Calls, Asks, Passes, Step, seen_of, act_by}
-use Rattle.sd_proof_safety.specs.History.Chronicle.{new_past, past_in, past_after, chronicle, IsHistory}
-use Rattle.sd_proof_safety.proofs.History.Devices.{goes_forward, not_falling, grows as reading_rises}
+use Rattle.sd_proof_safety.specs.History.Chronicle.{new_past, past_in, past_after, chronicle}
+use Rattle.sd_proof_safety.specs.History.Admitted.{IsAdmitted}
+use Rattle.sd_proof_safety.proofs.History.Devices.{admitted_goes_forward, not_falling, grows as reading_rises}
 use Rattle.sd_proof_safety.proofs.History.Given.{some_is}
 use Rattle.sd_proof_safety.proofs.invariant.Sides.{not_both}
 use Rattle.sd_proof_safety.specs.timers.Times.{Fits, makes_device, counter_at}
@@ -95,7 +96,7 @@ reading_now : (b : Bool) (o : Option ℕ) (old c : ℕ) → b ≡ true → o ≡
 reading_now true o old c is reads = ap (λ k. map_or k old (λ told. told)) reads
 reading_now false o old c is reads = cc
 
-pub in_order : (setting : Setting) (history : List Event) → IsHistory setting history → (d : ℕ) (past : Past)
+pub in_order : (setting : Setting) (history : List Event) → IsAdmitted setting history → (d : ℕ) (past : Past)
     → past_in (chronicle setting history) d ≡ Some past → IsOrdered past (latest_reading (seen_of (chronicle setting history)) d)
 in_order setting [] is d past there = cc
 in_order setting (e ∷ history) is d past there = by (act_by setting (chronicle setting history) e) refl there (in_order setting history is.0 d)
@@ -114,7 +115,7 @@ in_order setting (e ∷ history) is d past there = by (act_by setting (chronicle
         → latest_reading (seen_of (chronicle setting history)) d ≤ c
     falls_not none c named reads =
         not_falling (makes_some e) (device_of e) (counter_of e) (latest_reading (seen_of (chronicle setting history)))
-        (goes_forward setting (chronicle setting history) e is.1) (called_by none named) d c named reads
+        (admitted_goes_forward setting (chronicle setting history) e is.1) (called_by none named) d c named reads
 
     rises : makes d e ≡ false → latest_reading (seen_of (chronicle setting history)) d ≤ latest_reading (seen_of (chronicle setting (e ∷ history))) d
     rises none =

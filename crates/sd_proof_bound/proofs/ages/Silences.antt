@@ -17,7 +17,7 @@ use Rattle.sd_proof_safety.specs.History.Things.{failure_of}
 use Rattle.sd_proof_safety.specs.History.World.{Setting, is_up, plan_numbered}
 use Rattle.sd_proof_safety.specs.History.Steps.{Step, seen_of, acts_in}
 use Rattle.sd_proof_safety.specs.History.Chronicle.{chronicle}
-use Rattle.sd_proof_safety.proofs.History.Known.{up_is_known}
+use Rattle.sd_proof_safety.proofs.History.Known.{admitted_up_is_known}
 use Rattle.sd_proof_safety.specs.invariant.Bounds.{IsTimedBy, depth, delay, losses, rounds_gap, tick_gap, first_up, second_up, wait_up, first_low, second_low, wait_low}
 use Rattle.sd_proof_safety.specs.invariant.Eras.{era, beginning, all_started, is_among, failed_now, heard_at}
 use Rattle.sd_proof_safety.specs.invariant.Silences.{AreSilent}
@@ -144,7 +144,7 @@ module _ (setting : Setting) (silent : AreSilent setting) (x : Event) (h : List 
     sc = scene setting x h e begun way late
 
     well : IsWell setting (failed_now (chronicle setting (x ∷ h))) d
-    well = record { known = up_is_known setting (x ∷ h) comes.clean.is.0 d up; member = member; self = sc.well d up member }
+    well = record { known = admitted_up_is_known setting (x ∷ h) comes.clean.is.0 d up; member = member; self = sc.well d up member }
 
     other : is_root (the_plan setting) d ≡ false
     other = not_root setting x h e begun way late d well idle

@@ -9,14 +9,14 @@ use Rattle.sd_drill.specs.Plan.Plans.{is_member, is_root, is_backup_root}
 use Rattle.sd_proof_safety.specs.Core.Words.{estimate_now}
 use Rattle.sd_proof_safety.specs.Sched.declared.Event.{Event}
 use Rattle.sd_proof_safety.specs.Sched.Events.{joined}
-use Rattle.sd_proof_safety.specs.History.World.{Seen, is_up, in_force, joined_in_window, is_counted}
+use Rattle.sd_proof_safety.specs.History.World.{Seen, is_up, in_force, joined_in_window, is_counted, alone}
 use Rattle.sd_proof_safety.specs.History.Steps.{seen_of, acts_in}
-use Rattle.sd_proof_safety.proofs.History.Known.{up_is_known}
+use Rattle.sd_proof_safety.proofs.History.Known.{admitted_up_is_known}
 use Rattle.sd_drill.specs.ages.Ages.{ageing}
 use Rattle.sd_drill.specs.recovery.Walks.{halves, IsGreatestOfWalks}
 use Rattle.sd_drill.specs.Drill.{root_halves, source}
 use Rattle.sd_proof_safety.specs.invariant.Kept.{StaysInvariant}
-use Rattle.sd_proof_bound.specs.Bound.{alone}
+use Rattle.sd_proof_safety.proofs.moves.Ends.{within as within_sum}
 use Rattle.sd_proof_bound.specs.Recovering.{steps_under}
 use Rattle.sd_proof_bound.specs.Halves.{BasesHold}
 use Rattle.sd_proof_bound.proofs.histories.Plain.{IsPlain, not_in_window, plan_is}
@@ -36,7 +36,7 @@ present net plan history plain_ d counted =
     record {
       up = parts.0;
       member = by_case (or_cases (is_member (in_force (alone net plan) seen) d) (joined_in_window seen d) parts.1);
-      within = up_is_known (alone net plan) history plain_.is d parts.0;
+      within = admitted_up_is_known (alone net plan) history plain_.is d parts.0;
     }
   where
     seen : List Seen
@@ -56,9 +56,6 @@ root_held x base a rh b le = omega (arith, le)
 
 backup_held : (x base a rh b : ℕ) → x ≤ base + a + rh → x + b ≤ base + rh + a + b
 backup_held x base a rh b le = omega (arith, le)
-
-walked_most : (x source_ h rh far : ℕ) → x ≤ source_ + h → h ≤ far → x ≤ source_ + rh + far
-walked_most x source_ h rh far le less = omega (arith, le, less)
 
 pub bases_hold : (net : Network) (plan : Plan) → StaysInvariant (alone net plan) → BasesHold net plan
 bases_hold net plan stays budget f whole_ history run t d past counted there =
@@ -89,7 +86,7 @@ bases_hold net plan stays budget f whole_ history run t d past counted there =
         here.up)
         acts)
 
-    walked : (far : ℕ) → IsGreatestOfWalks net plan f d (halves net d) far → (estimate_now past).base ≤ source net plan budget + root_halves net plan + far
+    walked : (far : ℕ) → IsGreatestOfWalks net plan f d (halves net d) far → (estimate_now past).base ≤ source net plan budget + far
     walked far most =
-        walked_most (estimate_now past).base (source net plan budget) (halves net d based.walked.hops) (root_halves net plan) far based.walked.sum
+        within_sum (estimate_now past).base (source net plan budget) (halves net d based.walked.hops) far based.walked.sum
         (most.greatest based.walked.hops based.walked.walk)

@@ -15,7 +15,7 @@ use Rattle.sd_proof_safety.specs.Msg.declared.Flight.{Flight}
 use Rattle.sd_proof_safety.specs.Core.Calls.{Receive, Past}
 use Rattle.sd_proof_safety.specs.Core.Words.{transition_of, after, accepted_over, duty_now, given_now, epoch_now, primary_now, backup_now, has_moved, is_acting}
 use Rattle.sd_proof_safety.specs.Sched.declared.Event.{Event}
-use Rattle.sd_proof_safety.specs.History.World.{plan_numbered}
+use Rattle.sd_proof_safety.specs.History.World.{plan_numbered, alone}
 use Rattle.sd_proof_safety.specs.History.Steps.{Calls, act_by}
 use Rattle.sd_proof_safety.specs.History.Chronicle.{past_in, next_step}
 use Rattle.sd_proof_safety.proofs.History.Given.{some_is}
@@ -27,7 +27,6 @@ use Rattle.sd_proof_safety.proofs.messages.Receipts.{Taken, taken_flight, CameFr
 use Rattle.sd_proof_safety.specs.messages.Hops.{IsPlanHop, Leads}
 use Rattle.sd_proof_safety.proofs.messages.Parents.{ends_lead}
 use Rattle.sd_proof_safety.proofs.windows.Entering.{joins_one}
-use Rattle.sd_proof_bound.specs.Bound.{alone}
 use Rattle.sd_proof_bound.specs.Recovering.{steps_under}
 use Rattle.sd_proof_bound.proofs.histories.Plain.{IsPlain, plain_before}
 use Rattle.sd_proof_bound.proofs.histories.Lives.{none_given}

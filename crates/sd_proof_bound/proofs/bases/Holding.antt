@@ -19,7 +19,7 @@ use Rattle.sd_proof_safety.specs.Core.Calls.{Call, Transition, Entered, Committe
 use Rattle.sd_proof_safety.specs.Core.Words.{transition_of, after, accepted_over, estimate_now, first_rates, rates_now, has_moved, is_acting, report_at, effect_of, effect_of_latest, later_entry, starts_as_root, is_commit}
 use Rattle.sd_proof_safety.proofs.Core.Reached.{added, has_taken_over}
 use Rattle.sd_proof_safety.specs.Sched.declared.Event.{Event}
-use Rattle.sd_proof_safety.specs.History.World.{is_up}
+use Rattle.sd_proof_safety.specs.History.World.{is_up, alone}
 use Rattle.sd_proof_safety.specs.History.Steps.{Calls, Step, seen_of, act_by, acts_in}
 use Rattle.sd_proof_safety.specs.History.Chronicle.{past_in, past_after, new_past, next_step}
 use Rattle.sd_proof_safety.specs.Sched.Honesty.{clock_set}
@@ -37,8 +37,9 @@ use Rattle.sd_proof_safety.specs.messages.Moments.{Tail, whole, behind, Moment, 
 use Rattle.sd_proof_safety.proofs.messages.Tails.{rest_of, tail_all, tail_trans}
 use Rattle.sd_proof_safety.proofs.messages.Sending.{Sender, root_sends, relay_sends, sender_of}
 use Rattle.sd_proof_safety.proofs.History.Contained.{send_same}
-use Rattle.sd_proof_bound.specs.Bound.{alone, held_briefly}
-use Rattle.sd_proof_bound.specs.Recovering.{steps_under, Recovers}
+use Rattle.sd_proof_bound.specs.Bound.{held_briefly}
+use Rattle.sd_proof_bound.specs.Recovering.{steps_under}
+use Rattle.sd_proof_bound.specs.Steady.{RecoversSteadily}
 use Rattle.sd_proof_bound.proofs.Composing.{tail_steps, held_at, held_when, aged}
 use Rattle.sd_proof_bound.proofs.histories.Plain.{IsPlain, plain_event}
 use Rattle.sd_proof_bound.proofs.histories.Lives.{PastBy, by_making, by_call, unchanged, past_by, made_by, Called, ticks, receives, fixes, called_by, called_is_up, called_stays_up, none_given, takes_none}
@@ -140,7 +141,7 @@ pub record Holds (net : Network) (plan : Plan) (budget : Budget) (f : DomainId) 
       → SentSo net plan budget f history x m.eps
 
 module _ (net : Network) (plan : Plan) (budget : Budget) (f : DomainId) (stays : StaysInvariant (alone net plan)) (whole_ : List Event)
-    (run : Recovers net plan budget f whole_) where
+    (run : RecoversSteadily net plan budget f whole_) where
   pub well : WellPlanned net plan
   well = well_planned net plan (sound_now (alone net plan) [] (fair net plan budget f stays whole_ run) tt)
 

@@ -1,4 +1,4 @@
--- What of an accepted plan is used: whom the hops of a device lead to, and what lies on the ways of the backup root.
+-- What of a guarded plan is used: whom the hops of a device lead to, and what lies on the ways of the backup root.
 use Rattle.std.specs.Prelude.{◌≡◌, ℕ, ◌<◌, ◌≤◌, Bool, true, false, ◌&&◌, not, List, [], ◌∷◌, filter, length, map, max, nat_eq, Option, Some, None, IfSome, ◌⊎◌, refl, if◌then◌else◌}
 use Rattle.std.proofs.Common.{arith, sym, ◌∙◌, ap, subst, inl, inr}
 use Rattle.std.proofs.lemmas.Bool.{and_parts, or_cases, eqb-true, eq-eqb, not-true, not-false}
@@ -86,11 +86,11 @@ well_planned net plan sound =
       not_on_fallback = λ hop is.
           ancestor_by net plan (backup_of plan plan.backup_root) hop (is_backup_root plan plan.backup_root) is (eq-eqb plan.backup_root plan.backup_root refl)
           (not-false (is_no_ancestor net plan plan.backup_root)
-          (none_found (λ d. not (is_no_ancestor net plan d)) (length net.devices) plan.backup_root sound.accepted.ancestor sound.fits.backup_root));
+          (none_found (λ d. not (is_no_ancestor net plan d)) (length net.devices) plan.backup_root sound.guarded.ancestor sound.fits.backup_root));
     }
   where
     forest : IsForest net plan
-    forest = forest_of net plan sound.fits sound.accepted.structure
+    forest = forest_of net plan sound.fits sound.guarded.structure
 
     leads_right : (d : ℕ) (hop : Hop) → d < length net.devices → IsPlanHop plan d hop → LeadsRight net plan d hop
     leads_right d hop within (inl is) =

@@ -15,7 +15,7 @@ use Rattle.sd_proof_safety.specs.Core.Calls.{Past}
 use Rattle.sd_proof_safety.specs.Core.Words.{has_moved, is_acting}
 use Rattle.sd_proof_safety.specs.Sched.declared.Event.{Event}
 use Rattle.sd_proof_safety.specs.Sched.Events.{started}
-use Rattle.sd_proof_safety.specs.History.World.{Setting, fails, makes, is_up, was_made, has_ever_failed}
+use Rattle.sd_proof_safety.specs.History.World.{Setting, fails, makes, is_up, was_made, has_ever_failed, alone}
 use Rattle.sd_proof_safety.specs.History.Steps.{seen_of, act_by}
 use Rattle.sd_proof_safety.specs.History.Chronicle.{past_in, chronicle}
 use Rattle.sd_proof_safety.proofs.History.Known.{has_some, kept_past, makes_past}
@@ -24,7 +24,6 @@ use Rattle.sd_proof_safety.proofs.timers.Pasts.{was_unmoved, was_not_acting}
 use Rattle.sd_proof_safety.specs.messages.Moments.{Tail, whole, behind}
 use Rattle.sd_proof_safety.proofs.messages.Tails.{rest_of}
 use Rattle.sd_proof_safety.proofs.frame.Timely.{up_if_made}
-use Rattle.sd_proof_bound.specs.Bound.{alone}
 use Rattle.sd_proof_bound.specs.Recovering.{steps_under}
 use Rattle.sd_proof_bound.proofs.histories.Plain.{IsPlain, tail_plain, plain_event}
 use Rattle.sd_proof_bound.proofs.histories.Lives.{PastBy, by_making, by_call, unchanged, past_by, made_by, called_by, called_stays_up, started_is_up, inside_of}

@@ -18,7 +18,7 @@ use Rattle.sd_drill.specs.declared.Budget.{Budget}
 use Rattle.sd_drill.specs.Drill.{root_halves, source}
 use Rattle.sd_proof_safety.proofs.spans.PathHearsAtEvents.{within}
 use Rattle.sd_proof_safety.proofs.moves.Ends.{within as with_most}
-use Rattle.sd_proof_bound.specs.Bound.{alone}
+use Rattle.sd_proof_safety.specs.History.World.{alone}
 use Rattle.sd_proof_bound.proofs.histories.Plain.{IsPlain}
 use Rattle.sd_proof_bound.proofs.bases.Straight.{IsStraight, straight_before}
 

@@ -200,7 +200,7 @@ module _ (setting : Setting) (x : Event) (h : List Event) (e : Event) (calm : 鈩
         (heard_after (when first.moment) (heard_at first.moment.earlier y) (calm + passing setting.net) (wait_up setting.net plan + tick_gap setting.net) limit
         (first_scene.timeout y well ordinary (ap (位 o. map_or o false (位 (z : Hop). true)) is) unmoved) first.late turned.wait)
     on_primary_chain unmoved None is =
-        let forest : IsForest setting.net plan = forest_of setting.net plan fine.fits fine.accepted.structure in
+        let forest : IsForest setting.net plan = forest_of setting.net plan fine.fits fine.guarded.structure in
         let up = forest.hop y well.known well.member ordinary.0 in
         turned_chain false up.0 up.1 (位 never. cc) (位 _. is) (unmoved_onwards y well ordinary (ap (位 o. map_or o false (位 (z : Hop). true)) is) unmoved)
 

@@ -1,6 +1,6 @@
 -- The cut path of a device begins with its primary hop, and goes on with the cut path of the device to which that leads, where this is neither root nor backup
 -- root. So where the domain does not hit the one, it has neither that hop nor hits the other.
-use Rattle.std.specs.Prelude.{◌≡◌, ℕ, ◌<◌, Bool, true, false, ◌||◌, List, [], ◌∷◌, length, Some, if◌then◌else◌}
+use Rattle.std.specs.Prelude.{◌≡◌, ℕ, ◌<◌, Bool, true, false, ◌||◌, List, [], ◌∷◌, length, Some}
 use Rattle.std.proofs.Common.{ap, ◌∙◌, subst}
 use Rattle.std.proofs.lemmas.Bool.{or_parts}
 use Rattle.sd_drill.specs.Topo.Network.{Network}
@@ -23,7 +23,7 @@ pub record FollowsUnhit (net : Network) (plan : Plan) (f : DomainId) (hop : Hop)
 pub follows_unhit : (net : Network) (plan : Plan) → IsSound net plan → (f : DomainId) (y : ℕ) (hop : Hop) → y < length net.devices
     → primary_of plan y ≡ Some hop → is_hit net plan f y ≡ false → FollowsUnhit net plan f hop
 follows_unhit net plan fine f y hop known primary none =
-    let forest : IsForest net plan = forest_of net plan fine.fits fine.accepted.structure in
+    let forest : IsForest net plan = forest_of net plan fine.fits fine.guarded.structure in
     let up : IsStep net plan y hop = forest.up y hop known primary in
     let free : hits net f
     (things_of (hop ∷ (elim (ends_walks plan hop.parent) as (λ (b : Bool). List Hop) [ true ↦ [] | false ↦ cut_off plan (walk net plan hop.parent) ])))

@@ -48,7 +48,7 @@ module _ (setting : Setting) (failed : List Thing) (top : Moment) (limit : ℕ) 
       let root : is_root plan z ≡ true = subst (λ hs. is_root plan (end_of z hs) ≡ true) is reach in
       subst (λ y. Led setting failed top limit (the_plan setting).root y 0) (eqb-true plan.root z root) at_source
   walk_led (hop ∷ hs) z is known member devices links remains =
-      let forest : IsForest setting.net plan = forest_of setting.net plan fine.fits fine.accepted.structure in
+      let forest : IsForest setting.net plan = forest_of setting.net plan fine.fits fine.guarded.structure in
       let other : is_root plan z ≡ false = not_root_by setting.net plan z hop hs (is_root plan z) is in
       let first = forest.hop z known member other in
       let up : IsStep setting.net plan z first.0 = forest.up z first.0 known first.1 in
@@ -90,7 +90,7 @@ module _ (setting : Setting) (failed : List Thing) (top : Moment) (limit : ℕ) 
 
     pub fallback_chain : (k : ℕ) → Chain setting failed top limit (the_plan setting).backup_root k
     fallback_chain k =
-        let b = the_hop (backup_of plan plan.backup_root) (falls setting.net plan fine.accepted.structure fine.fits.backup_root) in
+        let b = the_hop (backup_of plan plan.backup_root) (falls setting.net plan fine.guarded.structure fine.fits.backup_root) in
         let hop : Hop = b.0 in
         let p : IsPlanned setting.net plan plan.backup_root hop = planned_hop setting.net plan fine plan.backup_root fine.fits.backup_root true hop b.1 in
         let sc : Scene setting failed top = scenes top here before_top in

@@ -20,7 +20,7 @@ use Rattle.sd_proof_safety.specs.History.World.{Setting, makes, latest_reference
 use Rattle.sd_proof_safety.specs.History.Steps.{Act, Makes, Calls, Asks, Passes, Step, seen_of}
 use Rattle.sd_proof_safety.specs.History.Chronicle.{past_in, chronicle, next_step}
 use Rattle.sd_proof_safety.proofs.History.Given.{some_is}
-use Rattle.sd_proof_safety.proofs.History.Parts.{premises_of}
+use Rattle.sd_proof_safety.proofs.invariant.Parts.{premises_of}
 use Rattle.sd_proof_safety.specs.invariant.Bounds.{depth, delay}
 use Rattle.sd_proof_safety.specs.invariant.Eras as eras
 use Rattle.sd_proof_safety.specs.invariant.Eras.{failed_now, does, hears, latest_such, heard_at}

@@ -7,6 +7,7 @@ use Rattle.sd_drill.specs.Num.Lists.{map_or, same_number}
 use Rattle.sd_drill.specs.Topo.declared.Thing.TheVariants as thing
 use Rattle.sd_drill.specs.Plan.declared.Duty.{Duty}
 use Rattle.sd_drill.specs.Plan.Duties.{duty_of}
+use Rattle.sd_proof_safety.specs.History.Admitted.{Admits}
 use Rattle.sd_proof_safety.specs.Msg.declared.Message.{Message}
 use Rattle.sd_proof_safety.specs.Msg.declared.Flight.{Flight}
 use Rattle.sd_proof_safety.specs.Core.Calls as calls
@@ -17,10 +18,10 @@ use Rattle.sd_proof_safety.specs.Sched.declared.Event.TheVariants as event
 use Rattle.sd_proof_safety.specs.Sched.Events.{started, joined}
 use Rattle.sd_proof_safety.specs.History.World.{Setting, Seen, makes, fails, is_up, was_made, has_ever_failed, epoch_in_force, in_force}
 use Rattle.sd_proof_safety.specs.History.Steps.{Act, Makes, Calls, Asks, Passes, Step, seen_of, flight_numbered, act_by}
-use Rattle.sd_proof_safety.specs.History.Refusals.{causes, refusal, not_started, started_twice}
+use Rattle.sd_proof_safety.specs.History.Refusals.{not_started, started_twice}
 use Rattle.sd_proof_safety.specs.History.Chronicle.{new_past, past_after, past_in, chronicle}
 use Rattle.sd_proof_safety.proofs.History.Among.{first, later}
-use Rattle.sd_proof_safety.proofs.History.Contained.{none_holds}
+use Rattle.sd_proof_safety.proofs.History.Admitted.{rule_holds}
 use Rattle.sd_proof_safety.proofs.History.Given.{some_is, takes_given, given_stays_or_goes}
 use Rattle.sd_proof_safety.proofs.History.Known.{has_some, kept_past}
 use Rattle.sd_proof_safety.proofs.timers.Pasts.{Inside, itself, onward}
@@ -146,10 +147,10 @@ gives_none e d _ (fixes r c clock eps is) = refl
 up_when : (seen : List Seen) (d : ℕ) → not (is_up seen d) ≡ false → is_up seen d ≡ true
 up_when seen d is = not-false (is_up seen d) is
 
-is_started : (setting : Setting) (steps : List Step) (e : Event) → refusal setting steps e ≡ None → not_started (seen_of steps) e ≡ false
-is_started setting steps e none = none_holds (causes setting steps e) _ none (later (later (later (later (later (later (later (later (later first)))))))))
+is_started : (setting : Setting) (steps : List Step) (e : Event) → Admits setting steps e → not_started (seen_of steps) e ≡ false
+is_started setting steps e none = rule_holds setting steps e _ none (later (later (later (later (later (later (later (later (later first))))))))) refl
 
-pub called_is_up : (setting : Setting) (steps : List Step) (e : Event) (d : ℕ) (call : Call) → refusal setting steps e ≡ None → Called e d call
+pub called_is_up : (setting : Setting) (steps : List Step) (e : Event) (d : ℕ) (call : Call) → Admits setting steps e → Called e d call
     → is_up (seen_of steps) d ≡ true
 called_is_up setting steps e d _ none (ticks r c is) =
     up_when (seen_of steps) d (subst (λ x. not_started (seen_of steps) x ≡ false) is (is_started setting steps e none))
@@ -168,7 +169,7 @@ up_after_call e d _ before (receives r c n l m is) up =
 up_after_call e d _ before (fixes r c clock eps is) up =
     subst (λ x. map_or (if makes d x then Some true else if fails (thing.Device d) x then Some false else None) before (λ y. y) ≡ true) (sym is) up
 
-pub called_stays_up : (setting : Setting) (history : List Event) (e : Event) (d : ℕ) (call : Call) → refusal setting (chronicle setting history) e ≡ None
+pub called_stays_up : (setting : Setting) (history : List Event) (e : Event) (d : ℕ) (call : Call) → Admits setting (chronicle setting history) e
     → Called e d call → is_up (seen_of (chronicle setting (e ∷ history))) d ≡ true
 called_stays_up setting history e d call none by =
     up_after_call e d call (is_up (seen_of (chronicle setting history)) d) by (called_is_up setting (chronicle setting history) e d call none by)
@@ -215,7 +216,7 @@ made_once setting e history plain d making old act was =
     let steps = chronicle setting history in
     let by = made_by setting steps e d making (plain_event setting e history plain) act in
     let twice : started_twice setting (seen_of steps) e ≡ false =
-    none_holds (causes setting steps e) _ plain.is.1 (later (later (later (later (later (later (later (later (later (later first)))))))))) in
+    rule_holds setting steps e _ plain.is.1 (later (later (later (later (later (later (later (later (later (later first)))))))))) refl in
     let unmade : was_made (seen_of steps) d ≡ false =
     ap (λ x. map_or (started x) false (was_made (seen_of steps))) (sym by.event_is)
     ∙ (or_parts (map_or (started e) false (was_made (seen_of steps))) _ twice).0 in

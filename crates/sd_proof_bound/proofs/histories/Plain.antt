@@ -10,18 +10,18 @@ use Rattle.sd_drill.specs.Plan.declared.Plan.{Plan}
 use Rattle.sd_proof_safety.specs.Sched.declared.Event.{Event}
 use Rattle.sd_proof_safety.specs.Sched.Events.{given, joined, is_stage, is_commit, is_seal}
 use Rattle.sd_proof_safety.specs.History.Things.{mended}
-use Rattle.sd_proof_safety.specs.History.World.{Setting, Seen, window, in_window, has_commit, epoch_in_force, plan_numbered}
+use Rattle.sd_proof_safety.specs.History.World.{Setting, Seen, window, in_window, has_commit, epoch_in_force, plan_numbered, alone}
 use Rattle.sd_proof_safety.specs.History.Steps.{seen_of}
-use Rattle.sd_proof_safety.specs.History.Chronicle.{chronicle, next_step, IsHistory}
+use Rattle.sd_proof_safety.specs.History.Chronicle.{chronicle, next_step}
+use Rattle.sd_proof_safety.specs.History.Admitted.{IsAdmitted}
 use Rattle.sd_proof_safety.specs.invariant.Eras.{plan_now}
 use Rattle.sd_proof_safety.proofs.invariant.Orders.{orderly, staged_before}
 use Rattle.sd_proof_safety.proofs.invariant.Closings.{none_closes_uncommitted}
 use Rattle.sd_proof_safety.specs.messages.Moments.{Tail, whole, behind}
-use Rattle.sd_proof_bound.specs.Bound.{alone}
 
 -- a history without a stage
 pub record IsPlain (setting : Setting) (history : List Event) : Type 0 where
-  pub is : IsHistory setting history
+  pub is : IsAdmitted setting history
   pub unstaged : list_any (λ s. is_stage s.event) (seen_of (chronicle setting history)) ≡ false
 
 pub plain_before : (setting : Setting) (e : Event) (history : List Event) → IsPlain setting (e ∷ history) → IsPlain setting history

@@ -18,7 +18,7 @@ use Rattle.sd_proof_safety.specs.Core.Calls.{Past}
 use Rattle.sd_proof_safety.specs.Core.Words.{duty_now, has_moved, is_acting}
 use Rattle.sd_proof_safety.specs.Sched.declared.Event.{Event}
 use Rattle.sd_proof_safety.specs.Sched.Events.{joined, is_stage, is_commit}
-use Rattle.sd_proof_safety.specs.History.World.{is_up, was_made, has_ever_failed, is_untouched, has_commit, joined_in_window}
+use Rattle.sd_proof_safety.specs.History.World.{is_up, was_made, has_ever_failed, is_untouched, has_commit, joined_in_window, alone}
 use Rattle.sd_proof_safety.specs.History.Steps.{Step, seen_of, acts_in}
 use Rattle.sd_proof_safety.specs.History.Chronicle.{answers_by, past_in}
 use Rattle.sd_proof_safety.proofs.History.Given.{some_is}
@@ -26,7 +26,7 @@ use Rattle.sd_drill.specs.declared.Budget.{Budget}
 use Rattle.sd_proof_safety.specs.invariant.Eras.{plan_now, era, failed_now, device_failed_now, is_old, is_new, is_blank, live_past, moved, on_primary, belongs, is_ordinary, hit, touches, root_failed}
 use Rattle.sd_proof_safety.specs.invariant.Clauses.{is_beginning, above_backup_root, backup_root_stays, backup_root_moved, backup_root_acts}
 use Rattle.sd_proof_safety.specs.invariant.Invariant.{Core, Invariant}
-use Rattle.sd_proof_safety.specs.invariant.Coming.{IsFair, IsClean}
+use Rattle.sd_proof_safety.specs.invariant.Guarded.{AreGuarded, IsSteady}
 use Rattle.sd_proof_safety.specs.invariant.Kept.{StaysInvariant}
 use Rattle.sd_proof_safety.proofs.invariant.Domains.{touched_is_hit}
 use Rattle.sd_proof_safety.proofs.invariant.Empty.{core_empty}
@@ -34,10 +34,10 @@ use Rattle.sd_proof_safety.proofs.invariant.Parents.{live_is, IsOld, old_is}
 use Rattle.sd_proof_safety.proofs.invariant.Sides.{implied}
 use Rattle.sd_proof_safety.specs.messages.Moments.{Tail}
 use Rattle.sd_proof_safety.proofs.messages.Tails.{tail_all}
-use Rattle.sd_proof_safety.proofs.messages.Prefixes.{all_hold_before}
+use Rattle.sd_proof_safety.proofs.messages.Prefixes.{all_but_start_before}
 use Rattle.sd_proof_safety.proofs.moves.Tickings.{first_only}
-use Rattle.sd_proof_bound.specs.Bound.{alone}
-use Rattle.sd_proof_bound.specs.Recovering.{steps_under, Recovers}
+use Rattle.sd_proof_bound.specs.Recovering.{steps_under}
+use Rattle.sd_proof_bound.specs.Steady.{RecoversSteadily}
 use Rattle.sd_proof_bound.proofs.Composing.{tail_steps, tail_history}
 use Rattle.sd_proof_bound.proofs.histories.Plain.{IsPlain, tail_plain, none_any, not_in_window, none_closed, first_epoch, plan_is}
 use Rattle.sd_proof_bound.proofs.histories.Failures.{fails_within, all_within, era_within, never_failed}
@@ -86,15 +86,15 @@ each_one P x holds_ zero y is = subst P (some_is is) holds_
 each_one P x holds_ (suc i) y is = cc
 
 module _ (net : Network) (plan : Plan) (budget : Budget) (f : DomainId) (stays : StaysInvariant (alone net plan)) (whole_ : List Event)
-    (run : Recovers net plan budget f whole_) where
-  pub fair : IsFair (alone net plan)
-  fair = record { network = run.network; some_plan = omega arith; fit = each_one _ plan run.fits; accepted = each_one _ plan run.accepted }
+    (run : RecoversSteadily net plan budget f whole_) where
+  pub fair : AreGuarded (alone net plan)
+  fair = record { network = run.network; some_plan = omega arith; fit = each_one _ plan run.fits; guarded = each_one _ plan run.guarded }
 
-  pub clean : (history : List Event) → Tail history whole_ → IsClean (alone net plan) history
+  pub clean : (history : List Event) → Tail history whole_ → IsSteady (alone net plan) history
   clean history t =
       record {
         is = tail_history (alone net plan) t run.is;
-        premises = all_hold_before (alone net plan) (steps_under net plan history) (steps_under net plan whole_) (tail_steps (alone net plan) t) run.premises;
+        premises = all_but_start_before (alone net plan) (steps_under net plan history) (steps_under net plan whole_) (tail_steps (alone net plan) t) run.premises;
       }
 
   pub plain : (history : List Event) → Tail history whole_ → IsPlain (alone net plan) history

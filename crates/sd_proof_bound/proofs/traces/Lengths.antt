@@ -225,7 +225,7 @@ module _ (setting : Setting) (history : List Event) (e : Event) (calm : ℕ) (se
           let c : Came setting (failed_now (chronicle setting history)) to x y = late_.came_ in
           let here : moved to.earlier y ≡ false = unmoved y (or_left (nat_eq y y) _ (eq-eqb y y refl)) late_.other c.well in
           let fine : IsSound setting.net plan = fine_at setting history e calm settled to to_in to_late in
-          let forest : IsForest setting.net plan = forest_of setting.net plan fine.fits fine.accepted.structure in
+          let forest : IsForest setting.net plan = forest_of setting.net plan fine.fits fine.guarded.structure in
           let primary : primary_of plan y ≡ Some c.hop = subst (λ b. hop_on plan b y ≡ Some c.hop) here c.is in
           let up : IsStep setting.net plan y c.hop = forest.up y c.hop c.well.known primary in
           longer first from to m (length (walk setting.net plan c.hop.parent)) (length hs) (ap length (sym is ∙ up.walk)) late_.goes

@@ -26,7 +26,7 @@ use Rattle.sd_proof_safety.specs.History.World.{Setting, is_up, plan_numbered}
 use Rattle.sd_proof_safety.specs.History.Steps.{seen_of, acts_in}
 use Rattle.sd_proof_safety.specs.History.Chronicle.{past_in, chronicle}
 use Rattle.sd_proof_safety.proofs.History.Given.{some_is}
-use Rattle.sd_proof_safety.proofs.History.Known.{up_is_known}
+use Rattle.sd_proof_safety.proofs.History.Known.{admitted_up_is_known}
 use Rattle.sd_proof_safety.specs.invariant.Eras.{era, is_among, failed_now, moved}
 use Rattle.sd_proof_safety.proofs.invariant.Facts.{IsSound}
 use Rattle.sd_proof_safety.specs.messages.Moments.{IsChronicle, Moment, upto, when, IsIn, Accepts, entering, following}
@@ -103,7 +103,7 @@ module _ (setting : Setting) (history : List Event) (e : Event) (calm : ℕ) (se
   abbrev failed : List Thing
   failed = failed_now (chronicle setting history)
 
-  -- the plan of the run is accepted
+  -- the plan of the run is guarded
   pub fine_at : (q : Moment) → IsIn q (chronicle setting (e ∷ history)) → calm < when q → IsSound setting.net (plan_numbered setting 1)
   fine_at q here late =
       let st : StageAt setting calm (chronicle setting history) q = stage_at setting history e calm settled q here late in
@@ -115,7 +115,7 @@ module _ (setting : Setting) (history : List Event) (e : Event) (calm : ℕ) (se
       → d < length setting.net.devices
   known_at q here late d up =
       let st : StageAt setting calm (chronicle setting history) q = stage_at setting history e calm settled q here late in
-      up_is_known setting (st.x ∷ st.h) st.settled.comes.clean.is.0 d (subst (λ (p : Moment). is_up (seen_of p.earlier) d ≡ true) st.is up)
+      admitted_up_is_known setting (st.x ∷ st.h) st.settled.comes.clean.is.0 d (subst (λ (p : Moment). is_up (seen_of p.earlier) d ≡ true) st.is up)
 
   -- nothing is given
   none_ahead : (q : Moment) → IsIn q (chronicle setting (e ∷ history)) → calm < when q → (d : ℕ) → is_up (seen_of q.earlier) d ≡ true → (past : Past)

@@ -1,6 +1,6 @@
 -- A device that acts at each event later than a reference feeds others from then on: it sent at most P ago, nothing breaks its acting, what it emits is of
 -- the plan, and none emits a newer term.
-use Rattle.std.specs.Prelude.{◌≡◌, ℕ, ◌+◌, ◌-◌, ◌<◌, ◌≤◌, true, false, List, ◌∷◌, Option, Some}
+use Rattle.std.specs.Prelude.{◌≡◌, ℕ, ◌+◌, ◌<◌, ◌≤◌, true, false, List, ◌∷◌, Option, Some}
 use Rattle.std.proofs.Common.{arith, ap, sym, ◌∙◌, subst, inl}
 use Rattle.std.proofs.lemmas.Bool.{false_from_ne_true}
 use Rattle.sd_drill.specs.Num.Lists.{map_or}
@@ -16,7 +16,7 @@ use Rattle.sd_proof_safety.specs.History.World.{Setting, makes, plan_numbered}
 use Rattle.sd_proof_safety.specs.History.Steps.{Calls, Step, seen_of, acts_in}
 use Rattle.sd_proof_safety.specs.History.Chronicle.{past_in, chronicle, next_step}
 use Rattle.sd_proof_safety.proofs.History.Given.{some_is}
-use Rattle.sd_proof_safety.proofs.History.Parts.{AllHold, premises_of}
+use Rattle.sd_proof_safety.proofs.invariant.Parts.{AllButStart, premises_of}
 use Rattle.sd_proof_safety.specs.invariant.Eras.{era, failed_now, sent_at}
 use Rattle.sd_proof_safety.proofs.invariant.Sides.{not_both}
 use Rattle.sd_proof_safety.specs.messages.Moments.{Tail, whole, behind, Moment, upto, when, IsIn, IsBefore, Emits}
@@ -127,7 +127,7 @@ module _ (setting : Setting) (x : Event) (h : List Event) (e : Event) (calm : �
 
   pub feeds : Feeds setting (top_of setting (x ∷ h) e) y s0 1
   feeds =
-      let premises : AllHold setting (seen_of (chronicle setting (e ∷ x ∷ h))) =
+      let premises : AllButStart setting (seen_of (chronicle setting (e ∷ x ∷ h))) =
       premises_of setting (seen_of (chronicle setting (e ∷ x ∷ h))) settled.comes.clean.premises in
       record {
         source = record { chronicle_ = all_chronicle setting (x ∷ h) e calm settled; renew = premises.renew; soon = soon_then; stays = stays_then };
@@ -135,7 +135,7 @@ module _ (setting : Setting) (x : Event) (h : List Event) (e : Event) (calm : �
         loss = premises.loss;
         life = terms.life;
         spacing = emissions_are_apart setting (x ∷ h) (before setting e (x ∷ h) (times setting x h e settled.comes));
-        rule = apart_by_rule setting.net (plan_numbered setting (era (chronicle setting (x ∷ h)))) (sound setting x h e settled.comes).accepted.timing;
+        rule = apart_by_rule setting.net (plan_numbered setting (era (chronicle setting (x ∷ h)))) (sound setting x h e settled.comes).guarded.timing;
         epoch_is = λ p here late m emits.
             let s = emits.sends in
             (sends_own s.past s.call m s.effect).1 ∙ emission_keeps s.past s.call emits.emission ∙ epoch_then p (behind here) late s.past s.there;

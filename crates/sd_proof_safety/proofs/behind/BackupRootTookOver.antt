@@ -21,11 +21,13 @@ use Rattle.sd_history.specs.Steps.{Act, Makes, Calls, Asks, Passes, Step, seen_o
 use Rattle.sd_history.specs.Chronicle.{past_in, past_after, new_past, chronicle, next_step}
 use Rattle.sd_history.proofs.Among.{first}
 use Rattle.sd_history.proofs.Given.{some_is, takes_given}
+use Rattle.sd_history.proofs.Shared.{epoch_kept}
 use Rattle.sd_proof_safety.specs.invariant.Bounds.{depth, delay, tick_gap, second_up}
 use Rattle.sd_proof_safety.specs.invariant.Eras.{era, plan_now, failed_now, is_old, moved, on_primary, on_backup, live_past, first_failure, all_started, late, root_failed, moved_at, latest_such, does, did_by, device_failed_now, touches, is_among, belongs}
 use Rattle.sd_proof_safety.specs.invariant.Clauses.{backup_root_acts}
 use Rattle.sd_proof_safety.specs.invariant.Invariant.{Invariant, AtEach}
-use Rattle.sd_proof_safety.specs.invariant.Coming.{IsFair, IsClean, IsNextEvent, AtNext}
+use Rattle.sd_proof_safety.specs.invariant.Guarded.{AreGuarded, IsSteady}
+use Rattle.sd_proof_safety.specs.invariant.Coming.{IsNextEvent, AtNext}
 use Rattle.sd_proof_safety.proofs.invariant.Prefix.{clean_before}
 use Rattle.sd_proof_safety.proofs.invariant.Sides.{implied, not_both}
 use Rattle.sd_proof_safety.specs.timers.Times.{AreTimed, makes_device}
@@ -36,7 +38,6 @@ use Rattle.sd_proof_safety.proofs.timers.Histories.{timely, timed}
 use Rattle.sd_proof_safety.proofs.waits.Waits.{Stands, old_stands}
 use Rattle.sd_proof_safety.specs.behind.Pieces.{HearsNoMore}
 use Rattle.sd_proof_safety.specs.behind.Feeding.{TookOverSoon, takes_over, took_over_at}
-use Rattle.sd_proof_safety.proofs.waits.LeastWaits.{epoch_kept}
 use Rattle.sd_proof_safety.proofs.behind.EraSums.{late_since}
 use Rattle.sd_proof_safety.proofs.behind.Failing.{some_failed}
 use Rattle.sd_proof_safety.proofs.invariant.Facts.{IsSound, sound_now}
@@ -158,7 +159,7 @@ made_still net plan epoch d (Started duty counter clock eps) root backup has act
     both_ways (is_acting (new_past (Started duty counter clock eps)))
     (ap (λ (u : Duty). (elim u.role [ role.Root ↦ true | _ ↦ false ]) || false) (some_is has) ∙ (rw (root, backup) refl)) acts
 
-module _ (setting : Setting) (fair : IsFair setting) (no_more : AtNext HearsNoMore setting) where
+module _ (setting : Setting) (fair : AreGuarded setting) (no_more : AtNext HearsNoMore setting) where
   abbrev Soon : List Event → Plan → Type 0
   Soon history pl =
       (moved (chronicle setting history) pl.backup_root ≡ true)
@@ -171,7 +172,7 @@ module _ (setting : Setting) (fair : IsFair setting) (no_more : AtNext HearsNoMo
   abbrev Says : List Event → Plan → Type 0
   Says history pl = is_old (chronicle setting history) pl.backup_root ≡ true → acts_in (chronicle setting history) pl.backup_root ≡ true → Soon history pl
 
-  module _ (e : Event) (h : List Event) (clean : IsClean setting (e ∷ h)) (each : AtEach (Invariant setting) (chronicle setting (e ∷ h)))
+  module _ (e : Event) (h : List Event) (clean : IsSteady setting (e ∷ h)) (each : AtEach (Invariant setting) (chronicle setting (e ∷ h)))
       (earlier : Says h (plan_now setting (chronicle setting h)))
       (old : is_old (chronicle setting (e ∷ h)) (plan_now setting (chronicle setting (e ∷ h))).backup_root ≡ true)
       (acts : acts_in (chronicle setting (e ∷ h)) (plan_now setting (chronicle setting (e ∷ h))).backup_root ≡ true) where
@@ -345,7 +346,7 @@ module _ (setting : Setting) (fair : IsFair setting) (no_more : AtNext HearsNoMo
     next_too : Soon (e ∷ h) plan
     next_too = by_closed s.closed refl
 
-  soon : (history : List Event) → IsClean setting history → AtEach (Invariant setting) (chronicle setting history)
+  soon : (history : List Event) → IsSteady setting history → AtEach (Invariant setting) (chronicle setting history)
       → Says history (plan_now setting (chronicle setting history))
   soon [] clean each old acts = cc
   soon (e ∷ h) clean each old acts = next_too e h clean each (soon h (clean_before setting e h clean) each.0) old acts

@@ -1,7 +1,7 @@
 -- When the path of the backup root broke, and when the root failed, against what an old device behind it that is not hit heard last: the path not long after
 -- that, and
 -- so the root, where the backup root moved with no straggler before. And what is known of the backup root once its path broke, without a mend and with one.
-use Rattle.std.specs.Prelude.{◌≡◌, ℕ, ◌+◌, ◌*◌, ◌-◌, ◌<◌, ◌≤◌, Bool, true, false, List, [], ◌∷◌, max, nat_eq, nat_le, nat_lt, Option, Some, None, refl, ◌⊎◌}
+use Rattle.std.specs.Prelude.{◌≡◌, ℕ, ◌+◌, ◌*◌, ◌<◌, ◌≤◌, Bool, true, false, List, [], ◌∷◌, max, nat_eq, nat_le, nat_lt, Option, Some, None, refl, ◌⊎◌}
 use Rattle.std.proofs.Common.{arith, ◌∙◌, ap, sym, subst, inl, inr}
 use Rattle.std.proofs.lemmas.Bool.{leb-true, leb-false, ltb-true, ltb-false, false_from_ne_true, false≢true}
 use Rattle.sd_checker.specs.Num.Lists.{map_or, same_number}

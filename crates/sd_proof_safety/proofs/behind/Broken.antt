@@ -19,17 +19,18 @@ use Rattle.sd_history.specs.Steps.{Step, seen_of, acts_in, epoch_in, has_settled
 use Rattle.sd_history.specs.Chronicle.{chronicle, next_step}
 use Rattle.sd_history.specs.Premises.{failures_since_closing}
 use Rattle.sd_history.proofs.Given.{some_is}
+use Rattle.sd_history.proofs.Shared.{epoch_kept}
 use Rattle.sd_proof_safety.specs.invariant.Bounds.{depth, delay, tick_gap, first_up}
 use Rattle.sd_proof_safety.specs.invariant.Eras.{era, plan_now, failed_now, is_among, touches, first_failure, beginning, all_started, late, is_old, moved, on_primary, live_past, moved_at, belongs}
 use Rattle.sd_proof_safety.specs.invariant.Invariant.{Invariant, AtEach}
-use Rattle.sd_proof_safety.specs.invariant.Coming.{IsFair, IsClean, IsNextEvent, AtNext}
+use Rattle.sd_proof_safety.specs.invariant.Guarded.{AreGuarded, IsSteady}
+use Rattle.sd_proof_safety.specs.invariant.Coming.{IsNextEvent, AtNext}
 use Rattle.sd_proof_safety.proofs.invariant.Prefix.{Passing, some_passing, any_passing, clean_before}
 use Rattle.sd_proof_safety.proofs.invariant.Sides.{implied}
 use Rattle.sd_proof_safety.specs.timers.Times.{AreTimed}
 use Rattle.sd_proof_safety.proofs.timers.Histories.{timely, timed}
 use Rattle.sd_proof_safety.specs.behind.Pieces.{SealsSoon}
 use Rattle.sd_proof_safety.specs.behind.Feeding.{mended_now, PathHearsNoMore}
-use Rattle.sd_proof_safety.proofs.waits.LeastWaits.{epoch_kept}
 use Rattle.sd_proof_safety.proofs.behind.EraSums.{late_since}
 use Rattle.sd_proof_safety.proofs.behind.Failing.{failed_grows, some_failed}
 use Rattle.sd_proof_safety.proofs.invariant.Facts.{IsSound, sound_now}
@@ -143,7 +144,7 @@ mended_before s seen open_ none =
 
 -- The move
 
-module _ (setting : Setting) (fair : IsFair setting) (seals : AtNext SealsSoon setting) (no_more : AtNext PathHearsNoMore setting) where
+module _ (setting : Setting) (fair : AreGuarded setting) (seals : AtNext SealsSoon setting) (no_more : AtNext PathHearsNoMore setting) where
   abbrev pub breaks_at : List Event → Plan → ℕ
   breaks_at history pl =
       late setting (chronicle setting history) (first_at (path setting.net pl pl.backup_root) (seen_of (chronicle setting history))) + depth setting.net * delay
@@ -156,7 +157,7 @@ module _ (setting : Setting) (fair : IsFair setting) (seals : AtNext SealsSoon s
       → mended_now (chronicle setting history) ≡ false
       → moved_at (chronicle setting history) pl.backup_root ≤ breaks_at history pl
 
-  module _ (e : Event) (h : List Event) (clean : IsClean setting (e ∷ h)) (each : AtEach (Invariant setting) (chronicle setting (e ∷ h)))
+  module _ (e : Event) (h : List Event) (clean : IsSteady setting (e ∷ h)) (each : AtEach (Invariant setting) (chronicle setting (e ∷ h)))
       (earlier : Says h (plan_now setting (chronicle setting h))) where
     abbrev plan : Plan
     plan = plan_now setting (chronicle setting (e ∷ h))
@@ -255,7 +256,7 @@ module _ (setting : Setting) (fair : IsFair setting) (seals : AtNext SealsSoon s
         by_closed true closed = absurd (at_closing closed put)
         by_closed false open_ = by_step open_ old put none (step_back setting e h b all_timed put)
 
-  pub moved_after_break : (history : List Event) → IsClean setting history → AtEach (Invariant setting) (chronicle setting history)
+  pub moved_after_break : (history : List Event) → IsSteady setting history → AtEach (Invariant setting) (chronicle setting history)
       → Says history (plan_now setting (chronicle setting history))
   moved_after_break [] clean each old put none = cc
   moved_after_break (e ∷ h) clean each old put none = next_too e h clean each (moved_after_break h (clean_before setting e h clean) each.0) old put none

@@ -17,13 +17,14 @@ use Rattle.sd_history.specs.Chronicle.{chronicle, next_step}
 use Rattle.sd_history.specs.Premises.{failures_since_closing}
 use Rattle.sd_history.proofs.Among.{Among}
 use Rattle.sd_history.proofs.Given.{some_is}
+use Rattle.sd_history.proofs.Shared.{epoch_kept}
 use Rattle.sd_proof_safety.specs.messages.Moments.{Tail, whole, behind}
 use Rattle.sd_proof_safety.specs.invariant.Eras.{is_among, first_failure}
 use Rattle.sd_proof_safety.specs.invariant.Invariant.{Invariant, AtEach}
-use Rattle.sd_proof_safety.specs.invariant.Coming.{IsFair, IsClean, IsNextEvent}
+use Rattle.sd_proof_safety.specs.invariant.Guarded.{AreGuarded, IsSteady}
+use Rattle.sd_proof_safety.specs.invariant.Coming.{IsNextEvent}
 use Rattle.sd_proof_safety.proofs.invariant.Prefix.{any_passing}
 use Rattle.sd_proof_safety.proofs.invariant.Sides.{not_both}
-use Rattle.sd_proof_safety.proofs.waits.LeastWaits.{epoch_kept}
 use Rattle.sd_proof_safety.proofs.receipts.Stood.{clean_of}
 
 -- Tails of a history
@@ -38,7 +39,7 @@ each_tail P setting older _ whole each = each
 each_tail P setting older _ (behind {xs = earlier} rest) each = each_tail P setting older earlier rest each.0
 
 -- what comes at an earlier event
-pub comes_at : (setting : Setting) (e : Event) (earlier history : List Event) → Tail (e ∷ earlier) history → IsFair setting → IsClean setting history
+pub comes_at : (setting : Setting) (e : Event) (earlier history : List Event) → Tail (e ∷ earlier) history → AreGuarded setting → IsSteady setting history
     → AtEach (Invariant setting) (chronicle setting history) → IsNextEvent setting earlier e
 comes_at setting e earlier history tail fair clean each =
     record {

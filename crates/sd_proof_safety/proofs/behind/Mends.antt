@@ -12,10 +12,11 @@ use Rattle.sd_history.specs.Sched.Events.{reference_of, given, joined, is_stage,
 use Rattle.sd_history.specs.Things.{failure_of, mended}
 use Rattle.sd_history.specs.World.{Setting, Seen, fails, window, has_commit}
 use Rattle.sd_history.specs.Steps.{seen_of}
-use Rattle.sd_history.specs.Chronicle.{chronicle, next_step, IsHistory}
+use Rattle.sd_history.specs.Chronicle.{chronicle, next_step}
+use Rattle.sd_history.specs.Admitted.{IsAdmitted}
 use Rattle.sd_history.specs.Premises.{failures_since_closing, has_mend}
 use Rattle.sd_proof_safety.specs.invariant.Eras.{first_failure}
-use Rattle.sd_proof_safety.specs.invariant.Coming.{IsClean}
+use Rattle.sd_proof_safety.specs.invariant.Guarded.{IsSteady}
 use Rattle.sd_proof_safety.proofs.invariant.Orders.{orderly, renews}
 use Rattle.sd_proof_safety.specs.behind.Feeding.{mended_now}
 use Rattle.sd_proof_safety.proofs.windows.Eras.{stages_shut}
@@ -50,7 +51,7 @@ lift s w open_ is =
     (list_any (λ (x : Seen). is_some (mended x.event)))) open_ ∙ is
 
 -- what was mended in the era was mended in the open window
-pub mended_in_window : (setting : Setting) (history : List Event) → IsHistory setting history → mended_now (chronicle setting history) ≡ true
+pub mended_in_window : (setting : Setting) (history : List Event) → IsAdmitted setting history → mended_now (chronicle setting history) ≡ true
     → has_mend (seen_of (chronicle setting history)) ≡ true
 mended_in_window setting [] is mended_ = cc
 mended_in_window setting (e ∷ h) is mended_ =
@@ -99,7 +100,7 @@ none_of None is = refl
 none_of (Some x) is = cc
 
 -- once something was mended in the era, the next event fails nothing
-pub fails_nothing : (setting : Setting) (e : Event) (h : List Event) → IsClean setting (e ∷ h) → mended_now (chronicle setting h) ≡ true → failure_of e ≡ None
+pub fails_nothing : (setting : Setting) (e : Event) (h : List Event) → IsSteady setting (e ∷ h) → mended_now (chronicle setting h) ≡ true → failure_of e ≡ None
 fails_nothing setting e h clean mended_ =
     none_of (failure_of e)
     (no_failure (is_some (failure_of e)) (has_mend (seen_of (chronicle setting h))) (has_commit (seen_of (chronicle setting h)))

@@ -17,10 +17,12 @@ use Rattle.sd_history.specs.World.{Setting, makes, fails, is_up, plan_numbered}
 use Rattle.sd_history.specs.Steps.{Act, Makes, Calls, Asks, Passes, Step, seen_of, acts_in, epoch_in, act_by, has_settled}
 use Rattle.sd_history.specs.Chronicle.{past_in, past_after, new_past, chronicle, next_step}
 use Rattle.sd_history.proofs.Given.{some_is}
+use Rattle.sd_history.proofs.Shared.{epoch_kept}
 use Rattle.sd_proof_safety.specs.invariant.Bounds.{tick_gap, first_up, second_up}
 use Rattle.sd_proof_safety.specs.invariant.Eras.{era, plan_now, is_old, moved, on_primary, on_backup, live_past, heard_at, moved_at, silent_for, rests_for, belongs}
 use Rattle.sd_proof_safety.specs.invariant.Invariant.{Invariant, AtEach}
-use Rattle.sd_proof_safety.specs.invariant.Coming.{IsFair, IsClean, IsNextEvent, AtNext}
+use Rattle.sd_proof_safety.specs.invariant.Guarded.{AreGuarded, IsSteady}
+use Rattle.sd_proof_safety.specs.invariant.Coming.{IsNextEvent, AtNext}
 use Rattle.sd_proof_safety.proofs.invariant.Prefix.{clean_before}
 use Rattle.sd_proof_safety.proofs.invariant.Sides.{implied, not_both}
 use Rattle.sd_proof_safety.specs.timers.Times.{AreTimed, did_by, makes_device, reference_after, moves, moved_in}
@@ -33,7 +35,6 @@ use Rattle.sd_proof_safety.proofs.waits.SameReferences.{moved_is}
 use Rattle.sd_proof_safety.proofs.waits.Waits.{Stands, old_stands, backup_root_silence, backup_root_rest}
 use Rattle.sd_proof_safety.proofs.waits.LookingBack.{Live, stands_by, all_three}
 use Rattle.sd_proof_safety.specs.behind.Pieces.{SealsSoon}
-use Rattle.sd_proof_safety.proofs.waits.LeastWaits.{epoch_kept}
 use Rattle.sd_proof_safety.proofs.invariant.Facts.{IsSound, sound_now}
 use Rattle.sd_proof_safety.proofs.behind.BeforeFailure.{heard_rises}
 use Rattle.sd_proof_safety.proofs.moves.Ahead.{up_since}
@@ -188,14 +189,14 @@ stands_so setting history d past up there =
       epoch_is = l.epoch_is ∙ ap (λ q. Some (map_or (duty_now q) 0 (λ v. v.epoch))) same;
     }
 
-module _ (setting : Setting) (fair : IsFair setting) (seals : AtNext SealsSoon setting) where
+module _ (setting : Setting) (fair : AreGuarded setting) (seals : AtNext SealsSoon setting) where
   abbrev Says : List Event → Type 0
   Says history =
       let steps : List Step = chronicle setting history in
       let b : ℕ = (plan_now setting steps).backup_root in
       is_old steps b ≡ true → moved steps b ≡ true → moved_at steps b ≤ heard_at steps b + first_up setting.net (plan_now setting steps) + tick_gap setting.net
 
-  module _ (e : Event) (h : List Event) (clean : IsClean setting (e ∷ h)) (each : AtEach (Invariant setting) (chronicle setting (e ∷ h)))
+  module _ (e : Event) (h : List Event) (clean : IsSteady setting (e ∷ h)) (each : AtEach (Invariant setting) (chronicle setting (e ∷ h)))
       (earlier : Says h) where
     s : Step
     s = next_step setting (chronicle setting h) e
@@ -297,6 +298,6 @@ module _ (setting : Setting) (fair : IsFair setting) (seals : AtNext SealsSoon s
         by_closed true closed = absurd (at_closing closed put)
         by_closed false open_ = in_era open_ old put
 
-  pub moved_soon : (history : List Event) → IsClean setting history → AtEach (Invariant setting) (chronicle setting history) → Says history
+  pub moved_soon : (history : List Event) → IsSteady setting history → AtEach (Invariant setting) (chronicle setting history) → Says history
   moved_soon [] clean each old put = cc
   moved_soon (e ∷ h) clean each old put = next_too e h clean each (moved_soon h (clean_before setting e h clean) each.0) old put

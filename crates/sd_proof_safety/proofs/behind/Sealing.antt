@@ -20,10 +20,12 @@ use Rattle.sd_history.specs.World.{Setting, Seen, makes, fails, is_up, latest_re
 use Rattle.sd_history.specs.Steps.{Act, Makes, Calls, Asks, Passes, Step, seen_of, act_by, acts_in, epoch_in, has_settled, live_answers, Answers}
 use Rattle.sd_history.specs.Chronicle.{past_in, past_after, new_past, chronicle, next_step, answers_by}
 use Rattle.sd_history.proofs.Given.{some_is, takes_given}
+use Rattle.sd_history.proofs.Shared.{epoch_kept}
 use Rattle.sd_proof_safety.specs.invariant.Bounds.{first_low, first_up}
 use Rattle.sd_proof_safety.specs.invariant.Eras.{era, plan_now, is_old, moved, on_primary, live_past, heard_at, belongs}
 use Rattle.sd_proof_safety.specs.invariant.Invariant.{Invariant, AtEach}
-use Rattle.sd_proof_safety.specs.invariant.Coming.{IsFair, IsClean, AtNext}
+use Rattle.sd_proof_safety.specs.invariant.Guarded.{AreGuarded, IsSteady}
+use Rattle.sd_proof_safety.specs.invariant.Coming.{AtNext}
 use Rattle.sd_proof_safety.proofs.invariant.Parents.{live_is}
 use Rattle.sd_proof_safety.proofs.invariant.Prefix.{clean_before}
 use Rattle.sd_proof_safety.proofs.invariant.Sides.{implied}
@@ -36,7 +38,6 @@ use Rattle.sd_proof_safety.proofs.timers.Histories.{timely, timed}
 use Rattle.sd_proof_safety.proofs.waits.SameReferences.{heard_is}
 use Rattle.sd_proof_safety.proofs.waits.Waits.{Stands, old_stands}
 use Rattle.sd_proof_safety.specs.behind.Pieces.{SealsSoon}
-use Rattle.sd_proof_safety.proofs.waits.LeastWaits.{epoch_kept}
 use Rattle.sd_proof_safety.proofs.invariant.Facts.{IsSound, sound_now}
 use Rattle.sd_proof_safety.proofs.behind.BeforeFailure.{heard_rises}
 use Rattle.sd_proof_safety.proofs.behind.Moved.{StandsBy, stands_so, not_root}
@@ -147,7 +148,7 @@ begun true false acts false short c r = cc
 begun true true acts primary short c r = cc
 begun false root acts primary short c r = cc
 
-module _ (setting : Setting) (fair : IsFair setting) where
+module _ (setting : Setting) (fair : AreGuarded setting) where
   abbrev Sealed : List Event → Plan → Type 0
   Sealed history pl =
       (q : ℕ) × (sealed_in (chronicle setting history) pl.backup_root ≡ Some q)
@@ -156,7 +157,7 @@ module _ (setting : Setting) (fair : IsFair setting) where
   abbrev Says : List Event → Plan → Type 0
   Says history pl = is_old (chronicle setting history) pl.backup_root ≡ true → on_primary (chronicle setting history) pl.backup_root ≡ true → Sealed history pl
 
-  module _ (e : Event) (h : List Event) (clean : IsClean setting (e ∷ h)) (each : AtEach (Invariant setting) (chronicle setting (e ∷ h)))
+  module _ (e : Event) (h : List Event) (clean : IsSteady setting (e ∷ h)) (each : AtEach (Invariant setting) (chronicle setting (e ∷ h)))
       (earlier : Says h (plan_now setting (chronicle setting h)))
       (old : is_old (chronicle setting (e ∷ h)) (plan_now setting (chronicle setting (e ∷ h))).backup_root ≡ true)
       (primary : on_primary (chronicle setting (e ∷ h)) (plan_now setting (chronicle setting (e ∷ h))).backup_root ≡ true) where
@@ -247,7 +248,7 @@ module _ (setting : Setting) (fair : IsFair setting) where
     next_too : Sealed (e ∷ h) plan
     next_too = by_closed s.closed refl
 
-  seals : (history : List Event) → IsClean setting history → AtEach (Invariant setting) (chronicle setting history)
+  seals : (history : List Event) → IsSteady setting history → AtEach (Invariant setting) (chronicle setting history)
       → Says history (plan_now setting (chronicle setting history))
   seals [] clean each old primary = cc
   seals (e ∷ h) clean each old primary = next_too e h clean each (seals h (clean_before setting e h clean) each.0) old primary

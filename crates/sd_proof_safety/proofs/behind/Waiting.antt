@@ -1,4 +1,4 @@
--- In each clean history over accepted plans with the invariant at each event: a device that is new has no duty waiting, and one of the plan in force that is up
+-- In each steady history over guarded plans with the invariant at each event: a device that is new has no duty waiting, and one of the plan in force that is up
 -- has none waiting but of the staged plan.
 use Rattle.std.specs.Prelude.{◌≡◌, ℕ, ◌+◌, Bool, true, false, ◌&&◌, ◌||◌, not, List, [], ◌∷◌, cond, count_by, nat_eq, Option, Some, None, is_some, option_map, refl, if◌then◌else◌}
 use Rattle.std.specs.List.{list_any}
@@ -17,15 +17,15 @@ use Rattle.sd_history.specs.World.{Setting, Seen, makes, fails, is_up, has_commi
 use Rattle.sd_history.specs.Steps.{Step, seen_of, act_by, epoch_in, has_settled, live_answers, Answers}
 use Rattle.sd_history.specs.Chronicle.{past_in, chronicle, next_step}
 use Rattle.sd_history.proofs.Given.{some_is}
+use Rattle.sd_history.proofs.Shared.{epoch_kept}
 use Rattle.sd_proof_safety.specs.invariant.Eras.{era, plan_now, is_new, belongs}
 use Rattle.sd_proof_safety.specs.invariant.Invariant.{Invariant, AtEach}
-use Rattle.sd_proof_safety.specs.invariant.Coming.{IsFair, IsClean}
+use Rattle.sd_proof_safety.specs.invariant.Guarded.{AreGuarded, IsSteady}
 use Rattle.sd_proof_safety.proofs.invariant.Prefix.{clean_before}
 use Rattle.sd_proof_safety.proofs.invariant.Orders.{orderly}
 use Rattle.sd_proof_safety.proofs.invariant.Sides.{implied, not_both}
 use Rattle.sd_proof_safety.specs.timers.Times.{AreTimed, makes_device}
 use Rattle.sd_proof_safety.proofs.timers.Histories.{timely, timed}
-use Rattle.sd_proof_safety.proofs.waits.LeastWaits.{epoch_kept}
 use Rattle.sd_proof_safety.proofs.behind.Moved.{StandsBy, stands_so}
 use Rattle.sd_proof_safety.proofs.behind.WaitingDuties.{is_give, GivenCourse, fresh, kept, gave, given_course}
 use Rattle.sd_proof_safety.proofs.moves.Ahead.{up_since}
@@ -73,12 +73,12 @@ settled_epoch setting history d n past up there settled =
     go (Some a) is h =
         some_is (sym st.epoch_is ∙ ap (option_map (λ x. x.epoch)) is) ∙ eqb-true a.epoch n (and_parts (nat_eq a.epoch n) a.sealed h).0
 
-module _ (setting : Setting) (fair : IsFair setting) where
+module _ (setting : Setting) (fair : AreGuarded setting) where
   abbrev Says : List Event → Type 0
   Says history = (d : ℕ) (past : Past) → is_up (seen_of (chronicle setting history)) d ≡ true → past_in (chronicle setting history) d ≡ Some past
       → HasWaiting setting history d past
 
-  module _ (e : Event) (h : List Event) (clean : IsClean setting (e ∷ h)) (each : AtEach (Invariant setting) (chronicle setting (e ∷ h))) (earlier : Says h)
+  module _ (e : Event) (h : List Event) (clean : IsSteady setting (e ∷ h)) (each : AtEach (Invariant setting) (chronicle setting (e ∷ h))) (earlier : Says h)
       (no_give : (d : ℕ) → is_new (chronicle setting h) d ≡ true → is_some (given e) ≡ true → ⊥) (d : ℕ) (past : Past)
       (up : is_up (seen_of (chronicle setting (e ∷ h))) d ≡ true) (there : past_in (chronicle setting (e ∷ h)) d ≡ Some past) where
     abbrev s : Seen
@@ -158,7 +158,7 @@ module _ (setting : Setting) (fair : IsFair setting) where
     next_too : HasWaiting setting (e ∷ h) d past
     next_too = by_closed s.closed refl
 
-  no_give_by : (e : Event) (h : List Event) → IsClean setting (e ∷ h) → AtEach (Invariant setting) (chronicle setting h) → (d : ℕ)
+  no_give_by : (e : Event) (h : List Event) → IsSteady setting (e ∷ h) → AtEach (Invariant setting) (chronicle setting h) → (d : ℕ)
       → is_new (chronicle setting h) d ≡ true → is_some (given e) ≡ true → ⊥
   no_give_by e [] clean each d new gives = cc
   no_give_by e (x ∷ h) clean each d new gives =
@@ -171,7 +171,7 @@ module _ (setting : Setting) (fair : IsFair setting) where
       committed true f = refl
       committed false f = absurd (not_both (not (is_new (chronicle setting (x ∷ h)) d)) (f refl) (ap not new))
 
-  pub waiting : (history : List Event) → IsClean setting history → AtEach (Invariant setting) (chronicle setting history) → Says history
+  pub waiting : (history : List Event) → IsSteady setting history → AtEach (Invariant setting) (chronicle setting history) → Says history
   waiting [] clean each d past up there = cc
   waiting (e ∷ h) clean each d past up there =
       next_too e h clean each (waiting h (clean_before setting e h clean) each.0) (no_give_by e h clean each.0) d past up there

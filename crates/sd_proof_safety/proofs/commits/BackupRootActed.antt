@@ -17,9 +17,10 @@ use Rattle.sd_history.specs.Steps.{Calls, Step, act_by, seen_of, acts_in, has_se
 use Rattle.sd_history.specs.Chronicle.{past_in, chronicle, next_step}
 use Rattle.sd_history.proofs.Given.{some_is}
 use Rattle.sd_history.proofs.Known.{up_case}
-use Rattle.sd_history.proofs.Parts.{premises_of}
+use Rattle.sd_proof_safety.proofs.invariant.Parts.{premises_of}
 use Rattle.sd_proof_safety.specs.invariant.Eras.{era, plan_now, belongs, on_primary, does, did_by, latest_such}
-use Rattle.sd_proof_safety.specs.invariant.Coming.{IsClean, IsNextEvent}
+use Rattle.sd_proof_safety.specs.invariant.Guarded.{IsSteady}
+use Rattle.sd_proof_safety.specs.invariant.Coming.{IsNextEvent}
 use Rattle.sd_proof_safety.proofs.invariant.Facts.{IsSound, sound_now}
 use Rattle.sd_proof_safety.proofs.invariant.Prefix.{clean_before}
 use Rattle.sd_proof_safety.proofs.invariant.Sides.{implied, not_both}
@@ -43,7 +44,7 @@ none_by s0 r false false before late le = (refl, refl)
 
 -- One event back
 
-module _ (setting : Setting) (x : Event) (h : List Event) (clean : IsClean setting (x ∷ h)) (a : ℕ) (actor : IsActor setting (chronicle setting (x ∷ h)) a)
+module _ (setting : Setting) (x : Event) (h : List Event) (clean : IsSteady setting (x ∷ h)) (a : ℕ) (actor : IsActor setting (chronicle setting (x ∷ h)) a)
     (makes_not : makes a x ≡ false)
     (takes_not : does takes_over (chronicle setting h) (next_step setting (chronicle setting h) x) a ≡ false) where
   abbrev here : Moment
@@ -120,7 +121,7 @@ acted_since setting (x ∷ h) e comes s0 b is actor took q (behind t) late =
     by_closed (λ before_ is' actor' took'. acted_since setting h x before_ s0 b is' actor' took' q t late)
     (next_step setting (chronicle setting h) x).seen.closed refl
   where
-    clean : IsClean setting (x ∷ h)
+    clean : IsSteady setting (x ∷ h)
     clean = clean_before setting e (x ∷ h) comes.clean
 
     less : s0 < reference_of x

@@ -15,10 +15,11 @@ use Rattle.sd_history.specs.Sched.Events.{reference_of}
 use Rattle.sd_history.specs.World.{Setting, has_commit, staged_epoch, is_staged_member, is_up, plan_numbered}
 use Rattle.sd_history.specs.Steps.{Step, seen_of, acts_in}
 use Rattle.sd_history.specs.Chronicle.{past_in, chronicle}
-use Rattle.sd_history.proofs.Known.{up_is_known}
+use Rattle.sd_history.proofs.Known.{admitted_up_is_known}
 use Rattle.sd_proof_safety.specs.invariant.Bounds.{losses, depth, delay, tick_gap, rounds_gap, first_low, first_up, second_low, second_up, wait_low, IsTimedBy}
 use Rattle.sd_proof_safety.specs.invariant.Clauses.{commit_at, staged_root}
-use Rattle.sd_proof_safety.specs.invariant.Coming.{IsClean, IsNextEvent, AtNext}
+use Rattle.sd_proof_safety.specs.invariant.Guarded.{IsSteady}
+use Rattle.sd_proof_safety.specs.invariant.Coming.{IsNextEvent, AtNext}
 use Rattle.sd_proof_safety.specs.invariant.Eras.{era, plan_now, failed_now, is_among, device_failed_now, is_old, is_new, is_ordinary, will_belong, hit, root_failed, all_started, beginning, heard_at, silent_for}
 use Rattle.sd_proof_safety.proofs.invariant.Facts.{IsSound}
 use Rattle.sd_proof_safety.proofs.invariant.Prefix.{any_passing}
@@ -119,7 +120,7 @@ module _ (setting : Setting) (longer : AtNext BehindWaitsLonger setting) (early_
         (first_low setting.net plan) (first_up setting.net plan) (second_low setting.net plan) (second_up setting.net plan) (wait_low setting.net plan)
     timed_ = (sound setting x h e comes).timed
 
-    clean_ : IsClean setting (x ∷ h)
+    clean_ : IsSteady setting (x ∷ h)
     clean_ = clean setting x h e comes
 
     all_timed : AreTimed setting (chronicle setting (x ∷ h))
@@ -158,7 +159,7 @@ module _ (setting : Setting) (longer : AtNext BehindWaitsLonger setting) (early_
       will : will_belong setting (chronicle setting (x ∷ h)) d ≡ true
       will =
           and_from (nat_lt d (length setting.net.devices)) (is_staged_member setting (seen_of steps) d)
-          (lt-ltb d (length setting.net.devices) (up_is_known setting (x ∷ h) comes.clean.is.0 d own.up))
+          (lt-ltb d (length setting.net.devices) (admitted_up_is_known setting (x ∷ h) comes.clean.is.0 d own.up))
           (sym (states.staged_member setting (x ∷ h) e comes commit d) ∙ staged)
 
       entering : reference_of e ≤ f.reference + (rounds_gap setting.net + depth setting.net * delay setting.net)
@@ -215,7 +216,7 @@ module _ (setting : Setting) (longer : AtNext BehindWaitsLonger setting) (early_
 
         -- the backup root did
         module _ (root : root_failed setting (chronicle setting f.earlier) ≡ true) where
-          clean_then : IsClean setting f.earlier
+          clean_then : IsSteady setting f.earlier
           clean_then = clean_of setting f.earlier (x ∷ h) (rest_of f.tail) clean_
 
           committer : IsActor setting (chronicle setting f.earlier) f.device

@@ -14,12 +14,11 @@ use Rattle.sd_history.specs.Sched.Events.{reference_of}
 use Rattle.sd_history.specs.World.{Setting}
 use Rattle.sd_history.specs.Steps.{Step}
 use Rattle.sd_history.specs.Chronicle.{chronicle}
-use Rattle.sd_history.proofs.Known.{up_is_known}
+use Rattle.sd_history.proofs.Known.{admitted_up_is_known}
 use Rattle.sd_proof_safety.specs.invariant.Bounds.{depth, delay, rounds_gap}
 use Rattle.sd_proof_safety.specs.invariant.Eras.{era, plan_now, failed_now, heard_at}
 use Rattle.sd_proof_safety.proofs.invariant.Facts.{IsSound}
 use Rattle.sd_proof_safety.proofs.invariant.Sides.{not_both}
-use Rattle.sd_proof_safety.specs.messages.Moments.{behind}
 use Rattle.sd_proof_safety.proofs.waits.Standing.{sound}
 use Rattle.sd_proof_safety.proofs.silences.SoundWays.{top_of, map_walks}
 use Rattle.sd_proof_safety.proofs.silences.WalkWays.{Walks, end_at, way_of, way_length, begins, walk_length}
@@ -56,7 +55,7 @@ module _ (setting : Setting) (x : Event) (h : List Event) (e : Event) (s0 : ℕ)
   own = spared setting x h e led.comes d st.old
 
   known : d < length setting.net.devices
-  known = up_is_known setting (x ∷ h) led.comes.clean.is.0 d own.up
+  known = admitted_up_is_known setting (x ∷ h) led.comes.clean.is.0 d own.up
 
   parts : (is_backup_root (plan_now setting (chronicle setting (x ∷ h))) d ≡ false)
       × (on_walk setting.net (plan_now setting (chronicle setting (x ∷ h))) d (plan_now setting (chronicle setting (x ∷ h))).backup_root ≡ true)

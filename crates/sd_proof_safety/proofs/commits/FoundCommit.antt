@@ -9,7 +9,7 @@ use Rattle.sd_history.specs.Steps.{Step, seen_of}
 use Rattle.sd_history.specs.Chronicle.{chronicle, next_step}
 use Rattle.sd_proof_safety.specs.invariant.Eras.{era}
 use Rattle.sd_proof_safety.specs.invariant.Clauses.{commit_at}
-use Rattle.sd_proof_safety.specs.invariant.Coming.{IsFair, IsClean}
+use Rattle.sd_proof_safety.specs.invariant.Guarded.{AreGuarded, IsSteady}
 use Rattle.sd_proof_safety.proofs.invariant.Prefix.{clean_before}
 use Rattle.sd_proof_safety.specs.messages.Moments.{Tail, whole, behind, Moment, IsIn}
 use Rattle.sd_proof_safety.proofs.messages.Tails.{history_chronicle}
@@ -32,8 +32,8 @@ pub record CommitOf (setting : Setting) (history : List Event) : Type 0 where
       → IsIn q (chronicle setting (event.Commit reference device counter ∷ earlier)) ⊎ (has_commit (seen_of q.earlier) ≡ true)
       × (era q.earlier ≡ era (chronicle setting history))
 
-module _ (setting : Setting) (fair : IsFair setting) where
-  here : (r d c : ℕ) (h : List Event) → IsClean setting (event.Commit r d c ∷ h)
+module _ (setting : Setting) (fair : AreGuarded setting) where
+  here : (r d c : ℕ) (h : List Event) → IsSteady setting (event.Commit r d c ∷ h)
       → (next_step setting (chronicle setting h) (event.Commit r d c)).seen.closed ≡ false → CommitOf setting (event.Commit r d c ∷ h)
   here r d c h clean open_ =
       record {
@@ -48,7 +48,7 @@ module _ (setting : Setting) (fair : IsFair setting) where
         place = λ q q_in. inl q_in;
       }
 
-  further : (x : Event) (h : List Event) → IsClean setting (x ∷ h) → (next_step setting (chronicle setting h) x).seen.closed ≡ false → is_stage x ≡ false
+  further : (x : Event) (h : List Event) → IsSteady setting (x ∷ h) → (next_step setting (chronicle setting h) x).seen.closed ≡ false → is_stage x ≡ false
       → is_commit x ≡ false → has_commit (seen_of (chronicle setting h)) ≡ true → CommitOf setting h
       → CommitOf setting (x ∷ h)
   further x h clean open_ unstaged uncommitted had f =
@@ -84,7 +84,7 @@ module _ (setting : Setting) (fair : IsFair setting) where
           by (inl inside) = inl inside
           by (inr since) = inr (since.0, since.1 ∙ kept)
 
-  by_event : (x : Event) (h : List Event) → IsClean setting (x ∷ h) → has_commit (seen_of (chronicle setting (x ∷ h))) ≡ true
+  by_event : (x : Event) (h : List Event) → IsSteady setting (x ∷ h) → has_commit (seen_of (chronicle setting (x ∷ h))) ≡ true
       → (next_step setting (chronicle setting h) x).seen.closed ≡ false → is_stage x ≡ false
       → (has_commit (seen_of (chronicle setting h)) ≡ true → CommitOf setting h) → (b : Bool) → is_commit x ≡ b → CommitOf setting (x ∷ h)
   by_event (event.Commit r d c) h clean commit open_ unstaged rest true is = here r d c h clean open_
@@ -94,7 +94,7 @@ module _ (setting : Setting) (fair : IsFair setting) where
       further x h clean open_ unstaged none had (rest had)
   by_event x h clean commit open_ unstaged rest true is = cc
 
-  pub commit_of : (history : List Event) → IsClean setting history → has_commit (seen_of (chronicle setting history)) ≡ true → CommitOf setting history
+  pub commit_of : (history : List Event) → IsSteady setting history → has_commit (seen_of (chronicle setting history)) ≡ true → CommitOf setting history
   commit_of [] clean commit = cc
   commit_of (x ∷ h) clean commit =
       let goes = goes_on (next_step setting (chronicle setting h) x).seen (next_step setting (chronicle setting h) x).seen.closed (is_stage x)

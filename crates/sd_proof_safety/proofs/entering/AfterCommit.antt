@@ -10,7 +10,7 @@ use Rattle.sd_history.specs.Steps.{Step, seen_of}
 use Rattle.sd_history.specs.Chronicle.{chronicle, next_step}
 use Rattle.sd_proof_safety.specs.invariant.Eras.{era}
 use Rattle.sd_proof_safety.specs.invariant.Clauses.{commit_at}
-use Rattle.sd_proof_safety.specs.invariant.Coming.{IsClean}
+use Rattle.sd_proof_safety.specs.invariant.Guarded.{IsSteady}
 use Rattle.sd_proof_safety.proofs.invariant.Prefix.{clean_before}
 use Rattle.sd_proof_safety.specs.messages.Moments.{Tail, whole, behind, IsChronicle, Moment, when, IsIn}
 use Rattle.sd_proof_safety.proofs.messages.Tails.{history_chronicle, no_later, step_time}
@@ -85,7 +85,7 @@ commit_no_later setting (x ∷ earlier) is =
     (commit_no_later setting earlier is.0) (step_time setting x earlier is)
 
 -- the commit of an open window stays the one that it is
-pub commit_at_stays : (setting : Setting) (older : List Step) (history : List Event) → IsClean setting history → Tail older (chronicle setting history)
+pub commit_at_stays : (setting : Setting) (older : List Step) (history : List Event) → IsSteady setting history → Tail older (chronicle setting history)
     → era (chronicle setting history) ≤ era older → has_commit (seen_of older) ≡ true
     → commit_at (chronicle setting history) ≡ commit_at older
 commit_at_stays setting _ [] clean whole le commit = refl

@@ -17,7 +17,8 @@ use Rattle.sd_proof_safety.specs.invariant.Bounds.{depth, delay, rounds_gap}
 use Rattle.sd_proof_safety.specs.invariant.Eras.{era, will_belong, is_new}
 use Rattle.sd_proof_safety.specs.invariant.Clauses.{commit_at}
 use Rattle.sd_proof_safety.specs.invariant.Invariant.{Invariant, AtEach}
-use Rattle.sd_proof_safety.specs.invariant.Coming.{IsFair, IsClean, AtNext}
+use Rattle.sd_proof_safety.specs.invariant.Guarded.{AreGuarded, IsSteady}
+use Rattle.sd_proof_safety.specs.invariant.Coming.{AtNext}
 use Rattle.sd_proof_safety.specs.invariant.Silences.{EntersSoon}
 use Rattle.sd_proof_safety.proofs.invariant.Opening.{gives}
 use Rattle.sd_proof_safety.proofs.invariant.Prefix.{clean_before}
@@ -43,7 +44,7 @@ reached_from true m n grows le = (refl, omega (arith, le))
 reached_from false m n grows le = absurd (omega (arith, grows, le))
 
 -- a new device stays new for the era
-pub new_on : (setting : Setting) (older : List Step) (d : ℕ) (history : List Event) → IsClean setting history → Tail older (chronicle setting history)
+pub new_on : (setting : Setting) (older : List Step) (d : ℕ) (history : List Event) → IsSteady setting history → Tail older (chronicle setting history)
     → era (chronicle setting history) ≤ era older → is_new older d ≡ true → is_new (chronicle setting history) d ≡ true
 new_on setting _ d [] clean whole le new = new
 new_on setting _ d (e ∷ history) clean whole le new = new
@@ -56,7 +57,7 @@ new_on setting older d (e ∷ history) clean (behind t) le new =
     (new_on setting older d history (clean_before setting e history clean) t (omega (arith, le, next)) new)
 
 -- a device that is up after a moment, with a past of the plan after the era's, is new: so it was then, since no device is of a later plan than the staged one
-pub new_from : (setting : Setting) (history : List Event) → IsFair setting → IsClean setting history → AtEach (Invariant setting) (chronicle setting history)
+pub new_from : (setting : Setting) (history : List Event) → AreGuarded setting → IsSteady setting history → AtEach (Invariant setting) (chronicle setting history)
     → (q : Moment) → IsIn q (chronicle setting history) → (d : ℕ) (past : Past)
     → is_up (seen_of (upto q)) d ≡ true → past_in (upto q) d ≡ Some past → epoch_now past ≡ era (chronicle setting history) + 1
     → is_new (chronicle setting history) d ≡ true
@@ -77,7 +78,7 @@ new_from setting (x ∷ h) fair clean each q here d past up there epoch =
     new_on setting after_ d (x ∷ h) clean tail least (new_by_past setting (st.e ∷ st.h) d own)
 
 -- a device that accepted a message of the plan after the era's is new
-pub hearer_new : (setting : Setting) (history : List Event) → IsFair setting → IsClean setting history → AtEach (Invariant setting) (chronicle setting history)
+pub hearer_new : (setting : Setting) (history : List Event) → AreGuarded setting → IsSteady setting history → AtEach (Invariant setting) (chronicle setting history)
     → (q : Moment) → IsIn q (chronicle setting history) → (stamp : Stamp) (d link : ℕ)
     → Hears stamp (era (chronicle setting history) + 1) q d link → is_new (chronicle setting history) d ≡ true
 hearer_new setting [] fair clean each q here stamp d link hears = elim here [ ]

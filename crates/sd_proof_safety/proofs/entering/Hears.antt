@@ -12,12 +12,13 @@ use Rattle.sd_history.specs.Sched.Events.{reference_of}
 use Rattle.sd_history.specs.World.{Setting, has_commit, staged_epoch}
 use Rattle.sd_history.specs.Steps.{Step, seen_of, acts_in, parent_in}
 use Rattle.sd_history.specs.Chronicle.{past_in, chronicle}
-use Rattle.sd_history.proofs.Known.{up_is_known}
+use Rattle.sd_history.proofs.Known.{admitted_up_is_known}
 use Rattle.sd_proof_safety.specs.invariant.Bounds.{depth, delay, rounds_gap}
 use Rattle.sd_proof_safety.specs.invariant.Eras.{era, is_new, on_primary, moved, live_past, heard_at, silent_for}
 use Rattle.sd_proof_safety.specs.invariant.Clauses.{commit_at, staged_root}
 use Rattle.sd_proof_safety.specs.invariant.Invariant.{Core, Invariant, AtEach}
-use Rattle.sd_proof_safety.specs.invariant.Coming.{IsClean, IsNextEvent, AtNext}
+use Rattle.sd_proof_safety.specs.invariant.Guarded.{IsSteady}
+use Rattle.sd_proof_safety.specs.invariant.Coming.{IsNextEvent, AtNext}
 use Rattle.sd_proof_safety.specs.invariant.Silences.{NewHears}
 use Rattle.sd_proof_safety.proofs.invariant.Prefix.{clean_before}
 use Rattle.sd_proof_safety.proofs.invariant.Sides.{implied, not_both}
@@ -59,7 +60,7 @@ module _ (setting : Setting) (history : List Event) (e : Event) (comes : IsNextE
   abbrev steps : List Step
   steps = chronicle setting history
 
-  clean : IsClean setting history
+  clean : IsSteady setting history
   clean = clean_before setting e history comes.clean
 
   core : Core setting (chronicle setting history)
@@ -96,7 +97,7 @@ module _ (setting : Setting) (history : List Event) (e : Event) (comes : IsNextE
           → commit_at (chronicle setting history) ≤ heard_at (chronicle setting history) d
       at q inside time past there epoch = by history clean comes.before inside
         where
-          by : (hs : List Event) → IsClean setting hs → AtEach (Invariant setting) (chronicle setting hs) → IsIn q (chronicle setting hs)
+          by : (hs : List Event) → IsSteady setting hs → AtEach (Invariant setting) (chronicle setting hs) → IsIn q (chronicle setting hs)
               → commit_at (chronicle setting history) ≤ heard_at (chronicle setting history) d
           by [] clean' each here = elim here [ ]
           by (x ∷ hs) clean' each here =
@@ -135,7 +136,7 @@ module _ (setting : Setting) (history : List Event) (e : Event) (comes : IsNextE
       by (inr le) = le
       by (inl less) =
           let f : IsFed (top_of setting history e) (heard_at steps d) (staged_epoch (seen_of steps)) d =
-          fed setting history e (heard_at steps d) after_heard d (up_is_known setting history comes.clean.is.0 d own.up)
+          fed setting history e (heard_at steps d) after_heard d (admitted_up_is_known setting history comes.clean.is.0 d own.up)
           (states.staged_member setting history e comes commit d ∙ new_is_member setting history comes.fair clean comes.before d new) not_root less in
           let late : heard_at steps d < heard_at steps d =
           fed_heard setting (top_of setting history e) (heard_at steps d) (staged_epoch (seen_of steps)) d

@@ -13,10 +13,10 @@ use Rattle.sd_history.specs.World.{Setting, makes, staged_epoch, window_is_open,
 use Rattle.sd_history.specs.Steps.{Calls, Step, seen_of}
 use Rattle.sd_history.specs.Chronicle.{past_in, chronicle}
 use Rattle.sd_history.proofs.Given.{some_is, takes_given}
-use Rattle.sd_history.proofs.Parts.{AllHold, premises_of}
+use Rattle.sd_proof_safety.proofs.invariant.Parts.{AllButStart, premises_of}
 use Rattle.sd_proof_safety.specs.invariant.Eras.{sent_at}
 use Rattle.sd_proof_safety.specs.invariant.Clauses.{staged_root}
-use Rattle.sd_proof_safety.specs.invariant.Coming.{IsClean}
+use Rattle.sd_proof_safety.specs.invariant.Guarded.{IsSteady}
 use Rattle.sd_proof_safety.proofs.invariant.Prefix.{clean_before}
 use Rattle.sd_proof_safety.specs.messages.Moments.{behind, Moment, when, IsIn, Emits}
 use Rattle.sd_proof_safety.specs.messages.Stamping.{EntersNot, enters, remakes}
@@ -139,9 +139,9 @@ module _ (setting : Setting) (history : List Event) (e : Event) (s0 : ℕ) (afte
   pub root_feeds : Feeds setting (top_of setting history e) (staged_plan setting (chronicle setting history)).root s0
       (staged_epoch (seen_of (chronicle setting history)))
   root_feeds =
-      let premises : AllHold setting (seen_of (chronicle setting (e ∷ history))) =
+      let premises : AllButStart setting (seen_of (chronicle setting (e ∷ history))) =
       premises_of setting (seen_of (chronicle setting (e ∷ history))) after.comes.clean.premises in
-      let clean : IsClean setting history = clean_before setting e history after.comes.clean in
+      let clean : IsSteady setting history = clean_before setting e history after.comes.clean in
       let t : Timely setting (e ∷ history) = timely setting (e ∷ history) after.comes.fair.network after.comes.clean.is after.comes.clean.premises in
       let terms : IsTermed setting steps = termed setting history after.comes.fair clean after.comes.before in
       let actor : IsActor setting steps (staged_root setting steps) = states.actor setting history e after.comes after.commit in
@@ -152,7 +152,7 @@ module _ (setting : Setting) (history : List Event) (e : Event) (s0 : ℕ) (afte
         loss = premises.loss;
         life = terms.life;
         spacing = emissions_are_apart setting history (before setting e history t);
-        rule = apart_by_rule setting.net (staged_plan setting steps) (states.accepted setting history e after.comes after.commit).timing;
+        rule = apart_by_rule setting.net (staged_plan setting steps) (states.guarded setting history e after.comes after.commit).timing;
         epoch_is = root_epoch;
         newest = λ p here late m emits q q_in y n emits' epoch_is.
             equal_terms n.stamp.term m.stamp.term (stamp_now actor.past).term (terms.same (staged_root setting steps) actor epoch q q_in y n emits' epoch_is)

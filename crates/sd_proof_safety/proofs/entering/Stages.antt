@@ -7,7 +7,8 @@ use Rattle.sd_history.specs.Steps.{Step, seen_of}
 use Rattle.sd_history.specs.Chronicle.{chronicle, next_step}
 use Rattle.sd_proof_safety.specs.invariant.Eras.{era}
 use Rattle.sd_proof_safety.specs.invariant.Invariant.{Invariant, AtEach}
-use Rattle.sd_proof_safety.specs.invariant.Coming.{IsFair, IsClean, IsNextEvent}
+use Rattle.sd_proof_safety.specs.invariant.Guarded.{AreGuarded, IsSteady}
+use Rattle.sd_proof_safety.specs.invariant.Coming.{IsNextEvent}
 use Rattle.sd_proof_safety.proofs.invariant.Prefix.{clean_before}
 use Rattle.sd_proof_safety.specs.messages.Moments.{whole, behind, Moment, when, IsIn}
 use Rattle.sd_proof_safety.proofs.messages.Tails.{history_chronicle}
@@ -22,7 +23,7 @@ pub record Stage (setting : Setting) (q : Moment) : Type 0 where
   pub is : q ≡ top_of setting h e
   pub comes : IsNextEvent setting h e
 
-pub stage : (setting : Setting) → IsFair setting → (q : Moment) (history : List Event) (e : Event) → IsClean setting (e ∷ history)
+pub stage : (setting : Setting) → AreGuarded setting → (q : Moment) (history : List Event) (e : Event) → IsSteady setting (e ∷ history)
     → AtEach (Invariant setting) (chronicle setting history) → IsIn q (chronicle setting (e ∷ history)) → Stage setting q
 stage setting fair q [] e clean inv whole = record { h = []; e = e; is = refl; comes = record { fair = fair; clean = clean; before = inv } }
 stage setting fair q [] e clean inv (behind t) = elim t [ ]

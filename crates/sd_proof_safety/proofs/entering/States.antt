@@ -11,7 +11,7 @@ use Rattle.sd_checker.specs.Plan.declared.Duty.{Duty}
 use Rattle.sd_checker.specs.Plan.Plans.{Fits, is_member, primary_of}
 use Rattle.sd_checker.specs.Plan.Duties.{duty_of, edge_of}
 use Rattle.sd_checker.proofs.Plan.Rules.{KeepsRules, keeps_rules}
-use Rattle.sd_checker.specs.Verdicts.{IsAccepted}
+use Rattle.sd_proof_safety.specs.invariant.Guarded.{IsGuarded, IsSteady}
 use Rattle.sd_checker.specs.CheckRoot.Timing.{round_gap}
 use Rattle.sd_history.specs.Core.Calls.{Past}
 use Rattle.sd_history.specs.Core.Words.{duty_now, given_now, epoch_now}
@@ -25,7 +25,7 @@ use Rattle.sd_history.proofs.Given.{some_is}
 use Rattle.sd_proof_safety.specs.invariant.Eras.{era, plan_now, will_belong, is_old, is_new, is_blank, on_primary, sent_at, live_past, moved}
 use Rattle.sd_proof_safety.specs.invariant.Clauses.{staged_root}
 use Rattle.sd_proof_safety.specs.invariant.Invariant.{Core}
-use Rattle.sd_proof_safety.specs.invariant.Coming.{IsClean, IsNextEvent}
+use Rattle.sd_proof_safety.specs.invariant.Coming.{IsNextEvent}
 use Rattle.sd_proof_safety.proofs.invariant.Parents.{IsPlanned, duties_planned, live_is}
 use Rattle.sd_proof_safety.proofs.invariant.Prefix.{clean_before}
 use Rattle.sd_proof_safety.proofs.invariant.Sides.{implied, not_both}
@@ -86,7 +86,7 @@ module _ (setting : Setting) (h : List Event) (e : Event) (comes : IsNextEvent s
   abbrev next : ℕ
   next = staged_epoch (seen_of (chronicle setting h))
 
-  clean : IsClean setting h
+  clean : IsSteady setting h
   clean = clean_before setting e h comes.clean
 
   core : Core setting (chronicle setting h)
@@ -95,14 +95,14 @@ module _ (setting : Setting) (h : List Event) (e : Event) (comes : IsNextEvent s
   pub opened : window_is_open (seen_of (chronicle setting h)) ≡ true
   opened = commit_is_open (seen_of steps) commit
 
-  pub accepted : IsAccepted setting.net (staged_plan setting (chronicle setting h))
-  accepted = staged_too (IsAccepted setting.net) setting h comes.fair.accepted comes.clean.is.0 opened
+  pub guarded : IsGuarded setting.net (staged_plan setting (chronicle setting h))
+  guarded = staged_too (IsGuarded setting.net) setting h comes.fair.guarded comes.clean.is.0 opened
 
   pub fits : Fits setting.net (staged_plan setting (chronicle setting h))
   fits = staged_too (Fits setting.net) setting h comes.fair.fit comes.clean.is.0 opened
 
   pub rules : KeepsRules setting.net (staged_plan setting (chronicle setting h))
-  rules = keeps_rules setting.net plan accepted.structure
+  rules = keeps_rules setting.net plan guarded.structure
 
   some : staged setting (seen_of (chronicle setting h)) ≡ Some (staged_plan setting (chronicle setting h))
   some = staged_some setting steps opened

@@ -24,7 +24,7 @@ use Rattle.sd_history.specs.Chronicle.{past_in, chronicle}
 use Rattle.sd_proof_safety.specs.invariant.Eras.{era, plan_now, is_among, touches, failed_now, device_failed_now, link_failed_now, failed_besides_root, is_old, is_new, is_ordinary, moved, hit, hit_otherwise}
 use Rattle.sd_proof_safety.specs.invariant.Clauses.{backup_root_acts}
 use Rattle.sd_proof_safety.specs.invariant.Invariant.{Core, Invariant, HasFallback, AtEach}
-use Rattle.sd_proof_safety.specs.invariant.Coming.{IsFair, IsClean}
+use Rattle.sd_proof_safety.specs.invariant.Guarded.{AreGuarded, IsSteady}
 use Rattle.sd_proof_safety.proofs.invariant.Facts.{IsSound, sound_now}
 use Rattle.sd_proof_safety.proofs.invariant.Sides.{implied, not_both}
 use Rattle.sd_proof_safety.proofs.invariant.Staying.{old_is_member}
@@ -80,7 +80,7 @@ walks_at plan P (hop ∷ hs) d (walks one rest) y on low reach =
       | inr there ↦ walks_at plan P hs hop.parent rest y there low reach
     ]
 
-module _ (setting : Setting) (history : List Event) (fair : IsFair setting) (clean : IsClean setting history)
+module _ (setting : Setting) (history : List Event) (fair : AreGuarded setting) (clean : IsSteady setting history)
     (each : AtEach (Invariant setting) (chronicle setting history)) (fallback : HasFallback setting (chronicle setting history))
     (old : is_old (chronicle setting history) (plan_now setting (chronicle setting history)).backup_root ≡ true)
     (put : moved (chronicle setting history) (plan_now setting (chronicle setting history)).backup_root ≡ true)
@@ -155,7 +155,7 @@ module _ (setting : Setting) (history : List Event) (fair : IsFair setting) (cle
   off_walk =
       let none : is_no_ancestor setting.net plan b ≡ true =
       not-false (is_no_ancestor setting.net plan b)
-      (none_found (λ d. not (is_no_ancestor setting.net plan d)) (length setting.net.devices) b fine.accepted.ancestor fine.fits.backup_root) in
+      (none_found (λ d. not (is_no_ancestor setting.net plan d)) (length setting.net.devices) b fine.guarded.ancestor fine.fits.backup_root) in
       not-true (on_walk setting.net plan hop.parent b)
       (sym (ap (λ (o : Option Hop). map_or o true
       (λ k. if is_backup_root plan b then not (on_walk setting.net plan k.parent b) else not
@@ -181,7 +181,7 @@ module _ (setting : Setting) (history : List Event) (fair : IsFair setting) (cle
       abbrev older : List Step
       older = chronicle setting then_
 
-      clean_then : IsClean setting then_
+      clean_then : IsSteady setting then_
       clean_then = clean_of setting then_ history tail clean
 
       each_then : AtEach (Invariant setting) (chronicle setting then_)

@@ -21,13 +21,14 @@ use Rattle.sd_history.specs.World.{Setting, is_up, plan_numbered}
 use Rattle.sd_history.specs.Steps.{Step, seen_of, acts_in}
 use Rattle.sd_history.specs.Chronicle.{past_in, chronicle}
 use Rattle.sd_history.proofs.Given.{some_is, HasDuties}
-use Rattle.sd_history.proofs.Parts.{premises_of}
+use Rattle.sd_proof_safety.proofs.invariant.Parts.{premises_of}
 use Rattle.sd_proof_safety.specs.invariant.Bounds.{depth, delay}
 use Rattle.sd_proof_safety.specs.invariant.Eras.{era, plan_now, heard_at, is_old, on_primary, moved, root_failed, device_failed_now}
 use Rattle.sd_proof_safety.specs.invariant.Clauses.{backup_root_stays}
 use Rattle.sd_proof_safety.specs.invariant.Silences.{root_failed_at}
 use Rattle.sd_proof_safety.specs.invariant.Invariant.{Invariant, HasFallback, AtEach}
-use Rattle.sd_proof_safety.specs.invariant.Coming.{IsClean, IsNextEvent, AtNext}
+use Rattle.sd_proof_safety.specs.invariant.Guarded.{IsSteady}
+use Rattle.sd_proof_safety.specs.invariant.Coming.{IsNextEvent, AtNext}
 use Rattle.sd_proof_safety.proofs.invariant.Facts.{IsSound, sound_now}
 use Rattle.sd_proof_safety.proofs.invariant.Parents.{IsPlanned, duties_planned}
 use Rattle.sd_proof_safety.proofs.invariant.Prefix.{clean_before}
@@ -114,7 +115,7 @@ module _ (setting : Setting) (x : Event) (h : List Event) (e : Event) (comes : I
   abbrev n : ℕ
   n = era (chronicle setting (x ∷ h))
 
-  clean : IsClean setting (x ∷ h)
+  clean : IsSteady setting (x ∷ h)
   clean = clean_before setting e (x ∷ h) comes.clean
 
   fine : IsSound setting.net (plan_now setting (chronicle setting (x ∷ h)))
@@ -140,7 +141,7 @@ module _ (setting : Setting) (x : Event) (h : List Event) (e : Event) (comes : I
   inside : Tail (chronicle setting st.h) (chronicle setting (x ∷ h))
   inside = subst (λ (l : List Step). Tail l steps) earlier_is (tail_trans (behind whole) heard.inside)
 
-  clean_at : IsClean setting st.h
+  clean_at : IsSteady setting st.h
   clean_at = clean_before setting st.e st.h st.comes.clean
 
   least : era (chronicle setting st.h) ≤ era (chronicle setting (x ∷ h))
@@ -228,7 +229,7 @@ module _ (setting : Setting) (x : Event) (h : List Event) (e : Event) (comes : I
     old_at = ap (λ o. same_number o (era older)) (epoch_is setting st.h b heard.past up there) ∙ eq-eqb (epoch_now heard.past) (era older) (own ∙ sym same)
 
     the_backup : (hop : declared.Hop) × (backup_of plan_at plan_at.backup_root ≡ Some hop)
-    the_backup = the_hop (backup_of plan_at plan_at.backup_root) (falls setting.net plan_at fine_at.accepted.structure fine_at.fits.backup_root)
+    the_backup = the_hop (backup_of plan_at plan_at.backup_root) (falls setting.net plan_at fine_at.guarded.structure fine_at.fits.backup_root)
 
     abbrev hop : declared.Hop
     hop = the_backup.0

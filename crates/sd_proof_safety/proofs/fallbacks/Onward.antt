@@ -14,7 +14,7 @@ use Rattle.sd_history.specs.Chronicle.{past_in, chronicle, next_step}
 use Rattle.sd_history.proofs.Given.{some_is, takes_given}
 use Rattle.sd_proof_safety.specs.invariant.Eras.{era, is_new, device_failed_now}
 use Rattle.sd_proof_safety.specs.invariant.Invariant.{Invariant, AtEach}
-use Rattle.sd_proof_safety.specs.invariant.Coming.{IsFair, IsClean}
+use Rattle.sd_proof_safety.specs.invariant.Guarded.{AreGuarded, IsSteady}
 use Rattle.sd_proof_safety.proofs.invariant.Prefix.{clean_before}
 use Rattle.sd_proof_safety.proofs.invariant.Sides.{not_both}
 use Rattle.sd_proof_safety.specs.messages.Moments.{Tail, whole, behind}
@@ -42,7 +42,7 @@ up_on false false up a b is = is
 up_on true f up a b is = cc
 up_on false true up a b is = cc
 
-module _ (setting : Setting) (e : Event) (history : List Event) (fair : IsFair setting) (clean : IsClean setting (e ∷ history))
+module _ (setting : Setting) (e : Event) (history : List Event) (fair : AreGuarded setting) (clean : IsSteady setting (e ∷ history))
     (each : AtEach (Invariant setting) (chronicle setting history)) (d n : ℕ) (member : is_member (plan_numbered setting n) d ≡ true)
     (number : era (chronicle setting history) ≡ n) (open_ : (next_step setting (chronicle setting history) e).seen.closed ≡ false) where
   abbrev steps : List Step
@@ -102,8 +102,8 @@ module _ (setting : Setting) (e : Event) (history : List Event) (fair : IsFair s
       least : (a b : ℕ) → a ≡ b → a ≤ b
       least a b same = omega (arith, same)
 
-pub onward : (setting : Setting) (fair : IsFair setting) (d n : ℕ) → is_member (plan_numbered setting n) d ≡ true → (older : List Step) (history : List Event)
-    → IsClean setting history → AtEach (Invariant setting) (chronicle setting history)
+pub onward : (setting : Setting) (fair : AreGuarded setting) (d n : ℕ) → is_member (plan_numbered setting n) d ≡ true → (older : List Step) (history : List Event)
+    → IsSteady setting history → AtEach (Invariant setting) (chronicle setting history)
     → Tail older (chronicle setting history) → era older ≡ n → era (chronicle setting history) ≡ n → Onward setting older d n
     → Onward setting (chronicle setting history) d n
 onward setting fair d n member _ [] clean each whole first last on_ = on_

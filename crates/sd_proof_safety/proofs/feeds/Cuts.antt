@@ -45,7 +45,7 @@ pub record CutWalk (net : Network) (plan : Plan) (failed : List Thing) (y : ℕ)
 
 module _ (net : Network) (plan : Plan) (failed : List Thing) (fine : IsSound net plan) where
   forest : IsForest net plan
-  forest = forest_of net plan fine.fits fine.accepted.structure
+  forest = forest_of net plan fine.fits fine.guarded.structure
 
   not_root_by : (y : ℕ) (hop : Hop) (hs : List Hop) (b : Bool) → (if b then [] else hops (is_root plan) plan net.params.depth y) ≡ hop ∷ hs → b ≡ false
   not_root_by y hop hs true is = cc

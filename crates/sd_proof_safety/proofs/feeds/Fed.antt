@@ -18,7 +18,7 @@ use Rattle.sd_history.specs.World.{Setting, fails}
 use Rattle.sd_history.specs.Steps.{Step, acts_in}
 use Rattle.sd_history.specs.Chronicle.{chronicle}
 use Rattle.sd_history.proofs.Among.{later}
-use Rattle.sd_history.proofs.Known.{up_is_known}
+use Rattle.sd_history.proofs.Known.{admitted_up_is_known}
 use Rattle.sd_proof_safety.specs.invariant.Bounds.{depth, delay, rounds_gap}
 use Rattle.sd_proof_safety.specs.invariant.Eras.{era, plan_now, all_started, is_among, touches, failed_now, heard_at, is_old, is_behind, is_ordinary, on_primary, hit, root_failed}
 use Rattle.sd_proof_safety.proofs.invariant.Facts.{IsSound}
@@ -89,7 +89,7 @@ module _ (setting : Setting) (x : Event) (h : List Event) (e : Event) (s0 : ℕ)
     own = spared setting x h e span.comes d old
 
     known : d < length setting.net.devices
-    known = up_is_known setting (x ∷ h) span.comes.clean.is.0 d own.up
+    known = admitted_up_is_known setting (x ∷ h) span.comes.clean.is.0 d own.up
 
     parts : (is_backup_root (plan_now setting (chronicle setting (x ∷ h))) d ≡ false)
         × (on_walk setting.net (plan_now setting (chronicle setting (x ∷ h))) d (plan_now setting (chronicle setting (x ∷ h))).backup_root ≡ true)
@@ -154,5 +154,5 @@ module _ (setting : Setting) (x : Event) (h : List Event) (e : Event) (s0 : ℕ)
 
     pub fed_silent : reference_of e ≤ s0 + rounds_gap setting.net + 2 * depth setting.net * delay setting.net
     fed_silent =
-        let hop = the_hop (backup_of plan b) (falls setting.net plan fine.accepted.structure fine.fits.backup_root) in
+        let hop = the_hop (backup_of plan b) (falls setting.net plan fine.guarded.structure fine.fits.backup_root) in
         fed_by hop.0 hop.1 (cut_off plan (walk setting.net plan d)) cut_walk_.clear cut_walk_.ends cut_walk_.short

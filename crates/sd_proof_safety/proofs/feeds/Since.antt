@@ -11,7 +11,8 @@ use Rattle.sd_history.specs.Steps.{Step, seen_of, acts_in, has_settled}
 use Rattle.sd_history.specs.Chronicle.{chronicle, next_step}
 use Rattle.sd_proof_safety.specs.invariant.Eras.{era, plan_now, is_old, live_past, moved, moved_at, on_primary, on_backup, root_failed, belongs}
 use Rattle.sd_proof_safety.specs.invariant.Clauses.{backup_root_acts}
-use Rattle.sd_proof_safety.specs.invariant.Coming.{IsClean, IsNextEvent}
+use Rattle.sd_proof_safety.specs.invariant.Guarded.{IsSteady}
+use Rattle.sd_proof_safety.specs.invariant.Coming.{IsNextEvent}
 use Rattle.sd_proof_safety.proofs.invariant.Facts.{IsSound, sound_now}
 use Rattle.sd_proof_safety.proofs.invariant.Prefix.{clean_before}
 use Rattle.sd_proof_safety.proofs.invariant.Sides.{implied, not_both}
@@ -36,7 +37,7 @@ pub none_closed : (setting : Setting) (x : Event) (h : List Event) (e : Event) �
 none_closed setting x h e comes put closed =
     let steps : List Step = chronicle setting (x ∷ h) in
     let b : ℕ = (plan_now setting steps).backup_root in
-    let clean : IsClean setting (x ∷ h) = clean_before setting e (x ∷ h) comes.clean in
+    let clean : IsSteady setting (x ∷ h) = clean_before setting e (x ∷ h) comes.clean in
     let fine : IsSound setting.net (plan_now setting steps) = sound_now setting (x ∷ h) comes.fair clean.is in
     let primary = begins (has_settled steps (era steps) b) (is_root (plan_now setting steps) b) (acts_in steps b) (on_primary steps b) _
     (implied ((next_step setting (chronicle setting h) x).seen.closed && belongs setting.net (plan_now setting steps) b) _

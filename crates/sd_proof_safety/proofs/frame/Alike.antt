@@ -3,12 +3,11 @@
 use Rattle.std.specs.Prelude.{◌≡◌, ℕ, ◌+◌, Bool, true, false, ◌&&◌, ◌||◌, not, List, Option, refl}
 use Rattle.std.specs.List.{list_any}
 use Rattle.std.proofs.Common.{◌∙◌, ap, subst}
-use Rattle.sd_checker.specs.Num.Lists.{map_or, same_number, below}
+use Rattle.sd_checker.specs.Num.Lists.{map_or, same_number, below, follow}
 use Rattle.sd_checker.specs.Plan.declared.Plan.{Plan}
 use Rattle.sd_checker.specs.Plan.Plans.{is_member, is_present}
 use Rattle.sd_history.specs.World.{Setting, is_up, link_has_failed, staged_epoch, staged, is_staged_member, is_counted}
 use Rattle.sd_history.specs.Steps.{Step, seen_of, parent_in, acts_in, given_in}
-use Rattle.sd_history.specs.Lines.{follow}
 use Rattle.sd_proof_safety.specs.invariant.Bounds.{depth}
 use Rattle.sd_proof_safety.specs.invariant.Eras.{plan_now, device_failed_now, link_failed_now, is_old, is_new, is_blank, is_past, on_primary, hit, hit_otherwise, path_hit, root_failed, root_lives}
 use Rattle.sd_proof_safety.specs.invariant.Clauses.{member_follows, returned_is_joined, outsider_is_past, counted_is_current, blank_is_idle, link_is_sound, root_acts, failed_root_is_not_old, ordinary_follows, backup_root_acts, backup_is_caused, move_is_caused, takeover_is_caused, above_backup_root, backup_root_stays, path_stays, none_is_new, member_enters, staged_root, committer_is_root, committer_acts, leads_to_root, new_is_linked, left_out_is_hit, someone_untouched}

@@ -19,7 +19,7 @@ use Rattle.sd_proof_safety.specs.invariant.Bounds.{depth, delay, tick_gap}
 use Rattle.sd_proof_safety.specs.invariant.Eras.{era, plan_now, failed_now, is_among, device_failed_now, link_failed_now, touches, is_old, is_new, is_blank, is_past, moved, on_primary, is_ordinary, hit, hit_otherwise, path_hit, root_failed, root_lives, heard_at}
 use Rattle.sd_proof_safety.specs.invariant.Clauses.{just_closed, was_touched, member_is_up, member_follows, returned_is_joined, outsider_is_past, counted_is_current, blank_is_idle, link_is_sound, root_acts, failed_root_is_not_old, ordinary_follows, backup_root_acts, backup_is_caused, move_is_caused, takeover_is_caused, above_backup_root, backup_root_stays, path_stays, shadow_is_short, none_sent_ahead}
 use Rattle.sd_proof_safety.specs.invariant.Invariant.{Core}
-use Rattle.sd_proof_safety.specs.invariant.Coming.{IsFair, IsClean}
+use Rattle.sd_proof_safety.specs.invariant.Guarded.{AreGuarded, IsSteady}
 use Rattle.sd_proof_safety.proofs.invariant.Prefix.{Passing, some_passing, any_passing}
 use Rattle.sd_proof_safety.proofs.invariant.Sides.{implied, not_both}
 use Rattle.sd_proof_safety.specs.frame.Frames.{IsAlikeAt}
@@ -76,7 +76,7 @@ pub record IsOutside (setting : Setting) (one two : List Step) (x : ℕ) : Type 
   pub root : (plan_now setting two).root ≡ x → root_lives setting two ≡ false
   pub backup_root : (plan_now setting one).backup_root ≡ x → backup_root_acts setting one ≡ false
 
-module _ (setting : Setting) (e : Event) (history : List Event) (fair : IsFair setting) (clean : IsClean setting (e ∷ history))
+module _ (setting : Setting) (e : Event) (history : List Event) (fair : AreGuarded setting) (clean : IsSteady setting (e ∷ history))
     (core : Core setting (chronicle setting history)) (t : Option Thing)
     (eras : era (chronicle setting (e ∷ history)) ≡ era (chronicle setting history))
     (committed_before : has_commit (seen_of (chronicle setting history)) ≡ false) (committed : has_commit (seen_of (chronicle setting (e ∷ history))) ≡ false)

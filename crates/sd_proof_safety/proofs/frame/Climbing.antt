@@ -19,12 +19,13 @@ use Rattle.sd_history.specs.Sched.declared.Event.{Event}
 use Rattle.sd_history.specs.Sched.declared.Event.TheVariants as event
 use Rattle.sd_history.specs.World.{Setting, makes}
 use Rattle.sd_history.specs.Steps.{Calls, Passes, Step, seen_of, flight_numbered}
-use Rattle.sd_history.specs.Chronicle.{past_in, chronicle, next_step, IsHistory}
+use Rattle.sd_history.specs.Chronicle.{past_in, chronicle, next_step}
+use Rattle.sd_history.specs.Admitted.{IsAdmitted}
 use Rattle.sd_proof_safety.specs.invariant.Bounds.{depth, delay, tick_gap}
 use Rattle.sd_proof_safety.specs.invariant.Eras.{plan_now, did_by, does, latest_such, hears, heard_at}
 use Rattle.sd_proof_safety.specs.invariant.Clauses.{above_backup_root, backup_root_stays}
 use Rattle.sd_proof_safety.specs.invariant.Coming.{IsNextEvent}
-use Rattle.sd_history.proofs.Parts.{premises_of}
+use Rattle.sd_proof_safety.proofs.invariant.Parts.{premises_of}
 use Rattle.sd_proof_safety.proofs.invariant.Sides.{not_both}
 use Rattle.sd_proof_safety.specs.messages.Moments.{Tail, whole, behind, Moment, upto, when, IsIn, IsBefore, Receipt}
 use Rattle.sd_proof_safety.specs.messages.Traces.{Trace, begins, goes_on, Traced}
@@ -156,7 +157,7 @@ heard_by_receipt at x f receipt =
     ∙ ap (λ (o : Option Edge). is_some o) receipt.over in
     ap (λ b. if b then when at else heard_at at.earlier x) (or_right (makes x at.step.seen.event) (does hears at.earlier at.step x) does_it)
 
-pub rises_on : (test : Did → Bool) (setting : Setting) (history : List Event) → IsHistory setting history → (d : ℕ) (older : List Step)
+pub rises_on : (test : Did → Bool) (setting : Setting) (history : List Event) → IsAdmitted setting history → (d : ℕ) (older : List Step)
     → Tail older (chronicle setting history) → latest_such test older d ≤ latest_such test (chronicle setting history) d
 rises_on test setting [] is d older whole = omega arith
 rises_on test setting (e ∷ history) is d older whole = omega arith

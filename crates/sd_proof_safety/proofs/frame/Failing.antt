@@ -1,6 +1,6 @@
 -- A device that fails stands outside: it is not up, so no clause asks anything of it. And the backup root does not fail once it acts, since no domain
 -- holds it and the root.
-use Rattle.std.specs.Prelude.{◌≡◌, ℕ, ◌+◌, ◌*◌, true, false, ◌&&◌, ◌||◌, not, List, ◌∷◌, Option, None, is_some, option_map, ◌⊎◌, if◌then◌else◌}
+use Rattle.std.specs.Prelude.{◌≡◌, ℕ, true, false, ◌&&◌, ◌||◌, not, List, ◌∷◌, Option, None, is_some, option_map, if◌then◌else◌}
 use Rattle.std.proofs.Common.{◌∙◌, ap}
 use Rattle.std.proofs.lemmas.Bool.{and_right, or_right, false_from_ne_true}
 use Rattle.sd_checker.specs.Num.Lists.{map_or, same_number}
@@ -17,10 +17,10 @@ use Rattle.sd_history.specs.Chronicle.{chronicle, past_in}
 use Rattle.sd_proof_safety.specs.invariant.Eras.{era, plan_now, failed_now, is_among, device_failed_now, is_old, is_new, is_blank, is_past, moved, belongs, root_failed}
 use Rattle.sd_proof_safety.specs.invariant.Clauses.{is_beginning, backup_root_acts}
 use Rattle.sd_proof_safety.specs.invariant.Invariant.{Core}
-use Rattle.sd_proof_safety.specs.invariant.Coming.{IsFair, IsClean}
+use Rattle.sd_proof_safety.specs.invariant.Guarded.{AreGuarded, IsSteady}
 use Rattle.sd_proof_safety.proofs.invariant.Sides.{implied, not_both}
 use Rattle.sd_proof_safety.proofs.invariant.Facts.{not_both_failed}
-use Rattle.sd_proof_safety.proofs.invariant.Following.{held_now, accepted_now}
+use Rattle.sd_proof_safety.proofs.invariant.Following.{held_now, guarded_now}
 use Rattle.sd_proof_safety.proofs.frame.Words as words
 use Rattle.sd_proof_safety.proofs.invariant.Empty.{asks_nothing}
 use Rattle.sd_proof_safety.proofs.frame.Changing.{IsOutside}
@@ -45,7 +45,7 @@ module _ (two : List Step) (x : ℕ) (down : is_up (seen_of two) x ≡ false) wh
   moved_none : moved two x ≡ false
   moved_none = ap (λ b. map_or (if b then past_in two x else None) false has_moved) down
 
-module _ (setting : Setting) (e : Event) (history : List Event) (fair : IsFair setting) (clean : IsClean setting (e ∷ history))
+module _ (setting : Setting) (e : Event) (history : List Event) (fair : AreGuarded setting) (clean : IsSteady setting (e ∷ history))
     (core : Core setting (chronicle setting history))
     (eras : era (chronicle setting (e ∷ history)) ≡ era (chronicle setting history)) (t : Thing)
     (more : failed_now (chronicle setting (e ∷ history)) ≡ t ∷ failed_now (chronicle setting history))
@@ -73,7 +73,7 @@ module _ (setting : Setting) (e : Event) (history : List Event) (fair : IsFair s
       (λ acting.
       not_both (device_failed_now two (plan_now setting two).backup_root)
       (ap (λ (p : Plan). device_failed_now two p.backup_root) plan ∙ ap (device_failed_now two) is ∙ failed)
-      (not_both_failed setting two (held_now setting e history clean) (accepted_now setting e history fair clean)
+      (not_both_failed setting two (held_now setting e history clean) (guarded_now setting e history fair clean)
       (root_fails_on (implied (backup_root_acts setting one) (root_failed setting one) core.causes.takeover acting))))
 
   pub falls : IsOutside setting (chronicle setting history) (chronicle setting (e ∷ history)) x

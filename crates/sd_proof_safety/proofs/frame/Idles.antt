@@ -8,6 +8,7 @@ use Rattle.sd_checker.specs.Num.Lists.{map_or, same_number}
 use Rattle.sd_checker.specs.Topo.declared.Thing.TheVariants as thing
 use Rattle.sd_checker.specs.Plan.declared.End.{End}
 use Rattle.sd_checker.specs.Plan.Duties.{ends_of}
+use Rattle.sd_history.specs.Admitted.{Admits}
 use Rattle.sd_history.specs.Msg.declared.Message.{Message}
 use Rattle.sd_history.specs.Msg.declared.Flight.{Flight}
 use Rattle.sd_history.specs.Core.declared.Effect.{Effect}
@@ -22,9 +23,9 @@ use Rattle.sd_history.specs.Things.{failure_of, mended}
 use Rattle.sd_history.specs.World.{Setting, makes, fails, is_up, has_commit, staged_epoch, staged, in_force}
 use Rattle.sd_history.specs.Steps.{Calls, Answers, tells_nothing, tells_called, Step, seen_of, act_by, flights_of, flights_by, flights_to, flight_count, flights}
 use Rattle.sd_history.specs.Chronicle.{answers_by, past_in, told_by, chronicle, next_step}
-use Rattle.sd_history.specs.Refusals.{causes, refusal, not_started}
+use Rattle.sd_history.specs.Refusals.{not_started}
 use Rattle.sd_history.proofs.Among.{first, later}
-use Rattle.sd_history.proofs.Contained.{none_holds}
+use Rattle.sd_history.proofs.Admitted.{rule_holds}
 use Rattle.sd_proof_safety.specs.invariant.Eras.{era, is_new, did_by, does, hears, heard_at}
 use Rattle.sd_proof_safety.specs.invariant.Clauses.{none_sent_ahead, shadow_is_short}
 use Rattle.sd_proof_safety.specs.invariant.Invariant.{Core}
@@ -174,13 +175,13 @@ module _ (setting : Setting) (e : Event) (history : List Event) (d : ℕ) (call 
           (number past there)
 
 -- the device of a call that an accepted event makes is up
-pub caller_is_up : (setting : Setting) (history : List Event) (e : Event) (d : ℕ) → refusal setting (chronicle setting history) e ≡ None
+pub caller_is_up : (setting : Setting) (history : List Event) (e : Event) (d : ℕ) → Admits setting (chronicle setting history) e
     → (is_some (started e) || is_some (joined e) || is_some (failure_of e) || is_some (mended e)) ≡ false → device_of e ≡ Some d
     → is_up (seen_of (chronicle setting history)) d ≡ true
 caller_is_up setting history e d none plain named =
     let steps = chronicle setting history in
     let started_ : not_started (seen_of steps) e ≡ false =
-    none_holds (causes setting steps e) _ none (later (later (later (later (later (later (later (later (later first))))))))) in
+    rule_holds setting steps e _ none (later (later (later (later (later (later (later (later (later first))))))))) refl in
     from_not (is_up (seen_of steps) d)
     (sym (ap (λ (o : Option ℕ). map_or o false (λ x. not (is_up (seen_of steps) x))) named)
     ∙ sym (ap (λ b. not b && map_or (device_of e) false (λ x. not (is_up (seen_of steps) x))) plain) ∙ started_)

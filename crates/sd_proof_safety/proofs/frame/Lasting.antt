@@ -1,32 +1,27 @@
 -- The rest of the core at an event after which the state is alike: what is heard and sent did not change, so C6 and C8 stay; C9 b from its lemma (18);
 -- C9 g stays; and no window closes, since none could. So the core is kept by every such event.
-use Rattle.std.specs.Prelude.{◌≡◌, ℕ, zero, suc, ◌<◌, Bool, true, false, ◌&&◌, ◌||◌, not, List, [], ◌∷◌, length, filter, nat_eq, nat_le, Option, refl, ◌⊎◌}
-use Rattle.std.specs.List.{list_any, list_all}
-use Rattle.std.proofs.Common.{arith, ◌∙◌, ap, sym, inl, inr}
-use Rattle.std.proofs.lemmas.Bool.{and_parts, or_left, or_right, or_cases, both_ways}
-use Rattle.sd_checker.specs.Num.Lists.{map_or, below}
-use Rattle.sd_checker.specs.Topo.Network.{device_numbers}
+use Rattle.std.specs.Prelude.{◌≡◌, ℕ, Bool, true, false, ◌&&◌, ◌||◌, not, List, ◌∷◌, length, filter, nat_eq, nat_le, Option, refl}
+use Rattle.std.specs.List.{list_all}
+use Rattle.std.proofs.Common.{◌∙◌, ap, inr}
+use Rattle.sd_checker.specs.Num.Lists.{map_or}
 use Rattle.sd_checker.specs.Plan.declared.Plan.{Plan}
-use Rattle.sd_checker.specs.Plan.Plans.{is_member, members}
+use Rattle.sd_checker.specs.Plan.Plans.{members}
 use Rattle.sd_history.specs.Sched.declared.Event.{Event}
 use Rattle.sd_history.specs.Sched.Events.{reference_of, is_stage, is_commit}
-use Rattle.sd_history.specs.World.{Setting, is_up, is_untouched, has_commit, staged_epoch, staged, plan_numbered}
+use Rattle.sd_history.specs.World.{Setting, is_up, has_commit, staged_epoch, staged}
 use Rattle.sd_history.specs.Steps.{Answers, Step, seen_of, first_step, act_by, has_settled, live_answers, flights}
 use Rattle.sd_history.specs.Chronicle.{chronicle, told_by}
-use Rattle.sd_history.proofs.Among.{Among, first, later, either_side}
 use Rattle.sd_proof_safety.specs.invariant.Eras.{era, plan_now, heard_at}
-use Rattle.sd_proof_safety.specs.invariant.Clauses.{just_closed, is_beginning, someone_untouched, begins_with, left_out_is_hit, member_enters, member_entered, commit_at, shadow_is_short, none_sent_ahead}
+use Rattle.sd_proof_safety.specs.invariant.Clauses.{just_closed, member_enters, member_entered, commit_at, shadow_is_short, none_sent_ahead}
 use Rattle.sd_proof_safety.specs.invariant.Invariant.{Core, leaves_out_rightly}
-use Rattle.sd_proof_safety.specs.invariant.Coming.{IsFair, IsClean}
-use Rattle.sd_proof_safety.proofs.invariant.Prefix.{Passing, some_passing}
+use Rattle.sd_proof_safety.specs.invariant.Guarded.{AreGuarded, IsSteady}
 use Rattle.sd_proof_safety.proofs.invariant.Closings.{no_window_closes}
 use Rattle.sd_proof_safety.specs.invariant.Silences.{EntersSoon}
 use Rattle.sd_proof_safety.specs.frame.Frames.{IsAlike, IsAlikeAt}
 use Rattle.sd_proof_safety.proofs.frame.PlainSteps.{commit_kept, staged_kept, staged_epoch_kept}
-use Rattle.sd_proof_safety.proofs.frame.Alike.{plan, old, new, failed_device, staged_member, above, stays_same, committer_same, acting_same, linked_same, left_out_same, untouched_same}
-use Rattle.sd_proof_safety.proofs.waits.LeastWaits.{timely_of}
-use Rattle.sd_proof_safety.proofs.waits.Beginning.{quiet, still, touched}
-use Rattle.sd_proof_safety.proofs.frame.Timely.{begins_before, first_era, late_after, touched_now, member_up_now}
+use Rattle.sd_proof_safety.proofs.frame.Alike.{plan, old, new, failed_device, staged_member, above, stays_same, committer_same, acting_same, linked_same}
+use Rattle.sd_proof_safety.proofs.waits.Beginning.{quiet, still}
+use Rattle.sd_proof_safety.proofs.frame.Timely.{touched_now, member_up_now}
 use Rattle.sd_proof_safety.proofs.frame.LeftOut.{left_out_kept}
 use Rattle.sd_proof_safety.proofs.frame.Core.{core_alike}
 
@@ -80,7 +75,7 @@ messages_same setting one two alike sent =
     ∙ ap (λ n. not (not (has_commit (seen_of one))) || list_all (λ f. nat_le f.message.epoch n) (flights two)) alike.era_is
     ∙ ap (λ fs. not (not (has_commit (seen_of one))) || list_all (λ f. nat_le f.message.epoch (era one)) fs) sent
 
-module _ (setting : Setting) (e : Event) (history : List Event) (fair : IsFair setting) (clean : IsClean setting (e ∷ history))
+module _ (setting : Setting) (e : Event) (history : List Event) (fair : AreGuarded setting) (clean : IsSteady setting (e ∷ history))
     (core : Core setting (chronicle setting history))
     (alike : IsAlike setting (chronicle setting history) (chronicle setting (e ∷ history))) (each : (d : ℕ)
     → IsAlikeAt (chronicle setting history) (chronicle setting (e ∷ history)) d)

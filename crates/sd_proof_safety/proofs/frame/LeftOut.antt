@@ -1,7 +1,7 @@
 -- C9 g at an event that changes neither who is up nor what failed, nor the commit and the staged plan: the members that are left out stay hit; and where all
 -- were right since
 -- some member had time to start, they still have it, or none is untouched any more.
-use Rattle.std.specs.Prelude.{◌≡◌, ℕ, ◌<◌, Bool, true, false, ◌&&◌, ◌||◌, List, [], ◌∷◌, length, Option, refl, ◌⊎◌}
+use Rattle.std.specs.Prelude.{◌≡◌, ℕ, Bool, true, false, ◌&&◌, List, ◌∷◌, length, Option, refl, ◌⊎◌}
 use Rattle.std.specs.List.{list_any, list_all}
 use Rattle.std.proofs.Common.{◌∙◌, ap, sym, inl, inr}
 use Rattle.std.proofs.lemmas.Bool.{and_parts, or_left, or_right, or_cases, both_ways}
@@ -17,14 +17,14 @@ use Rattle.sd_history.proofs.flights.Places.{among_below}
 use Rattle.sd_proof_safety.specs.invariant.Eras.{era, plan_now, failed_now, hit}
 use Rattle.sd_proof_safety.specs.invariant.Clauses.{is_beginning, someone_untouched, begins_with, left_out_is_hit}
 use Rattle.sd_proof_safety.specs.invariant.Invariant.{Core, leaves_out_rightly}
-use Rattle.sd_proof_safety.specs.invariant.Coming.{IsFair, IsClean}
+use Rattle.sd_proof_safety.specs.invariant.Guarded.{AreGuarded, IsSteady}
 use Rattle.sd_proof_safety.proofs.invariant.Prefix.{Passing, some_passing}
 use Rattle.sd_proof_safety.proofs.frame.Words.{plan_same, hit_same}
 use Rattle.sd_proof_safety.proofs.waits.LeastWaits.{timely_of}
 use Rattle.sd_proof_safety.proofs.waits.Beginning.{touched}
 use Rattle.sd_proof_safety.proofs.frame.Timely.{begins_before, first_era, late_after}
 
-module _ (setting : Setting) (e : Event) (history : List Event) (fair : IsFair setting) (clean : IsClean setting (e ∷ history))
+module _ (setting : Setting) (e : Event) (history : List Event) (fair : AreGuarded setting) (clean : IsSteady setting (e ∷ history))
     (core : Core setting (chronicle setting history))
     (eras : era (chronicle setting (e ∷ history)) ≡ era (chronicle setting history))
     (failures : failed_now (chronicle setting (e ∷ history)) ≡ failed_now (chronicle setting history))

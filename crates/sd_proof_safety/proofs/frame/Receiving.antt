@@ -18,8 +18,9 @@ use Rattle.sd_history.specs.Sched.declared.Event.TheVariants as event
 use Rattle.sd_history.specs.Sched.Events.{reference_of}
 use Rattle.sd_history.specs.World.{Setting, makes, latest_reference}
 use Rattle.sd_history.specs.Steps.{Calls, Passes, Step, seen_of, changed, act_by, flights_of, flight_numbered}
-use Rattle.sd_history.specs.Chronicle.{past_in, told_by, chronicle, IsHistory}
-use Rattle.sd_history.proofs.Contained.{time_goes_on}
+use Rattle.sd_history.specs.Chronicle.{past_in, told_by, chronicle}
+use Rattle.sd_history.specs.Admitted.{IsAdmitted}
+use Rattle.sd_history.proofs.Contained.{admitted_time_goes_on}
 use Rattle.sd_proof_safety.specs.invariant.Bounds.{depth, delay, tick_gap}
 use Rattle.sd_proof_safety.specs.invariant.Eras.{plan_now, is_old, does, latest_such, hears, heard_at}
 use Rattle.sd_proof_safety.specs.invariant.Clauses.{above_backup_root, backup_root_stays, shadow_is_short}
@@ -40,13 +41,13 @@ use Rattle.sd_proof_safety.proofs.frame.Idles.{step_at, passing, calling, alike_
 use Rattle.sd_proof_safety.proofs.invariant.Opening.{gives}
 
 -- no such thing came later than the latest event
-pub such_within : (test : Did → Bool) (setting : Setting) (history : List Event) → IsHistory setting history → (d : ℕ)
+pub such_within : (test : Did → Bool) (setting : Setting) (history : List Event) → IsAdmitted setting history → (d : ℕ)
     → latest_such test (chronicle setting history) d ≤ latest_reference (seen_of (chronicle setting history))
 such_within test setting [] is d = omega arith
 such_within test setting (e ∷ history) is d =
     go (makes d e || does test (chronicle setting history) (step_at setting history e) d)
     (longer (latest_such test (chronicle setting history) d) (latest_reference (seen_of (chronicle setting history))) (reference_of e)
-    (such_within test setting history is.0 d) (time_goes_on setting (chronicle setting history) e is.1))
+    (such_within test setting history is.0 d) (admitted_time_goes_on setting (chronicle setting history) e is.1))
   where
     longer : (a b c : ℕ) → a ≤ b → b ≤ c → a ≤ c
     longer a b c p q = omega (arith, p, q)
@@ -60,12 +61,12 @@ such_within test setting (e ∷ history) is d =
     go false before = before
 
 -- and none earlier than before
-pub such_rises : (test : Did → Bool) (setting : Setting) (e : Event) (history : List Event) → IsHistory setting (e ∷ history) → (d : ℕ)
+pub such_rises : (test : Did → Bool) (setting : Setting) (e : Event) (history : List Event) → IsAdmitted setting (e ∷ history) → (d : ℕ)
     → latest_such test (chronicle setting history) d ≤ latest_such test (chronicle setting (e ∷ history)) d
 such_rises test setting e history is d =
     go (makes d e || does test (chronicle setting history) (step_at setting history e) d)
     (longer (latest_such test (chronicle setting history) d) (latest_reference (seen_of (chronicle setting history))) (reference_of e)
-    (such_within test setting history is.0 d) (time_goes_on setting (chronicle setting history) e is.1))
+    (such_within test setting history is.0 d) (admitted_time_goes_on setting (chronicle setting history) e is.1))
   where
     longer : (a b c : ℕ) → a ≤ b → b ≤ c → a ≤ c
     longer a b c p q = omega (arith, p, q)

@@ -4,16 +4,15 @@ use Rattle.std.specs.List.{list_any}
 use Rattle.std.proofs.Common.{◌∙◌, ap, sym, inr}
 use Rattle.std.proofs.lemmas.Bool.{or_parts}
 use Rattle.sd_checker.specs.Num.Lists.{map_or, same_number}
-use Rattle.sd_checker.specs.Topo.declared.Thing.TheVariants as thing
 use Rattle.sd_history.specs.Sched.declared.Event.{Event}
 use Rattle.sd_history.specs.Sched.declared.Event.TheVariants as event
 use Rattle.sd_history.specs.Sched.Events.{joined, is_commit}
 use Rattle.sd_history.specs.World.{Setting, Seen, window, window_is_open, has_commit}
 use Rattle.sd_history.specs.Steps.{Step, seen_of}
 use Rattle.sd_history.specs.Chronicle.{chronicle, next_step}
-use Rattle.sd_history.specs.Refusals.{causes, window_order, window_order_seen}
+use Rattle.sd_history.specs.Refusals.{window_order, window_order_seen}
 use Rattle.sd_history.proofs.Among.{first, later}
-use Rattle.sd_history.proofs.Contained.{none_holds}
+use Rattle.sd_history.proofs.Admitted.{rule_holds}
 use Rattle.sd_proof_safety.specs.invariant.Eras.{is_new}
 use Rattle.sd_proof_safety.specs.invariant.Invariant.{Core}
 use Rattle.sd_proof_safety.specs.invariant.Coming.{IsNextEvent}
@@ -52,8 +51,8 @@ module _ {setting : Setting} (r : ℕ) (history : List Event) (comes : IsNextEve
   shut : window (seen_of (chronicle setting history)) ≡ None
   shut =
       let order : window_order setting one e ≡ false =
-      none_holds (causes setting one e) _ comes.clean.is.1
-      (later (later (later (later (later (later (later (later (later (later (later (later first)))))))))))) in
+      rule_holds setting one e _ comes.clean.is.1
+      (later (later (later (later (later (later (later (later (later (later (later (later first)))))))))))) refl in
       no_window (window (seen_of one)) (by (window_is_open (seen_of one)) (or_parts (window_order_seen setting (seen_of one) e) _ order).0)
     where
       by : (b : Bool) → (((b || false) || false) || false) ≡ false → b ≡ false

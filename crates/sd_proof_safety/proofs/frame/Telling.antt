@@ -1,5 +1,5 @@
--- In an accepted plan that fits its network the link to a parent tells the parent: primary and backup go over different links (rule 4 of the structure).
-use Rattle.std.specs.Prelude.{◌≡◌, ℕ, ◌-◌, ◌<◌, true, not, [], ◌∷◌, length, find, slice_get, nat_eq, Option, Some, None, option_map, refl}
+-- In a guarded plan that fits its network the link to a parent tells the parent: primary and backup go over different links (rule 4 of the structure).
+use Rattle.std.specs.Prelude.{◌≡◌, ℕ, ◌-◌, ◌<◌, true, not, length, find, slice_get, nat_eq, Option, Some, None, option_map, refl}
 use Rattle.std.proofs.Common.{◌∙◌, ap, sym, subst, inl, inr}
 use Rattle.std.proofs.lemmas.Bool.{eq-eqb, not-false}
 use Rattle.std.specs.Option.{option_or}
@@ -15,7 +15,7 @@ use Rattle.sd_checker.proofs.Plan.Numbered.{none_found, both_none}
 use Rattle.sd_checker.proofs.Plan.Rules.{none_mapped}
 use Rattle.sd_history.specs.World.{Setting, no_plan}
 use Rattle.sd_history.proofs.Given.{some_is}
-use Rattle.sd_proof_safety.specs.invariant.Coming.{IsFair}
+use Rattle.sd_proof_safety.specs.invariant.Guarded.{AreGuarded}
 use Rattle.sd_proof_safety.proofs.invariant.Sides.{not_both}
 use Rattle.sd_proof_safety.specs.messages.Hops.{IsPlanHop, TellsParent}
 use Rattle.sd_proof_safety.specs.frame.Descents.{LinksTell}
@@ -82,9 +82,9 @@ no_row : (d : ℕ) (h : Hop) → IsPlanHop no_plan d h → ⊥
 no_row d h (inl is) = cc
 no_row d h (inr is) = cc
 
-pub links_tell : {setting : Setting} → IsFair setting → LinksTell setting
+pub links_tell : {setting : Setting} → AreGuarded setting → LinksTell setting
 links_tell {setting} fair epoch = go (slice_get setting.plans (epoch - 1)) refl
   where
     go : (o : Option Plan) → slice_get setting.plans (epoch - 1) ≡ o → TellsParent (map_or o no_plan (λ plan. plan))
     go None is = λ d x y link one two. absurd (no_row d one.hop one.is)
-    go (Some plan) is = tells_of setting.net plan (fair.fit (epoch - 1) plan is) (fair.accepted (epoch - 1) plan is).structure
+    go (Some plan) is = tells_of setting.net plan (fair.fit (epoch - 1) plan is) (fair.guarded (epoch - 1) plan is).structure

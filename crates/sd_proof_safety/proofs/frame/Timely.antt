@@ -1,4 +1,4 @@
--- What the passing of time asks for, at an event after which the state is alike: C0 holds in every clean history; members that have not started by
+-- What the passing of time asks for, at an event after which the state is alike: C0 holds in every steady history; members that have not started by
 -- r0 + Q failed, by the tick premise of the event itself; and C9 g stays, since by then none is untouched.
 use Rattle.std.specs.Prelude.{◌≡◌, ℕ, ◌+◌, ◌≤◌, Bool, true, false, ◌&&◌, ◌||◌, not, List, [], ◌∷◌, length, cond, count_by, filter_map, nat_eq, nat_le, nat_lt, Option, Some, None, refl, if◌then◌else◌, ◌⊎◌}
 use Rattle.std.specs.List.{list_any, cons_option}
@@ -17,10 +17,10 @@ use Rattle.sd_history.specs.World.{Setting, Seen, makes, fails, is_up, was_made,
 use Rattle.sd_history.specs.Steps.{Step, seen_of}
 use Rattle.sd_history.specs.Chronicle.{chronicle}
 use Rattle.sd_history.specs.Premises.{failures_since_closing}
-use Rattle.sd_history.proofs.Contained.{time_goes_on}
+use Rattle.sd_history.proofs.Contained.{admitted_time_goes_on}
 use Rattle.sd_proof_safety.specs.invariant.Eras.{era, plan_now, belongs, all_started, is_among, device_failed_now}
 use Rattle.sd_proof_safety.specs.invariant.Clauses.{is_beginning, was_touched, member_is_up}
-use Rattle.sd_proof_safety.specs.invariant.Coming.{IsFair, IsClean}
+use Rattle.sd_proof_safety.specs.invariant.Guarded.{AreGuarded, IsSteady}
 use Rattle.sd_proof_safety.proofs.waits.LeastWaits.{Late, timely_of}
 use Rattle.sd_proof_safety.proofs.waits.Beginning.{touched}
 use Rattle.sd_proof_safety.proofs.frame.Words.{plan_same}
@@ -80,7 +80,7 @@ made_if false false touched_ none = cc
 -- At an event after which the state is alike.
 
 -- while members may start they might have started before
-pub begins_before : (setting : Setting) (e : Event) (history : List Event) → IsClean setting (e ∷ history)
+pub begins_before : (setting : Setting) (e : Event) (history : List Event) → IsSteady setting (e ∷ history)
     → era (chronicle setting (e ∷ history)) ≡ era (chronicle setting history)
     → is_beginning setting (chronicle setting (e ∷ history)) ≡ true → is_beginning setting (chronicle setting history) ≡ true
 begins_before setting e [] clean eras begins = begins_empty setting
@@ -91,7 +91,7 @@ begins_before setting e (x ∷ history) clean eras begins =
     (sym (ap (λ n. nat_eq n 1) eras) ∙ parts.0)
     (le-leb (latest_reference (seen_of steps)) (all_started setting steps)
     (shorten (reference_of e) (latest_reference (seen_of steps)) (all_started setting steps) (leb-true (reference_of e) (all_started setting steps) parts.1)
-    (time_goes_on setting steps e clean.is.1)))
+    (admitted_time_goes_on setting steps e clean.is.1)))
   where
     shorten : (a b l : ℕ) → a ≤ l → b ≤ a → b ≤ l
     shorten a b l p q = omega (arith, p, q)
@@ -107,7 +107,7 @@ first_era setting steps begins =
     eqb-true (era steps) 1 (and_parts (nat_eq (era steps) 1) (nat_le (latest_reference (seen_of steps)) (all_started setting steps)) begins).0
 
 -- when it is over a member of the plan in force is no longer untouched, in the first era
-pub touched_late : (setting : Setting) (history : List Event) → IsFair setting → IsClean setting history
+pub touched_late : (setting : Setting) (history : List Event) → AreGuarded setting → IsSteady setting history
     → is_beginning setting (chronicle setting history) ≡ false → era (chronicle setting history) ≡ 1
     → (d : ℕ) → belongs setting.net (plan_now setting (chronicle setting history)) d ≡ true → is_untouched (seen_of (chronicle setting history)) d ≡ false
 touched_late setting history fair clean over one d member =
@@ -117,7 +117,7 @@ touched_late setting history fair clean over one d member =
     (late_after setting (chronicle setting history) over one)
 
 -- and is up, where it did not fail in the era
-pub up_late : (setting : Setting) (history : List Event) → IsFair setting → IsClean setting history → is_beginning setting (chronicle setting history) ≡ false
+pub up_late : (setting : Setting) (history : List Event) → AreGuarded setting → IsSteady setting history → is_beginning setting (chronicle setting history) ≡ false
     → era (chronicle setting history) ≡ 1
     → (d : ℕ) → belongs setting.net (plan_now setting (chronicle setting history)) d ≡ true → device_failed_now (chronicle setting history) d ≡ false
     → is_up (seen_of (chronicle setting history)) d ≡ true
@@ -126,7 +126,7 @@ up_late setting history fair clean over one d member unfailed =
     let never : has_ever_failed seen d ≡ false = failed_ever seen one d ∙ unfailed in
     up_if_made seen d (made_if (was_made seen d) (has_ever_failed seen d) (touched_late setting history fair clean over one d member) never) never
 
-module _ (setting : Setting) (e : Event) (history : List Event) (fair : IsFair setting) (clean : IsClean setting (e ∷ history))
+module _ (setting : Setting) (e : Event) (history : List Event) (fair : AreGuarded setting) (clean : IsSteady setting (e ∷ history))
     (core : Core setting (chronicle setting history))
     (eras : era (chronicle setting (e ∷ history)) ≡ era (chronicle setting history)) where
   -- C0: members are touched when the beginning is over

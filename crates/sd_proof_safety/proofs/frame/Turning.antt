@@ -7,16 +7,16 @@ use Rattle.std.proofs.Common.{◌∙◌, ap, inl, inr}
 use Rattle.std.proofs.lemmas.Bool.{and_right, or_right}
 use Rattle.sd_checker.specs.Num.Lists.{has}
 use Rattle.sd_checker.specs.Plan.declared.Plan.{Plan}
-use Rattle.sd_checker.specs.Plan.Plans.{is_member, is_present, is_root}
+use Rattle.sd_checker.specs.Plan.Plans.{is_member, is_root}
 use Rattle.sd_history.specs.Sched.declared.Event.{Event}
 use Rattle.sd_history.specs.World.{Setting, is_up, is_untouched, link_has_failed, has_commit, joined_in_window, is_counted}
 use Rattle.sd_history.specs.Steps.{Step, seen_of, acts_in, parent_in, flights}
 use Rattle.sd_history.specs.Chronicle.{chronicle}
 use Rattle.sd_proof_safety.specs.invariant.Bounds.{depth, delay, tick_gap}
-use Rattle.sd_proof_safety.specs.invariant.Eras.{era, plan_now, failed_now, device_failed_now, link_failed_now, is_old, is_new, is_blank, is_past, moved, on_primary, is_ordinary, hit, hit_otherwise, path_hit, root_failed, root_lives, heard_at}
-use Rattle.sd_proof_safety.specs.invariant.Clauses.{just_closed, was_touched, member_is_up, member_follows, returned_is_joined, outsider_is_past, counted_is_current, blank_is_idle, link_is_sound, root_acts, failed_root_is_not_old, ordinary_follows, backup_root_acts, backup_is_caused, move_is_caused, takeover_is_caused, above_backup_root, backup_root_stays, path_stays, shadow_is_short, none_is_new, none_sent_ahead}
+use Rattle.sd_proof_safety.specs.invariant.Eras.{era, plan_now, failed_now, device_failed_now, is_old, is_new, is_blank, is_past, moved, on_primary, is_ordinary, hit, hit_otherwise, path_hit, root_failed, root_lives, heard_at}
+use Rattle.sd_proof_safety.specs.invariant.Clauses.{just_closed, member_is_up, member_follows, returned_is_joined, outsider_is_past, counted_is_current, blank_is_idle, link_is_sound, root_acts, failed_root_is_not_old, ordinary_follows, backup_root_acts, backup_is_caused, move_is_caused, takeover_is_caused, above_backup_root, backup_root_stays, path_stays, shadow_is_short}
 use Rattle.sd_proof_safety.specs.invariant.Invariant.{Of, Core, BeganQuietly, IsCommitted}
-use Rattle.sd_proof_safety.specs.invariant.Coming.{IsFair, IsClean}
+use Rattle.sd_proof_safety.specs.invariant.Guarded.{AreGuarded, IsSteady}
 use Rattle.sd_proof_safety.proofs.invariant.Empty.{asks_nothing}
 use Rattle.sd_proof_safety.proofs.waits.Beginning.{quiet, still}
 use Rattle.sd_proof_safety.specs.frame.Frames.{IsAlikeAt}
@@ -291,7 +291,7 @@ module _ (setting : Setting) (one two : List Step) (core : Core setting one) (er
         closed = closed_of setting two unclosed;
       }
 
-pub turn_keeps : (setting : Setting) (e : Event) (history : List Event) → IsFair setting → IsClean setting (e ∷ history)
+pub turn_keeps : (setting : Setting) (e : Event) (history : List Event) → AreGuarded setting → IsSteady setting (e ∷ history)
     → Core setting (chronicle setting history) → let one = chronicle setting history in let two = chronicle setting (e ∷ history) in
     era two ≡ era one → failed_now two ≡ failed_now one → has_commit (seen_of two) ≡ true
     → ((d : ℕ) → joined_in_window (seen_of two) d ≡ joined_in_window (seen_of one) d)

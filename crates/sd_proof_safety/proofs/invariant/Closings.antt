@@ -16,7 +16,7 @@ use Rattle.sd_history.specs.Refusals.{past_preparing}
 use Rattle.sd_history.specs.Chronicle.{told_by, chronicle}
 use Rattle.sd_proof_safety.specs.invariant.Clauses.{just_closed}
 use Rattle.sd_proof_safety.specs.invariant.Invariant.{AtEach, IsPart, all, before}
-use Rattle.sd_proof_safety.specs.invariant.Coming.{IsClean}
+use Rattle.sd_proof_safety.specs.invariant.Guarded.{IsSteady}
 use Rattle.sd_proof_safety.proofs.invariant.Orders.{renews, orderly, staged_before}
 
 -- the step with these in place of its own
@@ -163,19 +163,19 @@ starts_unstaged false more orderly_ = refl
 
 -- so it closes with no failure, start, give, join or mend
 module _ (setting : Setting) (history : List Event) where
-  pub failed_device_closes_none : (r d : ℕ) → IsClean setting (event.FailDevice r d ∷ history)
+  pub failed_device_closes_none : (r d : ℕ) → IsSteady setting (event.FailDevice r d ∷ history)
       → just_closed (chronicle setting (event.FailDevice r d ∷ history)) ≡ false
   failed_device_closes_none r d clean =
       none_closes_uncommitted setting history (event.FailDevice r d) refl refl
       (fails_uncommitted _ (has_commit (seen_of (chronicle setting history))) (renews setting (event.FailDevice r d) history clean).fails)
 
-  pub failed_link_closes_none : (r l : ℕ) → IsClean setting (event.FailLink r l ∷ history)
+  pub failed_link_closes_none : (r l : ℕ) → IsSteady setting (event.FailLink r l ∷ history)
       → just_closed (chronicle setting (event.FailLink r l ∷ history)) ≡ false
   failed_link_closes_none r l clean =
       none_closes_uncommitted setting history (event.FailLink r l) refl refl
       (fails_uncommitted _ (has_commit (seen_of (chronicle setting history))) (renews setting (event.FailLink r l) history clean).fails)
 
-  pub start_closes_none : (r d c clock eps : ℕ) → IsClean setting (event.Start r d c clock eps ∷ history)
+  pub start_closes_none : (r d c clock eps : ℕ) → IsSteady setting (event.Start r d c clock eps ∷ history)
       → just_closed (chronicle setting (event.Start r d c clock eps ∷ history)) ≡ false
   start_closes_none r d c clock eps clean =
       none_closes_uncommitted setting history (event.Start r d c clock eps) refl refl
@@ -183,24 +183,24 @@ module _ (setting : Setting) (history : List Event) where
       (starts_unstaged (list_any (λ x. is_stage x.event) (seen_of (chronicle setting history))) _
       (renews setting (event.Start r d c clock eps) history clean).begins))
 
-  prepared : (e : Event) → IsClean setting (e ∷ history) → (is_some (given e) || is_some (joined e) || is_some (mended e) || is_commit e) ≡ true
+  prepared : (e : Event) → IsSteady setting (e ∷ history) → (is_some (given e) || is_some (joined e) || is_some (mended e) || is_commit e) ≡ true
       → has_commit (seen_of (chronicle setting history)) ≡ false
   prepared e clean prepares =
       prepares_uncommitted (window_is_open (seen_of (chronicle setting history))) (has_commit (seen_of (chronicle setting history)))
       (sym (ap (λ b. b && past_preparing (seen_of (chronicle setting history))) prepares) ∙ (orderly setting e history clean.is).prepares)
 
-  pub give_closes_none : (r d : ℕ) → IsClean setting (event.Give r d ∷ history) → just_closed (chronicle setting (event.Give r d ∷ history)) ≡ false
+  pub give_closes_none : (r d : ℕ) → IsSteady setting (event.Give r d ∷ history) → just_closed (chronicle setting (event.Give r d ∷ history)) ≡ false
   give_closes_none r d clean = none_closes_uncommitted setting history (event.Give r d) refl refl (prepared (event.Give r d) clean refl)
 
-  pub join_closes_none : (r d c clock eps : ℕ) → IsClean setting (event.Join r d c clock eps ∷ history)
+  pub join_closes_none : (r d c clock eps : ℕ) → IsSteady setting (event.Join r d c clock eps ∷ history)
       → just_closed (chronicle setting (event.Join r d c clock eps ∷ history)) ≡ false
   join_closes_none r d c clock eps clean =
       none_closes_uncommitted setting history (event.Join r d c clock eps) refl refl (prepared (event.Join r d c clock eps) clean refl)
 
-  pub mended_device_closes_none : (r d : ℕ) → IsClean setting (event.MendDevice r d ∷ history)
+  pub mended_device_closes_none : (r d : ℕ) → IsSteady setting (event.MendDevice r d ∷ history)
       → just_closed (chronicle setting (event.MendDevice r d ∷ history)) ≡ false
   mended_device_closes_none r d clean = none_closes_uncommitted setting history (event.MendDevice r d) refl refl (prepared (event.MendDevice r d) clean refl)
 
-  pub mended_link_closes_none : (r l : ℕ) → IsClean setting (event.MendLink r l ∷ history)
+  pub mended_link_closes_none : (r l : ℕ) → IsSteady setting (event.MendLink r l ∷ history)
       → just_closed (chronicle setting (event.MendLink r l ∷ history)) ≡ false
   mended_link_closes_none r l clean = none_closes_uncommitted setting history (event.MendLink r l) refl refl (prepared (event.MendLink r l) clean refl)

@@ -12,7 +12,7 @@ use Rattle.sd_checker.specs.Plan.declared.Plan.{Plan}
 use Rattle.sd_checker.specs.Plan.Plans.{primary_of, is_root, is_backup_root}
 use Rattle.sd_checker.specs.Plan.Walks.{hops, devices_of, end_of, walk}
 use Rattle.sd_checker.specs.CheckLoop.Loops.{hops_of, same_hop, is_walk, HasNoCycle}
-use Rattle.sd_history.specs.Lines.{follow}
+use Rattle.sd_checker.specs.Num.Lists.{follow}
 use Rattle.sd_history.proofs.Among.{Among, first, later}
 use Rattle.sd_history.proofs.Given.{some_is}
 

@@ -1,4 +1,4 @@
--- What the plan in force is, in a history over accepted plans: it keeps the rules of structure, root and backup root are members and differ, and its waits
+-- What the plan in force is, in a history over guarded plans: it keeps the rules of structure, root and backup root are members and differ, and its waits
 -- keep the rules of timing. Root and backup root do not fail in one era.
 use Rattle.std.specs.Prelude.{◌≡◌, ℕ, Bool, true, false, ◌&&◌, ◌||◌, not, List, nat_eq, Option, Some, None, refl, if◌then◌else◌}
 use Rattle.std.proofs.lemmas.Bool.{false_from_ne_true}
@@ -13,16 +13,16 @@ use Rattle.sd_checker.proofs.Plan.Rules.{KeepsRules, keeps_rules}
 use Rattle.sd_checker.specs.CheckRoot.Timing.{round_gap}
 use Rattle.sd_checker.specs.CheckRoot.Roots.{root_breach, fallback_breach}
 use Rattle.sd_checker.specs.Conditions.{RootHolds}
-use Rattle.sd_checker.specs.Verdicts.{IsAccepted}
+use Rattle.sd_proof_safety.specs.invariant.Guarded.{IsGuarded, AreGuarded}
 use Rattle.sd_checker.proofs.Num.Shared.{unequal_swap}
 use Rattle.sd_history.specs.Sched.declared.Event.{Event}
 use Rattle.sd_history.specs.World.{Setting}
 use Rattle.sd_history.specs.Steps.{Step}
-use Rattle.sd_history.specs.Chronicle.{chronicle, IsHistory}
+use Rattle.sd_history.specs.Chronicle.{chronicle}
+use Rattle.sd_history.specs.Admitted.{IsAdmitted}
 use Rattle.sd_history.proofs.Shared.{each_among}
 use Rattle.sd_proof_safety.specs.invariant.Bounds.{IsTimedBy, losses, depth, delay, tick_gap, first_low, first_up, second_low, second_up, wait_low}
 use Rattle.sd_proof_safety.specs.invariant.Eras.{plan_now, failed_now, device_failed_now}
-use Rattle.sd_proof_safety.specs.invariant.Coming.{IsFair}
 use Rattle.sd_proof_safety.proofs.invariant.Timed.{timed_by}
 use Rattle.sd_proof_safety.proofs.invariant.Domains.{Holding, held}
 use Rattle.sd_proof_safety.proofs.invariant.InForce.{in_force_too}
@@ -30,7 +30,7 @@ use Rattle.sd_proof_safety.proofs.invariant.Sides.{not_both}
 use Rattle.sd_proof_safety.proofs.windows.Roots.{backup_root_member}
 
 pub record IsSound (net : Network) (plan : Plan) : Type 0 where
-  pub accepted : IsAccepted net plan
+  pub guarded : IsGuarded net plan
   pub fits : Fits net plan
   pub rules : KeepsRules net plan
   pub backup_member : is_member plan plan.backup_root ≡ true
@@ -44,20 +44,20 @@ roots_by true true true r b none = cc
 roots_by true false s r b none = cc
 roots_by false n s r b none = cc
 
-pub sound_now : (setting : Setting) (history : List Event) → IsFair setting → IsHistory setting history
+pub sound_now : (setting : Setting) (history : List Event) → AreGuarded setting → IsAdmitted setting history
     → IsSound setting.net (plan_now setting (chronicle setting history))
 sound_now setting history fair is =
     let plan = plan_now setting (chronicle setting history) in
-    let accepted : IsAccepted setting.net plan = in_force_too (IsAccepted setting.net) setting history fair.accepted fair.some_plan is in
-    let structured = accepted.structure in
+    let guarded : IsGuarded setting.net plan = in_force_too (IsGuarded setting.net) setting history fair.guarded fair.some_plan is in
+    let structured = guarded.structure in
     let roots = backup_root_member setting.net plan structured in
     record {
-      accepted = accepted;
+      guarded = guarded;
       fits = in_force_too (Fits setting.net) setting history fair.fit fair.some_plan is;
       rules = keeps_rules setting.net plan structured;
       backup_member = roots.0;
       apart = unequal_swap plan.root plan.backup_root roots.1;
-      timed = timed_by setting.net plan fair.network.tick.0 accepted.timing;
+      timed = timed_by setting.net plan fair.network.tick.0 guarded.timing;
     }
 
 -- root and backup root are not both in one domain
@@ -66,14 +66,14 @@ not_both_roots true true hit_ one x none is = cc
 not_both_roots true false hit_ one x none is = refl
 not_both_roots false b hit_ one x none is = cc
 
-pub not_both_failed : (setting : Setting) (steps : List Step) → Holding setting steps → IsAccepted setting.net (plan_now setting steps)
+pub not_both_failed : (setting : Setting) (steps : List Step) → Holding setting steps → IsGuarded setting.net (plan_now setting steps)
     → device_failed_now steps (plan_now setting steps).root ≡ true
     → device_failed_now steps (plan_now setting steps).backup_root ≡ false
-not_both_failed setting steps h accepted failed =
+not_both_failed setting steps h guarded failed =
     let net = setting.net in
     let plan = plan_now setting steps in
     let f = h.domain in
-    let holds_ : root_breach net plan f ≡ None = each_among (RootHolds net plan) (domains net) f accepted.root h.among in
+    let holds_ : root_breach net plan f ≡ None = each_among (RootHolds net plan) (domains net) f guarded.root h.among in
     let off : holds_device net f plan.backup_root ≡ false =
     not_both_roots (holds_device net f plan.root) (holds_device net f plan.backup_root) (hits net f (path net plan plan.backup_root))
     (fallback_breach net plan f) (thing.Device plan.backup_root) holds_

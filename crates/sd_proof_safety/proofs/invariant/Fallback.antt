@@ -15,7 +15,7 @@ use Rattle.sd_checker.specs.Plan.Walks.{path}
 use Rattle.sd_checker.proofs.Plan.Numbered.{none_found, both_none}
 use Rattle.sd_checker.specs.CheckRoot.Roots.{fallback_devices, fallback_links, fallback_breach, root_breach}
 use Rattle.sd_checker.specs.Conditions.{RootHolds}
-use Rattle.sd_checker.specs.Verdicts.{IsAccepted}
+use Rattle.sd_proof_safety.specs.invariant.Guarded.{IsGuarded}
 use Rattle.sd_checker.proofs.Plan.Rules.{none_mapped}
 use Rattle.sd_checker.proofs.Domain.Within.{same_thing-true}
 use Rattle.sd_history.specs.Sched.declared.Event.{Event}
@@ -23,11 +23,12 @@ use Rattle.sd_history.specs.Sched.declared.Event.TheVariants as event
 use Rattle.sd_history.specs.Things.{failure_of}
 use Rattle.sd_history.specs.World.{Setting, Seen}
 use Rattle.sd_history.specs.Steps.{Step, seen_of}
-use Rattle.sd_history.specs.Chronicle.{next_step, chronicle, IsHistory}
-use Rattle.sd_history.specs.Refusals.{causes, unknown_device, unknown_link}
+use Rattle.sd_history.specs.Chronicle.{next_step, chronicle}
+use Rattle.sd_history.specs.Admitted.{IsAdmitted}
+use Rattle.sd_history.specs.Refusals.{unknown_device, unknown_link}
 use Rattle.sd_history.specs.Premises.{failures_since_closing}
 use Rattle.sd_history.proofs.Among.{first, later, passes}
-use Rattle.sd_history.proofs.Contained.{none_holds}
+use Rattle.sd_history.proofs.Admitted.{rule_holds}
 use Rattle.sd_history.proofs.Shared.{each_among}
 use Rattle.sd_proof_safety.specs.invariant.Eras.{plan_now, failed_now, is_among, device_failed_now, link_failed_now, path_hit}
 use Rattle.sd_proof_safety.specs.invariant.Clauses.{backup_root_moved, move_is_caused, fallback_device_is_sound, fallback_link_is_sound}
@@ -63,14 +64,14 @@ known_when : (p : Thing → Bool) (s : Seen) (seen : List Seen) (b : Bool) → l
 known_when p s seen true one all = known_one p (failure_of s.event) (failures_since_closing seen) one all
 known_when p s seen false one all = refl
 
-pub failed_are_known : (setting : Setting) (history : List Event) → IsHistory setting history
+pub failed_are_known : (setting : Setting) (history : List Event) → IsAdmitted setting history
     → list_all (is_known setting.net) (failed_now (chronicle setting history)) ≡ true
 failed_are_known setting [] is = refl
 failed_are_known setting (e ∷ history) is =
     let steps = chronicle setting history in
     let s = (next_step setting steps e).seen in
     known_when (is_known setting.net) s (seen_of steps) (not s.closed)
-    (all_known setting e (none_holds (causes setting steps e) _ is.1 first) (none_holds (causes setting steps e) _ is.1 (later first)))
+    (all_known setting e (rule_holds setting steps e _ is.1 first refl) (rule_holds setting steps e _ is.1 (later first) refl))
     (failed_are_known setting history is.0)
 
 pub known : (net : Network) (failed : List Thing) (x : Thing) → list_all (is_known net) failed ≡ true → is_among failed x ≡ true → is_known net x ≡ true
@@ -90,13 +91,13 @@ pub record IsOff (net : Network) (plan : Plan) (devices links : ℕ → Bool) : 
   pub device : (d : ℕ) → d < length net.devices → (devices d && has (fallback_devices net plan) d) ≡ false
   pub link : (l : ℕ) → l < length net.links → (links l && has (fallback_links net plan) l) ≡ false
 
-pub off_fallback : (setting : Setting) (plan : Plan) (steps : List Step) (h : Holding setting steps) → IsAccepted setting.net plan
+pub off_fallback : (setting : Setting) (plan : Plan) (steps : List Step) (h : Holding setting steps) → IsGuarded setting.net plan
     → hits setting.net h.domain (path setting.net plan plan.backup_root) ≡ true
     → IsOff setting.net plan (holds_device setting.net h.domain) (holds_link setting.net h.domain)
-off_fallback setting plan steps h accepted hit_ =
+off_fallback setting plan steps h guarded hit_ =
     let net = setting.net in
     let f = h.domain in
-    let holds_ : root_breach net plan f ≡ None = each_among (RootHolds net plan) (domains net) f accepted.root h.among in
+    let holds_ : root_breach net plan f ≡ None = each_among (RootHolds net plan) (domains net) f guarded.root h.among in
     let none : fallback_breach net plan f ≡ None =
     breach_when (holds_device net f plan.root && holds_device net f plan.backup_root) (hits net f (path net plan plan.backup_root))
     (fallback_breach net plan f) None (thing.Device plan.backup_root) holds_ hit_ in
@@ -114,15 +115,15 @@ from_absurd true true none = absurd (none refl refl)
 from_absurd true false none = refl
 from_absurd false b none = refl
 
-module _ (setting : Setting) (history : List Event) (is : IsHistory setting history) (h : Holding setting (chronicle setting history))
-    (accepted : IsAccepted setting.net (plan_now setting (chronicle setting history)))
+module _ (setting : Setting) (history : List Event) (is : IsAdmitted setting history) (h : Holding setting (chronicle setting history))
+    (guarded : IsGuarded setting.net (plan_now setting (chronicle setting history)))
     (caused : move_is_caused setting (chronicle setting history) ≡ true) where
   off : backup_root_moved setting (chronicle setting history) ≡ true
       → IsOff setting.net (plan_now setting (chronicle setting history)) (holds_device setting.net h.domain) (holds_link setting.net h.domain)
   off has_moved =
       let steps = chronicle setting history in
       let plan = plan_now setting steps in
-      off_fallback setting plan steps h accepted
+      off_fallback setting plan steps h guarded
       (touched_is_hit setting.net h.domain (failed_now steps) (path setting.net plan plan.backup_root) h.all
       (implied (backup_root_moved setting steps) (path_hit setting steps plan.backup_root) caused has_moved))
 

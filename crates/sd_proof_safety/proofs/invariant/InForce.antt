@@ -11,10 +11,11 @@ use Rattle.sd_history.specs.Sched.declared.Event.{Event}
 use Rattle.sd_history.specs.Sched.Events.{is_stage, is_commit}
 use Rattle.sd_history.specs.World.{Setting, Seen, window, window_is_open, epoch_in_force, no_plan}
 use Rattle.sd_history.specs.Steps.{Step, seen_of}
-use Rattle.sd_history.specs.Chronicle.{next_step, chronicle, IsHistory}
-use Rattle.sd_history.specs.Refusals.{causes, no_plan_left}
+use Rattle.sd_history.specs.Chronicle.{next_step, chronicle}
+use Rattle.sd_history.specs.Admitted.{IsAdmitted}
+use Rattle.sd_history.specs.Refusals.{no_plan_left}
 use Rattle.sd_history.proofs.Among.{first, later}
-use Rattle.sd_history.proofs.Contained.{none_holds}
+use Rattle.sd_history.proofs.Admitted.{rule_holds}
 use Rattle.sd_proof_safety.specs.invariant.Eras.{era, plan_now}
 
 -- there are as many plans as the era's number, and one more while a window is open
@@ -46,7 +47,7 @@ left_when true false short epoch l none is staged closed = leb-false l epoch (sy
 left_when true true short epoch l none is staged closed = cc
 left_when false opened short epoch l none is staged closed = cc
 
-has_plans : (setting : Setting) (history : List Event) → 1 ≤ length setting.plans → IsHistory setting history
+has_plans : (setting : Setting) (history : List Event) → 1 ≤ length setting.plans → IsAdmitted setting history
     → HasPlans setting (seen_of (chronicle setting history))
 has_plans setting [] some is = record { now = omega (arith, some); next = λ is. cc }
 has_plans setting (e ∷ earlier) some is =
@@ -54,7 +55,7 @@ has_plans setting (e ∷ earlier) some is =
     let before : HasPlans setting (seen_of steps) = has_plans setting earlier some is.0 in
     let s : Step = next_step setting steps e in
     let left : no_plan_left setting (seen_of steps) e ≡ false =
-    none_holds (causes setting steps e) _ is.1 (later (later (later (later (later (later (later (later (later (later (later first))))))))))) in
+    rule_holds setting steps e _ is.1 (later (later (later (later (later (later (later (later (later (later (later first))))))))))) refl in
     let both =
     plans_after s.seen.closed (is_stage e) s.seen (window (seen_of steps)) (count_by (λ x. x.closed) (seen_of steps))
     (length setting.plans) before.now before.next
@@ -74,7 +75,7 @@ of_each P (plan ∷ plans) zero each within = each zero plan refl
 of_each P (plan ∷ plans) (suc i) each within = of_each P plans i (λ j x at. each (suc j) x at) (omega (arith, within))
 
 -- what holds of each plan holds of the one in force
-pub in_force_too : (P : Plan → Type 0) (setting : Setting) (history : List Event) → Each P setting.plans → 1 ≤ length setting.plans → IsHistory setting history
+pub in_force_too : (P : Plan → Type 0) (setting : Setting) (history : List Event) → Each P setting.plans → 1 ≤ length setting.plans → IsAdmitted setting history
     → P (plan_now setting (chronicle setting history))
 in_force_too P setting history each some is =
     let plans : HasPlans setting (seen_of (chronicle setting history)) = has_plans setting history some is in

@@ -7,14 +7,15 @@ use Rattle.sd_history.specs.Core.Words.{has_moved}
 use Rattle.sd_history.specs.Sched.declared.Event.{Event}
 use Rattle.sd_history.specs.World.{Setting, is_up}
 use Rattle.sd_history.specs.Steps.{Step, Answers, seen_of, answers_in, acts_in}
-use Rattle.sd_history.specs.Chronicle.{past_in, chronicle, IsHistory}
-use Rattle.sd_history.proofs.Known.{up_is_known}
+use Rattle.sd_history.specs.Chronicle.{past_in, chronicle}
+use Rattle.sd_history.specs.Admitted.{IsAdmitted}
+use Rattle.sd_history.proofs.Known.{admitted_up_is_known}
 use Rattle.sd_proof_safety.specs.invariant.Eras.{era, is_old, moved}
 
 -- a device that is up is one of the network's
-pub up_is_device : (setting : Setting) (history : List Event) → IsHistory setting history → (d : ℕ) → is_up (seen_of (chronicle setting history)) d ≡ true
+pub up_is_device : (setting : Setting) (history : List Event) → IsAdmitted setting history → (d : ℕ) → is_up (seen_of (chronicle setting history)) d ≡ true
     → nat_lt d (length setting.net.devices) ≡ true
-up_is_device setting history is d up = lt-ltb d (length setting.net.devices) (up_is_known setting history is d up)
+up_is_device setting history is d up = lt-ltb d (length setting.net.devices) (admitted_up_is_known setting history is d up)
 
 -- Who is up
 

@@ -1,4 +1,4 @@
--- The clauses that are matters of order alone: what may come after a stage, a mend or a commit, in every clean history. By induction on the
+-- The clauses that are matters of order alone: what may come after a stage, a mend or a commit, in every steady history. By induction on the
 -- history, from what is refused and from the premise on renewal; no timing.
 use Rattle.std.specs.Prelude.{◌≡◌, Bool, true, false, ◌&&◌, ◌||◌, not, List, [], ◌∷◌, Option, Some, None, is_some, option_map, refl, if◌then◌else◌}
 use Rattle.std.specs.List.{list_any}
@@ -10,16 +10,17 @@ use Rattle.sd_history.specs.Sched.Events.{given, joined, started, is_stage, is_c
 use Rattle.sd_history.specs.Things.{mended}
 use Rattle.sd_history.specs.World.{Setting, Seen, window, window_is_open, in_window, has_commit}
 use Rattle.sd_history.specs.Steps.{seen_of}
-use Rattle.sd_history.specs.Chronicle.{next_step, chronicle, IsHistory}
-use Rattle.sd_history.specs.Refusals.{causes, past_preparing, window_order_seen, window_order}
+use Rattle.sd_history.specs.Chronicle.{next_step, chronicle}
+use Rattle.sd_history.specs.Admitted.{IsAdmitted}
+use Rattle.sd_history.specs.Refusals.{past_preparing, window_order_seen, window_order}
 use Rattle.sd_history.specs.Premises.{renew_holds, commits_orderly, seals_orderly, fails_orderly, begins_orderly, has_mend}
 use Rattle.sd_history.proofs.Among.{first, later}
-use Rattle.sd_history.proofs.Contained.{none_holds}
+use Rattle.sd_history.proofs.Admitted.{rule_holds}
 use Rattle.sd_proof_safety.specs.invariant.Eras.{none_after}
 use Rattle.sd_proof_safety.specs.invariant.Clauses.{is_failure, is_mend, is_start, is_join, none_started_late, none_fails_after_mend, rests_after_commit, none_sealed_early}
 use Rattle.sd_proof_safety.specs.invariant.Invariant.{IsInOrder}
-use Rattle.sd_proof_safety.specs.invariant.Coming.{IsClean}
-use Rattle.sd_history.proofs.Parts.{premises_of}
+use Rattle.sd_proof_safety.specs.invariant.Guarded.{IsSteady}
+use Rattle.sd_proof_safety.proofs.invariant.Parts.{premises_of}
 use Rattle.sd_proof_safety.proofs.invariant.Prefix.{clean_before}
 
 -- the four parts of the premise on renewal, at the latest event
@@ -47,7 +48,7 @@ renews_at setting s seen all =
     (renew_holds setting seen) all in
     record { commits = h.0; seals = h.1; fails = h.2; begins = h.3 }
 
-pub renews : (setting : Setting) (e : Event) (history : List Event) → IsClean setting (e ∷ history)
+pub renews : (setting : Setting) (e : Event) (history : List Event) → IsSteady setting (e ∷ history)
     → RenewsAt setting (next_step setting (chronicle setting history) e).seen (seen_of (chronicle setting history))
 renews setting e history clean =
     renews_at setting (next_step setting (chronicle setting history) e).seen (seen_of (chronicle setting history))
@@ -58,11 +59,11 @@ pub record IsOrderly (seen : List Seen) (e : Event) : Type 0 where
   pub prepares : ((is_some (given e) || is_some (joined e) || is_some (mended e) || is_commit e) && past_preparing seen) ≡ false
   pub seals : (is_seal e && (not (window_is_open seen) || not (has_commit seen))) ≡ false
 
-pub orderly : (setting : Setting) (e : Event) (history : List Event) → IsHistory setting (e ∷ history) → IsOrderly (seen_of (chronicle setting history)) e
+pub orderly : (setting : Setting) (e : Event) (history : List Event) → IsAdmitted setting (e ∷ history) → IsOrderly (seen_of (chronicle setting history)) e
 orderly setting e history is =
     let steps = chronicle setting history in
     let order : window_order setting steps e ≡ false =
-    none_holds (causes setting steps e) _ is.1 (later (later (later (later (later (later (later (later (later (later (later (later first)))))))))))) in
+    rule_holds setting steps e _ is.1 (later (later (later (later (later (later (later (later (later (later (later (later first)))))))))))) refl in
     let outside : window_order_seen setting (seen_of steps) e ≡ false = (or_parts (window_order_seen setting (seen_of steps) e) _ order).0 in
     let last = or_parts _ (is_seal e && (not (window_is_open (seen_of steps)) || not (has_commit (seen_of steps)))) outside in
     let front = or_parts _ _ last.0 in
@@ -102,7 +103,7 @@ staged_before (s ∷ seen) is = by_parts s.closed (is_stage s.event) (window see
 
 module _ (setting : Setting) where
   -- nothing starts after a stage
-  pub starts_early : (history : List Event) → IsClean setting history → none_started_late (chronicle setting history) ≡ true
+  pub starts_early : (history : List Event) → IsSteady setting history → none_started_late (chronicle setting history) ≡ true
   starts_early [] clean = refl
   starts_early (e ∷ history) clean =
       and_from (none_started_late (chronicle setting history)) _ (starts_early history (clean_before setting e history clean))
@@ -110,7 +111,7 @@ module _ (setting : Setting) where
       (renews setting e history clean).begins).0
 
   -- nothing fails after the first mend of the open window
-  pub fails_before_mend : (history : List Event) → IsClean setting history → none_fails_after_mend (chronicle setting history) ≡ true
+  pub fails_before_mend : (history : List Event) → IsSteady setting history → none_fails_after_mend (chronicle setting history) ≡ true
   fails_before_mend [] clean = refl
   fails_before_mend (e ∷ history) clean =
       let steps = chronicle setting history in
@@ -145,7 +146,7 @@ module _ (setting : Setting) where
   late_when false false false true true false commits true f p s o = cc
   late_when false false false false true gives commits true f p s o = refl
 
-  pub rests : (history : List Event) → IsClean setting history → rests_after_commit (chronicle setting history) ≡ true
+  pub rests : (history : List Event) → IsSteady setting history → rests_after_commit (chronicle setting history) ≡ true
   rests [] clean = refl
   rests (e ∷ history) clean =
       let steps = chronicle setting history in
@@ -199,7 +200,7 @@ module _ (setting : Setting) where
       (subst (λ b. (not (not (is_commit s.event || commit)) || not (is_seal s.event || b)) ≡ true) (sym d)
       (sealed_when (is_seal s.event) commit true sealed (is_commit s.event) order before))
 
-  pub seals_late : (history : List Event) → IsClean setting history → none_sealed_early (chronicle setting history) ≡ true
+  pub seals_late : (history : List Event) → IsSteady setting history → none_sealed_early (chronicle setting history) ≡ true
   seals_late [] clean = refl
   seals_late (e ∷ history) clean =
       let steps = chronicle setting history in
@@ -207,6 +208,6 @@ module _ (setting : Setting) where
       sealed_by s.closed (is_stage e) s (window (seen_of steps)) (has_commit (seen_of steps)) (in_window (λ x. is_seal x.event) (seen_of steps)) refl refl
       (orderly setting e history clean.is).seals (seals_late history (clean_before setting e history clean))
 
-  pub in_order : (history : List Event) → IsClean setting history → IsInOrder setting (chronicle setting history)
+  pub in_order : (history : List Event) → IsSteady setting history → IsInOrder setting (chronicle setting history)
   in_order history clean =
       record { seals = seals_late history clean; starts = starts_early history clean; failures = fails_before_mend history clean; rest = rests history clean }

@@ -7,13 +7,12 @@ use Rattle.std.proofs.lemmas.Bool.{and_parts, or_left, or_right}
 use Rattle.sd_checker.specs.Num.Lists.{below}
 use Rattle.sd_history.specs.Msg.declared.Stamp.{Stamp}
 use Rattle.sd_history.specs.World.{Setting, Seen}
-use Rattle.sd_history.specs.Sched.Honesty.{sets_true_clock}
-use Rattle.sd_history.specs.Premises.{start_holds, reads_honestly, drift_holds, arrives_in_time, delay_holds, ticks_in_time, tick_holds, reaching_flights, spoils, spoiled_rounds, is_round, all_from, loss_holds, fails_within_one, domain_holds, commits_orderly, seals_orderly, fails_orderly, begins_orderly, renew_holds, all_hold}
+use Rattle.sd_history.specs.Premises.{reads_honestly, drift_holds, arrives_in_time, delay_holds, ticks_in_time, tick_holds, reaching_flights, spoils, spoiled_rounds, is_round, all_from, loss_holds, fails_within_one, domain_holds, commits_orderly, seals_orderly, fails_orderly, begins_orderly, renew_holds}
+use Rattle.sd_proof_safety.specs.invariant.Guarded.{all_but_start_hold, IsSteady}
 use Rattle.sd_history.specs.Sched.declared.Event.{Event}
 use Rattle.sd_history.specs.Steps.{seen_of}
 use Rattle.sd_history.specs.Chronicle.{next_step, chronicle}
-use Rattle.sd_history.proofs.Parts.{AllHold, premises_of, premises_hold}
-use Rattle.sd_proof_safety.specs.invariant.Coming.{IsClean}
+use Rattle.sd_proof_safety.proofs.invariant.Parts.{AllButStart, premises_of, premises_hold}
 use Rattle.sd_history.proofs.Among.{Among, first, later, passes, all_pass, on_right}
 use Rattle.sd_history.proofs.Shared.{stays_spoiled}
 
@@ -116,10 +115,9 @@ loss_before setting s seen holds =
 
 -- All
 
-pub premises_before : (setting : Setting) (s : Seen) (seen : List Seen) → AllHold setting (s ∷ seen) → AllHold setting seen
+pub premises_before : (setting : Setting) (s : Seen) (seen : List Seen) → AllButStart setting (s ∷ seen) → AllButStart setting seen
 premises_before setting s seen h =
     record {
-      start = (and_parts (sets_true_clock s.event) (start_holds seen) h.start).1;
       drift = (and_parts (drift_holds setting seen) (reads_honestly setting s seen) h.drift).0;
       delay = (and_parts (arrives_in_time setting s) (delay_holds setting seen) h.delay).1;
       tick = (and_parts (tick_holds setting seen) (ticks_in_time setting s seen) h.tick).0;
@@ -129,13 +127,13 @@ premises_before setting s seen h =
           && begins_orderly setting s seen) h.renew).0;
     }
 
-pub holds_before : (setting : Setting) (s : Seen) (seen : List Seen) → all_hold setting (s ∷ seen) ≡ true → all_hold setting seen ≡ true
+pub holds_before : (setting : Setting) (s : Seen) (seen : List Seen) → all_but_start_hold setting (s ∷ seen) ≡ true → all_but_start_hold setting seen ≡ true
 holds_before setting s seen all =
     let h = premises_before setting s seen (premises_of setting (s ∷ seen) all) in
     premises_hold setting seen h
 
--- a clean history was clean before its latest event
-pub clean_before : (setting : Setting) (e : Event) (history : List Event) → IsClean setting (e ∷ history) → IsClean setting history
+-- a steady history was steady before its latest event
+pub clean_before : (setting : Setting) (e : Event) (history : List Event) → IsSteady setting (e ∷ history) → IsSteady setting history
 clean_before setting e history clean =
     let steps = chronicle setting history in
     record { is = clean.is.0; premises = holds_before setting (next_step setting steps e).seen (seen_of steps) clean.premises }

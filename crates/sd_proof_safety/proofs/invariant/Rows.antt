@@ -9,7 +9,7 @@ use Rattle.sd_history.specs.Steps.{Step, seen_of, acts_in, parent_in}
 use Rattle.sd_history.specs.Chronicle.{chronicle}
 use Rattle.sd_history.specs.Refusals.{refusal}
 use Rattle.sd_history.specs.Premises.{all_hold}
-use Rattle.sd_history.proofs.Base.{steps_of, same_tick, base}
+use Rattle.sd_history.proofs.Base.{steps_of, same_tick, base, rounds_of_ticks}
 use Rattle.sd_history.proofs.Windows.{both_renewals}
 use Rattle.sd_proof_safety.specs.invariant.Invariant.{holds_at_each, invariant_holds}
 use Rattle.sd_proof_safety.proofs.invariant.Schedules.{one_plan, two_plans, three_plans, turned_plans, root_fails, mended_and_joined, backup_root_commits, link_fails, early_plans, commits_early, left_out, leaves_out, starts_late}
@@ -64,9 +64,6 @@ left_one_out = refl
 makes_a_loop : invariant_holds one_plan (steps_of one_plan (take 3 base ++ same_tick 1350000000 1 ∷ same_tick 6730000000 2 ∷ [])) ≡ false
 makes_a_loop = refl
 
-lost_rounds : List Event
-lost_rounds = flat_map (λ k. let t = 90000000 * (k + 1) in same_tick t 0 ∷ same_tick t 1 ∷ same_tick t 2 ∷ []) (below 30)
-
-makes_two_roots : invariant_holds one_plan (steps_of one_plan (take 3 base ++ lost_rounds)) ≡ false
-unfolding lost_rounds
+makes_two_roots : invariant_holds one_plan (steps_of one_plan (take 3 base ++ rounds_of_ticks)) ≡ false
+unfolding rounds_of_ticks
 makes_two_roots = refl

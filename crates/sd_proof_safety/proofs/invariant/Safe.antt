@@ -1,29 +1,29 @@
 -- From the invariant: no loop of live devices, and at most one that acts; before a commit, and from a commit to the closing.
-use Rattle.std.specs.Prelude.{◌≡◌, ℕ, zero, suc, ◌+◌, ◌<◌, ◌≤◌, Bool, true, false, ◌&&◌, ◌||◌, not, List, [], ◌∷◌, ◌++◌, length, filter, nat_eq, Some, None, refl, if◌then◌else◌}
+use Rattle.std.specs.Prelude.{◌≡◌, ℕ, zero, suc, ◌+◌, ◌<◌, ◌≤◌, Bool, true, false, ◌&&◌, not, List, [], ◌∷◌, ◌++◌, length, filter, nat_eq, Some, None, refl, if◌then◌else◌}
 use Rattle.std.proofs.Common.{arith, ◌∙◌, ap, sym, subst, length-append}
 use Rattle.std.proofs.lemmas.Bool.{and_parts, and_from, eqb-true, false_from_ne_true}
 use Rattle.std.proofs.lemmas.List.Elements.{filter-append}
-use Rattle.sd_checker.specs.Num.Lists.{below, same_number}
+use Rattle.sd_checker.specs.Num.Lists.{below, same_number, follow}
 use Rattle.sd_checker.specs.Topo.Network.{device_numbers}
 use Rattle.sd_checker.specs.Domain.Domains.{domains}
 use Rattle.sd_checker.specs.Plan.Plans.{Fits, is_member, is_root, is_backup_root}
 use Rattle.sd_checker.proofs.Plan.Rules.{KeepsRules, keeps_rules}
 use Rattle.sd_checker.specs.CheckLoop.Loops.{HasNoCycle}
-use Rattle.sd_checker.specs.Verdicts.{IsAccepted}
+use Rattle.sd_proof_safety.specs.invariant.Guarded.{IsGuarded}
 use Rattle.sd_checker.proofs.Num.Shared.{same_number-some}
 use Rattle.sd_history.specs.Sched.declared.Event.{Event}
 use Rattle.sd_history.specs.World.{Setting, is_up, has_commit, is_counted, joined_in_window}
 use Rattle.sd_history.specs.Steps.{seen_of, acts_in}
 use Rattle.sd_history.specs.Chronicle.{next_step, chronicle}
-use Rattle.sd_history.specs.Lines.{counted_parent, follow, is_on_loop, first_on_loop, roots}
+use Rattle.sd_history.specs.Lines.{counted_parent, is_on_loop, first_on_loop, roots}
 use Rattle.sd_proof_safety.specs.invariant.Eras.{plan_now, is_old, is_new, is_blank, is_ordinary, root_failed}
 use Rattle.sd_proof_safety.specs.invariant.Clauses.{staged_root, backup_root_acts}
 use Rattle.sd_proof_safety.specs.invariant.Invariant.{Invariant}
-use Rattle.sd_proof_safety.specs.invariant.Kept.{EachKeeps, InvariantIsSafe, StaysSafe}
-use Rattle.sd_history.proofs.Parts.{premises_of}
+use Rattle.sd_proof_safety.specs.invariant.Kept.{EachKeeps, InvariantIsSafe, AlwaysSafe}
+use Rattle.sd_proof_safety.proofs.invariant.Parts.{premises_of}
 use Rattle.sd_history.proofs.Shared.{each_among}
 use Rattle.sd_proof_safety.proofs.invariant.Prefix.{Passing, some_passing}
-use Rattle.sd_proof_safety.proofs.invariant.Whole.{found_none, stays_safe}
+use Rattle.sd_proof_safety.proofs.invariant.Whole.{found_none, always_safe}
 use Rattle.sd_proof_safety.proofs.invariant.Cycles.{no_cycle}
 use Rattle.sd_proof_safety.proofs.invariant.Domains.{Holding, holding}
 use Rattle.sd_proof_safety.proofs.invariant.InForce.{in_force_too}
@@ -34,9 +34,9 @@ use Rattle.sd_proof_safety.proofs.windows.Acting.{no_blank}
 
 module _ (setting : Setting) (history : List Event) (inv : Invariant setting (chronicle setting history)) (held : Holding setting (chronicle setting history))
     (fits : Fits setting.net (plan_now setting (chronicle setting history)))
-    (accepted : IsAccepted setting.net (plan_now setting (chronicle setting history))) where
+    (guarded : IsGuarded setting.net (plan_now setting (chronicle setting history))) where
   rules : KeepsRules setting.net (plan_now setting (chronicle setting history))
-  rules = keeps_rules setting.net (plan_now setting (chronicle setting history)) accepted.structure
+  rules = keeps_rules setting.net (plan_now setting (chronicle setting history)) guarded.structure
 
   -- following parents comes back to nobody
   pub comes_back_to_none : (n d : ℕ) → follow (counted_parent setting (chronicle setting history)) (suc n) d ≡ Some d → ⊥
@@ -44,7 +44,7 @@ module _ (setting : Setting) (history : List Event) (inv : Invariant setting (ch
       let plan = plan_now setting (chronicle setting history) in
       no_cycle (counted_parent setting (chronicle setting history)) plan (root_stops setting history inv) setting.net held.domain
       (edge setting history inv held)
-      (each_among (HasNoCycle setting.net plan) (domains setting.net) held.domain accepted.loop held.among)
+      (each_among (HasNoCycle setting.net plan) (domains setting.net) held.domain guarded.loop held.among)
       (backup_root_stops setting history inv fits rules) n d same
 
   on_no_loop : (d : ℕ) → is_on_loop setting (chronicle setting history) d ≡ false
@@ -175,10 +175,10 @@ invariant_is_safe setting e history fair clean inv =
     record {
       loop =
           no_loop setting all inv held (in_force_too (Fits setting.net) setting all fair.fit fair.some_plan clean.is)
-          (in_force_too (IsAccepted setting.net) setting all fair.accepted fair.some_plan clean.is);
+          (in_force_too (IsGuarded setting.net) setting all fair.guarded fair.some_plan clean.is);
       root = one_root setting all inv;
     }
 
--- where each kind of event keeps the invariant, every clean history is safe
-pub safe : (setting : Setting) → EachKeeps setting → StaysSafe setting
-safe setting keeps = stays_safe keeps (invariant_is_safe setting)
+-- where each kind of event keeps the invariant, every steady history is safe
+pub safe : (setting : Setting) → EachKeeps setting → AlwaysSafe setting
+safe setting keeps = always_safe keeps (invariant_is_safe setting)

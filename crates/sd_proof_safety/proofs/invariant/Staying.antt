@@ -16,7 +16,7 @@ use Rattle.sd_checker.specs.Plan.Structure.{is_no_ancestor, hop_is_right}
 use Rattle.sd_checker.proofs.Plan.Rules.{KeepsRules, keeps_rules, hops_within}
 use Rattle.sd_checker.proofs.Plan.Numbered.{none_found}
 use Rattle.sd_checker.specs.CheckRoot.Roots.{fallback_devices, fallback_links}
-use Rattle.sd_checker.specs.Verdicts.{IsAccepted}
+use Rattle.sd_proof_safety.specs.invariant.Guarded.{IsGuarded}
 use Rattle.sd_checker.proofs.Num.Shared.{same_number-some}
 use Rattle.sd_checker.proofs.Domain.Within.{same_thing-true}
 use Rattle.sd_history.specs.World.{Setting, is_up, joined_in_window}
@@ -210,9 +210,9 @@ above_when net plan x (Some hop) is in_ =
     (among_of (filter (λ d. not (is_root plan d)) (devices_of hop.parent (walk net plan hop.parent))) x in_) in
     record { hop = hop; is = is; among = both.0; other = not-true (is_root plan x) both.1 }
 
-module _ (net : Network) (plan : Plan) (fits : Fits net plan) (accepted : IsAccepted net plan) where
+module _ (net : Network) (plan : Plan) (fits : Fits net plan) (guarded : IsGuarded net plan) where
   rules : KeepsRules net plan
-  rules = keeps_rules net plan accepted.structure
+  rules = keeps_rules net plan guarded.structure
 
   within_of : (o : Option Hop) (hop : Hop) → IfSome o (IsHop net) → o ≡ Some hop → hop.parent < length net.devices
   within_of None hop each is = cc
@@ -247,7 +247,7 @@ module _ (net : Network) (plan : Plan) (fits : Fits net plan) (accepted : IsAcce
   not_backup_root x above =
       let b = plan.backup_root in
       let none : is_no_ancestor net plan b ≡ true =
-      not-false (is_no_ancestor net plan b) (none_found (λ d. not (is_no_ancestor net plan d)) (length net.devices) b accepted.ancestor fits.backup_root) in
+      not-false (is_no_ancestor net plan b) (none_found (λ d. not (is_no_ancestor net plan d)) (length net.devices) b guarded.ancestor fits.backup_root) in
       let off : on_walk net plan above.hop.parent b ≡ false =
       ancestor_when (backup_of plan b) above.hop (is_backup_root plan b) above.is (eq-eqb b b refl) none in
       false_from_ne_true (is_backup_root plan x)
@@ -302,7 +302,7 @@ found_of setting steps x touched =
       other = subst (λ y. same_thing r y ≡ false) (sym same) (not-true (same_thing r two.one) both.1);
     }
 
-module _ (setting : Setting) (steps : List Step) (fits : Fits setting.net (plan_now setting steps)) (accepted : IsAccepted setting.net (plan_now setting steps))
+module _ (setting : Setting) (steps : List Step) (fits : Fits setting.net (plan_now setting steps)) (guarded : IsGuarded setting.net (plan_now setting steps))
     (devices : (x : ℕ) → fallback_device_is_sound setting steps x ≡ true) (links : (l : ℕ) → fallback_link_is_sound setting steps l ≡ true)
     (caused : (x : ℕ) → backup_is_caused setting steps x ≡ true) (outsiders : (x : ℕ) → outsider_is_past setting steps x ≡ true) where
   no_link : (x : ℕ) (above : IsAbove setting.net (plan_now setting steps) x) (h : Hop) → backup_root_moved setting steps ≡ true
@@ -311,7 +311,7 @@ module _ (setting : Setting) (steps : List Step) (fits : Fits setting.net (plan_
       not_both (not (link_failed_now steps h.link))
       (implied (backup_root_moved setting steps && has (fallback_links setting.net (plan_now setting steps)) h.link) (not (link_failed_now steps h.link))
       (links h.link)
-      (and_from (backup_root_moved setting steps) _ has_moved (link_in_fallback setting.net (plan_now setting steps) fits accepted x above h a)))
+      (and_from (backup_root_moved setting steps) _ has_moved (link_in_fallback setting.net (plan_now setting steps) fits guarded x above h a)))
       (ap not failed)
 
   no_device : (x : ℕ) (above : IsAbove setting.net (plan_now setting steps) x) (h : Hop) → backup_root_moved setting steps ≡ true
@@ -321,7 +321,7 @@ module _ (setting : Setting) (steps : List Step) (fits : Fits setting.net (plan_
       not_both (not (device_failed_now steps h.parent))
       (implied (backup_root_moved setting steps && has (fallback_devices setting.net (plan_now setting steps)) h.parent)
       (not (device_failed_now steps h.parent)) (devices h.parent)
-      (and_from (backup_root_moved setting steps) _ has_moved (device_in_fallback setting.net (plan_now setting steps) fits accepted x above h a other)))
+      (and_from (backup_root_moved setting steps) _ has_moved (device_in_fallback setting.net (plan_now setting steps) fits guarded x above h a other)))
       (ap not failed)
 
   not_hit_otherwise : (x : ℕ) (above : IsAbove setting.net (plan_now setting steps) x) → backup_root_moved setting steps ≡ true → IsFound setting steps x → ⊥
@@ -356,7 +356,7 @@ module _ (setting : Setting) (steps : List Step) (fits : Fits setting.net (plan_
       let ordinary : is_ordinary plan x ≡ true =
       and_from (is_member plan x && not (is_root plan x)) (not (is_backup_root plan x))
       (and_from (is_member plan x) (not (is_root plan x)) (old_is_member setting steps x (outsiders x) one.1) (ap not above.other))
-      (ap not (not_backup_root setting.net plan fits accepted x above)) in
+      (ap not (not_backup_root setting.net plan fits guarded x above)) in
       let cause : (hit setting steps x && (hit_otherwise setting steps x || backup_root_acts setting steps)) ≡ true =
       implied (is_old steps x && is_ordinary plan x && moved steps x) _ (caused x)
       (and_from (is_old steps x && is_ordinary plan x) (moved steps x) (and_from (is_old steps x) (is_ordinary plan x) one.1 ordinary) has_moved) in

@@ -1,5 +1,5 @@
--- An accepted plan meets the inequalities of Arithmetic, with the numbers of its network; and the waits of each device lie within them.
-use Rattle.std.specs.Prelude.{◌≡◌, ℕ, ◌+◌, ◌*◌, ◌≤◌, ◌<◌, List, [], ◌∷◌, map, None, if◌then◌else◌}
+-- A guarded plan meets the inequalities of Arithmetic, with the numbers of its network; and the waits of each device lie within them.
+use Rattle.std.specs.Prelude.{◌≡◌, ℕ, ◌+◌, ◌*◌, ◌≤◌, ◌<◌, List, [], ◌∷◌, map, None}
 use Rattle.std.proofs.Common.{arith}
 use Rattle.std.proofs.lemmas.Bool.{ltb-false, leb-false}
 use Rattle.sd_checker.specs.Num.Lists.{least, greatest}

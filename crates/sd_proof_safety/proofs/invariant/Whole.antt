@@ -1,9 +1,9 @@
--- The induction: where each kind of event keeps the invariant, it holds after each event of every clean history; and where it gives no loop and
--- one root, every clean history is safe.
+-- The induction: where each kind of event keeps the invariant, it holds after each event of every steady history; and where it gives no loop and
+-- one root, every steady history is safe.
 use Rattle.std.specs.Prelude.{◌≡◌, ℕ, suc, ◌+◌, ◌≤◌, Bool, true, false, ◌||◌, List, [], ◌∷◌, length, filter, find, Option, Some, None, option_and_then, refl, if◌then◌else◌}
 use Rattle.std.specs.List.{list_any}
 use Rattle.std.proofs.Common.{arith, ◌∙◌, ap}
-use Rattle.sd_checker.specs.Num.Lists.{map_or, same_number}
+use Rattle.sd_checker.specs.Num.Lists.{map_or, same_number, follow}
 use Rattle.sd_checker.specs.Topo.Network.{device_numbers}
 use Rattle.sd_history.specs.Core.Calls as calls
 use Rattle.sd_history.specs.Core.Calls.{Transition, Nothing, Emitted, TookOver, Moved, Past}
@@ -12,11 +12,11 @@ use Rattle.sd_history.specs.Sched.declared.Event.{Event}
 use Rattle.sd_history.specs.Sched.declared.Event.TheVariants as event
 use Rattle.sd_history.specs.World.{Setting}
 use Rattle.sd_history.specs.Chronicle.{past_in, chronicle}
-use Rattle.sd_history.specs.Lines.{counted_parent, follow, is_on_loop}
+use Rattle.sd_history.specs.Lines.{counted_parent, is_on_loop}
 use Rattle.sd_proof_safety.specs.invariant.Invariant.{Core, Invariant, AtEach}
 use Rattle.sd_proof_safety.specs.invariant.Clauses.{just_closed}
 use Rattle.sd_proof_safety.specs.invariant.Coming.{IsNextEvent}
-use Rattle.sd_proof_safety.specs.invariant.Kept.{Keeps, transition_of_tick, EachKeeps, StaysInvariant, IsSafe, InvariantIsSafe, SafePhase, StaysSafe}
+use Rattle.sd_proof_safety.specs.invariant.Kept.{Keeps, transition_of_tick, EachKeeps, StaysInvariant, IsSafe, InvariantIsSafe, SafePhase, AlwaysSafe}
 use Rattle.sd_proof_safety.proofs.invariant.Prefix.{clean_before}
 use Rattle.sd_proof_safety.proofs.invariant.Following.{invariant_of}
 
@@ -97,10 +97,10 @@ safe_yet setting =
       root = none_left (device_numbers setting.net);
     }
 
-pub stays_safe : {setting : Setting} → EachKeeps setting → InvariantIsSafe setting → StaysSafe setting
-stays_safe {setting} keeps safe [] fair clean = safe_yet setting
-stays_safe {setting} keeps safe (e ∷ earlier) fair clean = safe e earlier fair clean (stays_invariant keeps (e ∷ earlier) fair clean).1
+pub always_safe : {setting : Setting} → EachKeeps setting → InvariantIsSafe setting → AlwaysSafe setting
+always_safe {setting} keeps safe [] fair clean = safe_yet setting
+always_safe {setting} keeps safe (e ∷ earlier) fair clean = safe e earlier fair clean (stays_invariant keeps (e ∷ earlier) fair clean).1
 
 -- safe phase is a part of it
-pub safe_phase : {setting : Setting} → StaysSafe setting → SafePhase setting
+pub safe_phase : {setting : Setting} → AlwaysSafe setting → SafePhase setting
 safe_phase safe history fair clean shut = safe history fair clean

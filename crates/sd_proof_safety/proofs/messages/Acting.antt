@@ -1,5 +1,5 @@
 -- While a device acts, with no entering receipt in between, it acts on, its term stays, and its rounds count its emissions.
-use Rattle.std.specs.Prelude.{◌≡◌, ℕ, ◌+◌, ◌-◌, max, Bool, true, false, ◌&&◌, not, ◌∷◌, nat_eq, nat_le, Option, Some, None, option_map, option_and_then, refl, if◌then◌else◌}
+use Rattle.std.specs.Prelude.{◌≡◌, ℕ, ◌+◌, ◌-◌, max, Bool, true, false, ◌&&◌, not, nat_eq, nat_le, Option, Some, None, option_map, option_and_then, refl, if◌then◌else◌}
 use Rattle.std.proofs.Common.{arith, sym, ◌∙◌, ap, subst}
 use Rattle.sd_checker.specs.Num.Lists.{map_or}
 use Rattle.sd_checker.specs.Plan.declared.Duty.{Duty}

@@ -8,7 +8,7 @@ use Rattle.sd_history.specs.Msg.declared.Stamp.{Stamp}
 use Rattle.sd_history.specs.World.{Setting, Seen}
 use Rattle.sd_history.specs.Premises.{spoiled_rounds, is_round, all_from, loss_holds}
 use Rattle.sd_history.proofs.Among.{Among, first, later, passes}
-use Rattle.sd_proof_safety.specs.messages.Rounds.{is_spoiled}
+use Rattle.sd_history.specs.Rounds.{is_spoiled}
 
 all_and : (test : ℕ → Bool) (xs : List ℕ) (x : ℕ) → list_all test xs ≡ true → test x ≡ true → list_all test (xs ++ x ∷ []) ≡ true
 all_and test [] x all holds = and_from (test x) true holds refl

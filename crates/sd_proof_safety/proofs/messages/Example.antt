@@ -18,8 +18,9 @@ use Rattle.sd_history.specs.Sched.declared.Event.{Event}
 use Rattle.sd_history.specs.Sched.declared.Event.TheVariants.{Start, Tick, Recv}
 use Rattle.sd_history.specs.World.{Setting, plan_numbered, epoch_in_force}
 use Rattle.sd_history.specs.Steps.{Act, Calls, Step, changed, seen_of}
-use Rattle.sd_history.specs.Chronicle.{past_in, new_past, next_step, chronicle, IsHistory}
-use Rattle.sd_history.specs.Premises.{all_hold}
+use Rattle.sd_history.specs.Chronicle.{past_in, new_past, next_step, chronicle}
+use Rattle.sd_history.specs.Admitted.{IsAdmitted}
+use Rattle.sd_proof_safety.specs.invariant.Guarded.{all_but_start_hold}
 use Rattle.sd_history.proofs.Given.{some_is}
 use Rattle.sd_proof_safety.specs.messages.Moments.{whole, behind, Moment, upto, IsIn, Emits, is_emission}
 use Rattle.sd_proof_safety.specs.messages.Rounds.{IsOnlyEmission, IsSpaced, IsReady, follows_parent, IsWhole, IsCurrent, Flows}
@@ -87,10 +88,10 @@ history = Tick 110 1 110 ∷ Recv 101 1 101 1 ∷ Tick 100 0 100 ∷ before
 abbrev steps : List Step
 steps = chronicle setting history
 
-is_history : IsHistory setting history
+is_history : IsAdmitted setting history
 is_history = (((((((tt, refl), refl), refl), refl), refl), refl), refl)
 
-premises : all_hold setting (seen_of steps) ≡ true
+premises : all_but_start_hold setting (seen_of steps) ≡ true
 premises = refl
 
 -- The emission

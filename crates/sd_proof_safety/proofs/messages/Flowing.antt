@@ -19,8 +19,9 @@ use Rattle.sd_history.specs.Premises.{delay_holds, is_in_time, is_overdue}
 use Rattle.sd_history.proofs.Among.{Among, first, later, found, on_right}
 use Rattle.sd_history.proofs.Given.{some_is}
 use Rattle.sd_history.proofs.flights.Sending.{counted}
+use Rattle.sd_history.specs.Rounds.{is_spoiled}
 use Rattle.sd_proof_safety.specs.messages.Moments.{Tail, whole, behind, IsChronicle, Moment, upto, when, IsIn, IsBefore, Sends}
-use Rattle.sd_proof_safety.specs.messages.Rounds.{is_spoiled, Takes, Hears, HeardSince, IsOpen, AreOpen, Flows, arrived, heard}
+use Rattle.sd_proof_safety.specs.messages.Rounds.{Takes, Hears, HeardSince, IsOpen, AreOpen, Flows, arrived, heard}
 use Rattle.sd_proof_safety.proofs.messages.Tails.{Order, before, same, after as comes_after, ordered, tail_trans, tail_chronicle, rest_of, moment_arrives, no_later, step_time, before_is_earlier}
 use Rattle.sd_proof_safety.proofs.messages.Sending.{sends_own}
 use Rattle.sd_proof_safety.proofs.messages.Receipts.{Taken, taken_flight}

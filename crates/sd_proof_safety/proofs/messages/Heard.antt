@@ -7,8 +7,9 @@ use Rattle.sd_history.specs.World.{Setting}
 use Rattle.sd_history.specs.Steps.{Step, seen_of}
 use Rattle.sd_history.specs.Premises.{loss_holds}
 use Rattle.sd_history.proofs.Among.{Among}
+use Rattle.sd_history.specs.Rounds.{is_spoiled}
 use Rattle.sd_proof_safety.specs.messages.Moments.{Moment, when}
-use Rattle.sd_proof_safety.specs.messages.Rounds.{is_spoiled, Flows, AreWhole}
+use Rattle.sd_proof_safety.specs.messages.Rounds.{Flows, AreWhole}
 use Rattle.sd_proof_safety.proofs.messages.Cleans.{Clean, one_is_clean}
 use Rattle.sd_proof_safety.proofs.messages.Flowing.{HeardBy, each_heard}
 use Rattle.sd_proof_safety.proofs.messages.Opening.{IsOnItsWay, round_flows}

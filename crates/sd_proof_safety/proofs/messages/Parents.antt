@@ -13,6 +13,7 @@ use Rattle.sd_checker.specs.Plan.declared.Duty.{Duty}
 use Rattle.sd_checker.specs.Plan.declared.End.{End}
 use Rattle.sd_checker.specs.Plan.Plans.{primary_of, backup_of}
 use Rattle.sd_checker.specs.Plan.Duties.{duty_of, edge_of, ends_of, follows_over, leads_to}
+use Rattle.sd_checker.proofs.Num.Firsts.{find_passes}
 use Rattle.sd_history.specs.Msg.declared.Stamp.{Stamp}
 use Rattle.sd_history.specs.Msg.declared.Message.{Message}
 use Rattle.sd_history.specs.Msg.declared.Flight.{Flight}
@@ -121,14 +122,6 @@ follows_leads plan d x l holds = go (or_cases (leads_to x l (primary_of plan d))
     go (inl one) = leads_by plan d x l (primary_of plan d) (λ h same. inl same) one
     go (inr two) = leads_by plan d x l (backup_of plan d) (λ h same. inr same) two
 
-found_passes : (p : ℕ → Bool) (xs : List ℕ) (c : ℕ) → find p xs ≡ Some c → p c ≡ true
-found_passes p [] c same = cc
-found_passes p (x ∷ xs) c same = go (p x) refl same (found_passes p xs c)
-  where
-    go : (b : Bool) → p x ≡ b → cond b (Some x) (find p xs) ≡ Some c → (find p xs ≡ Some c → p c ≡ true) → p c ≡ true
-    go true is same' rest = subst (λ y. p y ≡ true) (some_is same') is
-    go false is same' rest = rest same'
-
 end_leads : (net : Network) (plan : Plan) (x : ℕ) (ls : List ℕ) (e : End)
     → Among e (filter_map (λ l. option_map (λ c. record { link = l; device = c }) (find (follows_over plan x l) (device_numbers net))) ls)
     → Leads plan e.device x e.link
@@ -154,7 +147,7 @@ end_leads net plan x (l ∷ ls) e a = go (find (follows_over plan x l) (device_n
     go None is b rest = rest b
     go (Some c) is b rest =
         at_head c (filter_map (λ k. option_map (λ c'. record { link = k; device = c' }) (find (follows_over plan x k) (device_numbers net))) ls)
-        (found_passes (follows_over plan x l) (device_numbers net) c is) b rest
+        (find_passes (follows_over plan x l) (device_numbers net) c is) b rest
 
 -- whom a device sends to in an epoch follows it in the plan of that epoch
 pub ends_lead : (setting : Setting) (steps : List Step) (epoch x : ℕ) (e : End) → Among e (ends_at setting steps epoch x)

@@ -6,12 +6,12 @@ use Rattle.sd_checker.specs.Num.Lists.{below}
 use Rattle.sd_history.specs.Msg.declared.Stamp.{Stamp}
 use Rattle.sd_history.specs.World.{Setting}
 use Rattle.sd_history.specs.Steps.{Step, seen_of}
-use Rattle.sd_history.specs.Sched.Honesty.{sets_true_clock}
-use Rattle.sd_history.specs.Premises.{reads_honestly, arrives_in_time, ticks_in_time, spoiled_rounds, all_from, loss_holds, fails_within_one, commits_orderly, seals_orderly, fails_orderly, begins_orderly, all_hold}
+use Rattle.sd_history.specs.Premises.{reads_honestly, arrives_in_time, ticks_in_time, spoiled_rounds, all_from, loss_holds, fails_within_one, commits_orderly, seals_orderly, fails_orderly, begins_orderly}
+use Rattle.sd_proof_safety.specs.invariant.Guarded.{all_but_start_hold}
 use Rattle.sd_history.proofs.Among.{passes, all_pass}
-use Rattle.sd_history.proofs.Parts.{AllHold, premises_of, premises_hold}
+use Rattle.sd_history.specs.Rounds.{is_spoiled}
+use Rattle.sd_proof_safety.proofs.invariant.Parts.{AllButStart, premises_of, premises_hold}
 use Rattle.sd_proof_safety.specs.messages.Moments.{Tail}
-use Rattle.sd_proof_safety.specs.messages.Rounds.{is_spoiled}
 use Rattle.sd_proof_safety.proofs.messages.Tails.{tail_all, tail_each}
 use Rattle.sd_proof_safety.proofs.messages.Spoils.{clean_before}
 use Rattle.sd_proof_safety.proofs.messages.Cleans.{not_all}
@@ -44,10 +44,9 @@ loss_before setting older steps t holds =
         (all_pass (λ i. is_spoiled (seen_of steps) r.term (r.round + i)) (below (suc setting.net.params.loss))
         (λ i a. spoiled_on older steps r.term (r.round + i) t (passes (λ j. is_spoiled (seen_of older) r.term (r.round + j)) a before)))
 
-pub premises_before : (setting : Setting) (older steps : List Step) → Tail older steps → AllHold setting (seen_of steps) → AllHold setting (seen_of older)
+pub premises_before : (setting : Setting) (older steps : List Step) → Tail older steps → AllButStart setting (seen_of steps) → AllButStart setting (seen_of older)
 premises_before setting older steps t p =
     record {
-      start = tail_all (λ s. sets_true_clock s.event) t p.start;
       drift = tail_each (reads_honestly setting) t p.drift;
       delay = tail_all (arrives_in_time setting) t p.delay;
       tick = tail_each (ticks_in_time setting) t p.tick;
@@ -57,7 +56,7 @@ premises_before setting older steps t p =
           && begins_orderly setting s earlier) t p.renew;
     }
 
-pub all_hold_before : (setting : Setting) (older steps : List Step) → Tail older steps → all_hold setting (seen_of steps) ≡ true
-    → all_hold setting (seen_of older) ≡ true
-all_hold_before setting older steps t all =
+pub all_but_start_before : (setting : Setting) (older steps : List Step) → Tail older steps → all_but_start_hold setting (seen_of steps) ≡ true
+    → all_but_start_hold setting (seen_of older) ≡ true
+all_but_start_before setting older steps t all =
     premises_hold setting (seen_of older) (premises_before setting older steps t (premises_of setting (seen_of steps) all))

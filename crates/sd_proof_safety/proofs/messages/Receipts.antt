@@ -19,11 +19,11 @@ use Rattle.sd_history.specs.Sched.declared.Event.TheVariants as event
 use Rattle.sd_history.specs.Sched.Events.{reference_of}
 use Rattle.sd_history.specs.World.{Setting, fails, link_has_failed, is_up, staged, staged_epoch, latest_reference}
 use Rattle.sd_history.specs.Steps.{Calls, Passes, Step, seen_of, flight_numbered, ends_at, act_by, taken_by}
-use Rattle.sd_history.specs.Refusals.{causes, since_sending, was_swept, was_used, is_spent, spent_message, wrong_device}
+use Rattle.sd_history.specs.Refusals.{since_sending, was_swept, was_used, is_spent, spent_message, wrong_device}
 use Rattle.sd_history.specs.Chronicle.{past_in}
 use Rattle.sd_history.specs.Premises.{delay_holds, is_in_time}
 use Rattle.sd_history.proofs.Among.{Among, first, later}
-use Rattle.sd_history.proofs.Contained.{none_holds}
+use Rattle.sd_history.proofs.Admitted.{rule_holds}
 use Rattle.sd_history.proofs.Given.{some_is}
 use Rattle.sd_history.proofs.flights.Sending.{IsOver}
 use Rattle.sd_proof_safety.specs.messages.Moments.{IsChronicle, Moment, upto, when, IsIn, IsBefore, Sends, Receipt}
@@ -147,9 +147,9 @@ taken_flight setting p d l m c is act =
       receivable =
           receivable_by p.earlier g.reference d (flight_numbered p.earlier g.number) g.flight g.found
           (subst (λ e. spent_message p.earlier e ≡ false) g.event_is
-          (none_holds (causes setting p.earlier p.step.seen.event) _ is.2 (later (later (later (later (later first)))))))
+          (rule_holds setting p.earlier p.step.seen.event _ is.2 (later (later (later (later (later first))))) refl))
           (subst (λ e. wrong_device p.earlier e ≡ false) g.event_is
-          (none_holds (causes setting p.earlier p.step.seen.event) _ is.2 (later (later (later (later (later (later first))))))));
+          (rule_holds setting p.earlier p.step.seen.event _ is.2 (later (later (later (later (later (later first)))))) refl));
       link = g.link;
       message = g.message;
       event_is = g.event_is ∙ ap (λ r. event.Recv r d c g.number) (sym (ap reference_of g.event_is));

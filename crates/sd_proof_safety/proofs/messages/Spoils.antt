@@ -14,8 +14,8 @@ use Rattle.sd_history.specs.Steps.{Step, seen_of}
 use Rattle.sd_history.specs.Premises.{reaching_flights, seen_since_sending, was_received, is_overdue, was_interrupted, spoils, spoiled_rounds, is_round}
 use Rattle.sd_history.proofs.Among.{Among, first, later, on_right}
 use Rattle.sd_history.proofs.Shared.{stays_spoiled}
+use Rattle.sd_history.specs.Rounds.{is_spoiled}
 use Rattle.sd_proof_safety.specs.messages.Moments.{Tail, whole, behind, Moment, upto, when, IsIn, IsBefore}
-use Rattle.sd_proof_safety.specs.messages.Rounds.{is_spoiled}
 use Rattle.sd_proof_safety.proofs.invariant.Prefix.{Passing, some_passing, any_passing}
 use Rattle.sd_proof_safety.proofs.invariant.Staying.{filter_out, filter_in, mapped_in}
 

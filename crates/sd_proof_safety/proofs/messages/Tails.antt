@@ -7,9 +7,10 @@ use Rattle.sd_history.specs.Sched.declared.Event.{Event}
 use Rattle.sd_history.specs.Sched.Events.{reference_of}
 use Rattle.sd_history.specs.World.{Setting, Seen, latest_reference}
 use Rattle.sd_history.specs.Steps.{Step, seen_of}
-use Rattle.sd_history.specs.Chronicle.{chronicle, IsHistory}
+use Rattle.sd_history.specs.Chronicle.{chronicle}
+use Rattle.sd_history.specs.Admitted.{IsAdmitted}
 use Rattle.sd_history.specs.Premises.{at_each, delay_holds, arrives_in_time}
-use Rattle.sd_history.proofs.Contained.{time_goes_on}
+use Rattle.sd_history.proofs.Contained.{admitted_time_goes_on}
 use Rattle.sd_proof_safety.specs.messages.Moments.{Tail, whole, behind, IsChronicle, Moment, upto, when, IsIn, IsBefore}
 
 pub tail_trans : {A : Type 0} {xs ys zs : List A} → Tail xs ys → Tail ys zs → Tail xs zs
@@ -30,7 +31,7 @@ tail_chronicle setting whole is = is
 tail_chronicle setting (behind t) is = tail_chronicle setting t is.0
 
 -- the steps of a history are a chronicle
-pub history_chronicle : (setting : Setting) (history : List Event) → IsHistory setting history → IsChronicle setting (chronicle setting history)
+pub history_chronicle : (setting : Setting) (history : List Event) → IsAdmitted setting history → IsChronicle setting (chronicle setting history)
 history_chronicle setting [] is = tt
 history_chronicle setting (e ∷ earlier) is = (history_chronicle setting earlier is.0, refl, is.1)
 
@@ -53,7 +54,7 @@ moment_arrives setting p steps t holds =
 
 pub step_time : (setting : Setting) (s : Step) (earlier : List Step) → IsChronicle setting (s ∷ earlier)
     → latest_reference (seen_of earlier) ≤ reference_of s.seen.event
-step_time setting s earlier is = time_goes_on setting earlier s.seen.event is.2
+step_time setting s earlier is = admitted_time_goes_on setting earlier s.seen.event is.2
 
 -- no moment is later than the newest step
 pub no_later : (setting : Setting) (p : Moment) (steps : List Step) → IsChronicle setting steps → IsIn p steps → when p ≤ latest_reference (seen_of steps)

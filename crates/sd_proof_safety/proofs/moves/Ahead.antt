@@ -22,19 +22,20 @@ use Rattle.sd_history.specs.Things.{mended}
 use Rattle.sd_checker.specs.Topo.Network.{device_numbers}
 use Rattle.sd_history.specs.World.{Setting, Seen, makes, fails, is_up, window, window_is_open, has_commit, staged_epoch, in_force, staged, is_staged_member, plan_numbered}
 use Rattle.sd_history.specs.Steps.{Act, Makes, Calls, Asks, Passes, Answers, Step, seen_of, act_by, changed, flight_numbered, answers_in, live_answers, epoch_in, has_settled, first_step, activated_by, can_close}
-use Rattle.sd_history.specs.Refusals.{causes, window_order, window_order_seen, window_order_within}
+use Rattle.sd_history.specs.Refusals.{window_order, window_order_seen, window_order_within}
 use Rattle.sd_history.specs.Chronicle.{new_past, past_in, past_after, answers_by, told_by, chronicle}
 use Rattle.sd_history.proofs.Among.{Among, first, later, passes}
-use Rattle.sd_history.proofs.Contained.{none_holds}
+use Rattle.sd_history.proofs.Admitted.{rule_holds}
 use Rattle.sd_history.proofs.Bridges.{answers_by_words}
 use Rattle.sd_proof_safety.specs.invariant.Eras.{era, is_new}
 use Rattle.sd_proof_safety.specs.invariant.Invariant.{Core, Invariant, AtEach}
-use Rattle.sd_proof_safety.specs.invariant.Coming.{IsFair, IsClean, IsNextEvent}
+use Rattle.sd_proof_safety.specs.invariant.Guarded.{AreGuarded, IsSteady}
+use Rattle.sd_proof_safety.specs.invariant.Coming.{IsNextEvent}
 use Rattle.sd_proof_safety.proofs.invariant.Orders.{orderly}
 use Rattle.sd_proof_safety.proofs.invariant.Prefix.{clean_before}
 use Rattle.sd_proof_safety.proofs.invariant.Staying.{filter_in}
 use Rattle.sd_proof_safety.specs.timers.Times.{Fits, gives_duty, makes_device}
-use Rattle.sd_history.proofs.Known.{up_is_known}
+use Rattle.sd_history.proofs.Known.{admitted_up_is_known}
 use Rattle.sd_history.proofs.Given.{some_is}
 use Rattle.sd_history.proofs.Shared.{among_below}
 use Rattle.sd_proof_safety.proofs.timers.Histories.{timed}
@@ -174,8 +175,8 @@ module _ (setting : Setting) (e : Event) (history : List Event) (comes : IsNextE
   no_second_stage : (is_stage e && window_is_open (seen_of steps)) ≡ false
   no_second_stage =
       let order : window_order setting steps e ≡ false =
-      none_holds (causes setting steps e) _ comes.clean.is.1
-      (later (later (later (later (later (later (later (later (later (later (later (later first)))))))))))) in
+      rule_holds setting steps e _ comes.clean.is.1
+      (later (later (later (later (later (later (later (later (later (later (later (later first)))))))))))) refl in
       let outside : window_order_seen setting (seen_of steps) e ≡ false =
       (or_parts (window_order_seen setting (seen_of steps) e) (window_order_within steps e) order).0 in
       (or_parts (is_stage e && window_is_open (seen_of steps)) _
@@ -202,8 +203,8 @@ module _ (setting : Setting) (e : Event) (history : List Event) (comes : IsNextE
           let of_staged : is_staged_member setting (seen_of steps) m ≡ true =
           given_member (map_or (started e) false (λ d. not (is_member (in_force setting (seen_of steps)) d)))
           (map_or (joined e) false (λ d. not (is_staged_member setting (seen_of steps) d))) (given e) m (is_staged_member setting (seen_of steps)) gives.1
-          (none_holds (causes setting steps e) _ comes.clean.is.1
-          (later (later (later (later (later (later (later (later (later (later (later (later (later (later (later first)))))))))))))))) in
+          (rule_holds setting steps e _ comes.clean.is.1
+          (later (later (later (later (later (later (later (later (later (later (later (later (later (later (later first))))))))))))))) refl) in
           let early : has_commit (seen_of steps) ≡ false =
           before_commit (given e) m (is_some (joined e)) (is_some (mended e)) (is_commit e) (window_is_open (seen_of steps))
           (has_commit (seen_of steps)) gives.1 (orderly setting e history comes.clean.is).prepares in
@@ -262,7 +263,7 @@ module _ (setting : Setting) (e : Event) (history : List Event) (comes : IsNextE
       by None m c other = cc
       by (Some plan) m c other =
           let n : ℕ = staged_epoch (seen_of (step_with None false ∷ steps)) in
-          let known : x < length setting.net.devices = up_is_known setting (e ∷ history) comes.clean.is x up in
+          let known : x < length setting.net.devices = admitted_up_is_known setting (e ∷ history) comes.clean.is x up in
           let among : Among x (filter (is_up (seen_of (step_with None false ∷ steps))) (members setting.net plan)) =
           filter_in (is_up (seen_of (step_with None false ∷ steps))) x (members setting.net plan)
           (filter_in (is_member plan) x (device_numbers setting.net) (among_below (length setting.net.devices) x known) m) up in
@@ -281,7 +282,7 @@ module _ (setting : Setting) (e : Event) (history : List Event) (comes : IsNextE
       go true is = ahead_closed (activated_by (chronicle setting history) begun) is
       go false is = ahead_open (activated_by (chronicle setting history) begun)
 
-pub always_ahead : (setting : Setting) (history : List Event) → IsFair setting → IsClean setting history
+pub always_ahead : (setting : Setting) (history : List Event) → AreGuarded setting → IsSteady setting history
     → AtEach (Invariant setting) (chronicle setting history) → AreAhead setting (chronicle setting history)
 always_ahead setting [] fair clean each = λ x p up there u has. cc
 always_ahead setting (e ∷ history) fair clean each =

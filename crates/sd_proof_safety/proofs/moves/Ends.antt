@@ -1,4 +1,4 @@
--- The deadlines of lemma 4 with nothing left to ask of seals: in a clean history, at each event that comes, an old backup root on its primary has been silent
+-- The deadlines of lemma 4 with nothing left to ask of seals: in a steady history, at each event that comes, an old backup root on its primary has been silent
 -- for at most its first wait and a tick gap, and an old ordinary device with a backup for at most its wait and one.
 use Rattle.std.specs.Prelude.{◌≡◌, ℕ, ◌+◌, ◌≤◌, false, ◌&&◌, not, List, ◌∷◌, nat_eq, refl}
 use Rattle.std.proofs.Common.{arith, sym}

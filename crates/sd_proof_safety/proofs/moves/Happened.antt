@@ -1,5 +1,5 @@
 -- The step of a tick that takes up nothing, and that no window closes with it. And of the plan in force: its root and backup root are two members.
-use Rattle.std.specs.Prelude.{◌≡◌, ℕ, ◌<◌, Bool, true, false, ◌&&◌, ◌||◌, not, List, ◌∷◌, length, filter, nat_eq, nat_lt, Option, Some, None, option_map, refl, if◌then◌else◌}
+use Rattle.std.specs.Prelude.{◌≡◌, ℕ, ◌<◌, Bool, true, false, ◌&&◌, not, List, ◌∷◌, length, filter, nat_eq, nat_lt, Option, Some, None, option_map, refl}
 use Rattle.std.proofs.Common.{◌∙◌, ap, sym}
 use Rattle.std.proofs.lemmas.Bool.{and_from, lt-ltb, eqb-true, eq-eqb, false_from_ne_true, both_ways}
 use Rattle.sd_checker.specs.Num.Lists.{map_or}
@@ -9,7 +9,7 @@ use Rattle.sd_checker.specs.Plan.Plans.{Fits, is_member}
 use Rattle.sd_checker.specs.Plan.Structure.{structure_breach, roots_breach}
 use Rattle.sd_checker.proofs.Plan.Rules.{KeepsRules, keeps_rules}
 use Rattle.sd_history.specs.Msg.declared.Flight.{Flight}
-use Rattle.sd_checker.specs.Verdicts.{IsAccepted}
+use Rattle.sd_proof_safety.specs.invariant.Guarded.{IsGuarded, AreGuarded}
 use Rattle.sd_checker.specs.CheckRoot.Timing.{round_gap}
 use Rattle.sd_checker.proofs.Num.Shared.{first_none}
 use Rattle.sd_history.specs.Core.Calls as calls
@@ -20,12 +20,13 @@ use Rattle.sd_history.specs.Sched.declared.Event.{Event}
 use Rattle.sd_history.specs.Sched.declared.Event.TheVariants as event
 use Rattle.sd_history.specs.World.{Setting, is_up}
 use Rattle.sd_history.specs.Steps.{Calls, Told, tells_nothing, tells_called, Step, seen_of, flights_of, activated_by, acted_by, first_step}
-use Rattle.sd_history.specs.Chronicle.{answers_by, past_in, told_by, chronicle, IsHistory}
+use Rattle.sd_history.specs.Chronicle.{answers_by, past_in, told_by, chronicle}
+use Rattle.sd_history.specs.Admitted.{IsAdmitted}
 use Rattle.sd_proof_safety.specs.invariant.Bounds.{IsTimedBy, losses, depth, delay, tick_gap, first_low, first_up, second_low, second_up, wait_low}
 use Rattle.sd_proof_safety.specs.invariant.Eras.{plan_now, belongs, root_failed}
 use Rattle.sd_proof_safety.specs.invariant.Clauses.{is_beginning}
 use Rattle.sd_proof_safety.specs.invariant.Invariant.{Core}
-use Rattle.sd_proof_safety.specs.invariant.Coming.{IsFair, IsNextEvent}
+use Rattle.sd_proof_safety.specs.invariant.Coming.{IsNextEvent}
 use Rattle.sd_proof_safety.proofs.invariant.Timed.{timed_by}
 use Rattle.sd_proof_safety.proofs.invariant.InForce.{in_force_too}
 use Rattle.sd_proof_safety.proofs.invariant.Sides.{implied}
@@ -62,12 +63,12 @@ root_up setting steps core begun roots kept =
 
 -- before any first event no window closes
 
-pub roots_of : (setting : Setting) (history : List Event) → IsFair setting → IsHistory setting history
+pub roots_of : (setting : Setting) (history : List Event) → AreGuarded setting → IsAdmitted setting history
     → HasRoots setting.net (plan_now setting (chronicle setting history))
 roots_of setting history fair is =
     let plan = plan_now setting (chronicle setting history) in
-    let accepted : IsAccepted setting.net plan = in_force_too (IsAccepted setting.net) setting history fair.accepted fair.some_plan is in
-    let formed : structure_breach setting.net plan ≡ None = accepted.structure in
+    let guarded : IsGuarded setting.net plan = in_force_too (IsGuarded setting.net) setting history fair.guarded fair.some_plan is in
+    let formed : structure_breach setting.net plan ≡ None = guarded.structure in
     let fits : Fits setting.net plan = in_force_too (Fits setting.net) setting history fair.fit fair.some_plan is in
     let both = roots_by (is_member plan plan.root) (is_member plan plan.backup_root) (nat_eq plan.root plan.backup_root) plan.root plan.backup_root
     (unmapped (roots_breach plan) (first_none (option_map (λ d. (1, d)) (roots_breach plan)) _ formed)) in
@@ -78,7 +79,7 @@ roots_of setting history fair is =
       backup_member = both.0;
       apart = false_from_ne_true (nat_eq plan.backup_root plan.root)
           (λ is. both_ways (nat_eq plan.root plan.backup_root) both.1 (eq-eqb plan.root plan.backup_root (sym (eqb-true plan.backup_root plan.root is))));
-      timed = timed_by setting.net plan fair.network.tick.0 accepted.timing;
+      timed = timed_by setting.net plan fair.network.tick.0 guarded.timing;
     }
 
 module _ (setting : Setting) (r d c : ℕ) (history : List Event) (comes : IsNextEvent setting history (event.Tick r d c)) (p : Past)

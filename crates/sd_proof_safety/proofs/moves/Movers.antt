@@ -16,13 +16,12 @@ use Rattle.sd_history.specs.Sched.declared.Event.{Event}
 use Rattle.sd_history.specs.Sched.declared.Event.TheVariants as event
 use Rattle.sd_history.specs.World.{Setting, is_untouched, plan_numbered, is_up, has_commit, is_counted, joined_in_window, is_staged_member, latest_reference}
 use Rattle.sd_history.specs.Steps.{seen_of, live_answers, answers_in, epoch_in, acts_in}
-use Rattle.sd_history.specs.Refusals.{causes}
 use Rattle.sd_history.specs.Chronicle.{past_in, chronicle, next_step, answers_by}
 use Rattle.sd_history.specs.Premises.{latest_tick, tick_holds, first_reference, is_current_member, ticks_in_time}
 use Rattle.sd_history.proofs.Among.{first, later, passes}
-use Rattle.sd_history.proofs.Contained.{none_holds}
+use Rattle.sd_history.proofs.Admitted.{rule_holds}
 use Rattle.sd_history.proofs.Bridges.{answers_by_words}
-use Rattle.sd_checker.specs.Verdicts.{IsAccepted}
+use Rattle.sd_proof_safety.specs.invariant.Guarded.{IsGuarded}
 use Rattle.sd_proof_safety.specs.invariant.Bounds.{tick_gap, delay}
 use Rattle.sd_proof_safety.specs.invariant.Eras.{era, plan_now, beginning, is_old, is_new, is_blank, is_past, heard_at, silent_for}
 use Rattle.sd_proof_safety.specs.invariant.Clauses.{is_beginning, staged_root}
@@ -39,7 +38,7 @@ use Rattle.sd_proof_safety.proofs.timers.NotEarly.{Waited, move_waited}
 use Rattle.sd_proof_safety.proofs.timers.Pasts.{of_life, Goes, move_from_primary}
 use Rattle.sd_proof_safety.proofs.timers.CalmBeginning.{counts_from_first}
 use Rattle.sd_proof_safety.proofs.timers.Periods.{tick_within}
-use Rattle.sd_history.proofs.Known.{named_is_known}
+use Rattle.sd_history.proofs.Known.{admitted_named_is_known}
 use Rattle.sd_history.proofs.Shared.{among_below}
 use Rattle.sd_proof_safety.proofs.timers.Histories.{Timely, timed, before, move_waits}
 use Rattle.sd_proof_safety.proofs.waits.SameReferences.{heard_is}
@@ -88,14 +87,14 @@ module _ (setting : Setting) (r d c : ℕ) (history : List Event) (comes : IsNex
   pub inv : Invariant setting (chronicle setting history)
   inv = core_before setting history d p there comes.before
 
-  pub accepted_then : IsAccepted setting.net (plan_now setting (chronicle setting history))
-  accepted_then = in_force_too (IsAccepted setting.net) setting history comes.fair.accepted comes.fair.some_plan comes.clean.is.0
+  pub guarded_then : IsGuarded setting.net (plan_now setting (chronicle setting history))
+  guarded_then = in_force_too (IsGuarded setting.net) setting history comes.fair.guarded comes.fair.some_plan comes.clean.is.0
 
   -- the device is up
   pub live : is_up (seen_of (chronicle setting history)) d ≡ true
   live = up_by (is_up (seen_of (chronicle setting history)) d)
-      (none_holds (causes setting (chronicle setting history) (event.Tick r d c)) _ comes.clean.is.1
-      (later (later (later (later (later (later (later (later (later first))))))))))
+      (rule_holds setting (chronicle setting history) (event.Tick r d c) _ comes.clean.is.1
+      (later (later (later (later (later (later (later (later (later first))))))))) refl)
     where
       up_by : (b : Bool) → (true && not b) ≡ false → b ≡ true
       up_by true none = refl
@@ -114,7 +113,7 @@ module _ (setting : Setting) (r d c : ℕ) (history : List Event) (comes : IsNex
   acts_is = ap (λ o. map_or o false (λ a. a.acts)) answers_live
 
   pub known : d < length setting.net.devices
-  known = named_is_known setting (chronicle setting history) (event.Tick r d c) d comes.clean.is.1 refl
+  known = admitted_named_is_known setting (chronicle setting history) (event.Tick r d c) d comes.clean.is.1 refl
 
   pub reached_then : Reached p
   reached_then = of_life Reached reached (chronicle setting history) d p there
@@ -254,7 +253,7 @@ module _ (setting : Setting) (r d c : ℕ) (history : List Event) (comes : IsNex
             let since : beginning (seen_of steps) ≤ heard_at steps d =
             subst (λ h. beginning (seen_of steps) ≤ h) (sym (heard_is setting steps (timed setting history timely_then) d))
             (since_first history there timely_then) in
-            let bounds = timed_by setting.net (plan_now setting steps) comes.fair.network.tick.0 accepted_then.timing in
+            let bounds = timed_by setting.net (plan_now setting steps) comes.fair.network.tick.0 guarded_then.timing in
             far setting.net.params.loss setting.net.params.depth (delay setting.net) (round_gap setting.net) setting.net.params.tick r (heard_at steps d)
             (beginning (seen_of steps)) (latest_tick (seen_of steps) d) (latest_reference (seen_of steps))
             bounds.gap silent_long since due latest early

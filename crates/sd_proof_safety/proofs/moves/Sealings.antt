@@ -20,7 +20,8 @@ use Rattle.sd_history.proofs.Given.{takes_given, some_is}
 use Rattle.sd_proof_safety.specs.invariant.Eras.{era, plan_now, is_old, live_past, moved, on_primary, heard_at, belongs}
 use Rattle.sd_proof_safety.specs.invariant.Clauses.{just_closed}
 use Rattle.sd_proof_safety.specs.invariant.Invariant.{Invariant, AtEach}
-use Rattle.sd_proof_safety.specs.invariant.Coming.{IsFair, IsClean, AtNext}
+use Rattle.sd_proof_safety.specs.invariant.Guarded.{AreGuarded, IsSteady}
+use Rattle.sd_proof_safety.specs.invariant.Coming.{AtNext}
 use Rattle.sd_proof_safety.proofs.invariant.Sides.{implied}
 use Rattle.sd_proof_safety.proofs.invariant.Prefix.{clean_before}
 use Rattle.sd_proof_safety.proofs.invariant.Staying.{old_is_member}
@@ -31,12 +32,13 @@ use Rattle.sd_proof_safety.specs.messages.Moments.{whole, behind}
 use Rattle.sd_proof_safety.proofs.timers.Pasts.{Inside, itself, onward, was_unmoved, was_not_acting, inside_duty}
 use Rattle.sd_proof_safety.proofs.timers.Emissions.{reference_rises}
 use Rattle.sd_proof_safety.proofs.timers.Sealed.{seal_within, seal_stays, sealed_since}
-use Rattle.sd_history.proofs.Known.{up_is_known}
+use Rattle.sd_history.proofs.Known.{admitted_up_is_known}
+use Rattle.sd_history.proofs.Shared.{epoch_kept}
 use Rattle.sd_proof_safety.proofs.timers.Histories.{timed}
 use Rattle.sd_proof_safety.proofs.waits.SameReferences.{heard_is}
 use Rattle.sd_proof_safety.proofs.waits.Waits.{Stands, old_stands}
 use Rattle.sd_proof_safety.specs.moves.Wanted.{IsSealedBy, SealedInTime}
-use Rattle.sd_proof_safety.proofs.waits.LeastWaits.{timely_of, epoch_kept}
+use Rattle.sd_proof_safety.proofs.waits.LeastWaits.{timely_of}
 use Rattle.sd_proof_safety.proofs.moves.Ahead.{AreAhead, always_ahead, up_since}
 use Rattle.sd_proof_safety.proofs.windows.Leading.{stands_by}
 
@@ -50,7 +52,7 @@ no_root : (root acts on : Bool) → (if root then acts else on) ≡ true → act
 no_root true acts on is none = absurd (both_ways acts none is)
 no_root false acts on is none = is
 
-module _ (setting : Setting) (e : Event) (history : List Event) (fair : IsFair setting) (clean : IsClean setting (e ∷ history))
+module _ (setting : Setting) (e : Event) (history : List Event) (fair : AreGuarded setting) (clean : IsSteady setting (e ∷ history))
     (inv : Invariant setting (chronicle setting (e ∷ history)))
     (ahead : AreAhead setting (chronicle setting history)) (was : AreSealed setting (chronicle setting history)) where
   abbrev steps : List Step
@@ -76,7 +78,7 @@ module _ (setting : Setting) (e : Event) (history : List Event) (fair : IsFair s
       let old : is_old now x ≡ true = ap (λ (o : Option Answers). same_number (option_map (λ a. a.epoch) o) (era now)) live
       ∙ eq-eqb (epoch_now p) (era now) epoch in
       let member : is_member (plan_now setting now) x ≡ true = old_is_member setting now x (inv.core.census.outsiders x) old in
-      let known : x < length setting.net.devices = up_is_known setting (e ∷ history) clean.is x up in
+      let known : x < length setting.net.devices = admitted_up_is_known setting (e ∷ history) clean.is x up in
       let begins : (has_settled now (era now) x
       && (if is_root (plan_now setting now) x then acts_in now x else on_primary now x
       && nat_le (latest_reference (seen_of now)) (heard_at now x + silence setting.net))) ≡ true =
@@ -190,7 +192,7 @@ module _ (setting : Setting) (e : Event) (history : List Event) (fair : IsFair s
       go true is = at_closing is
       go false is = meanwhile is
 
-always_sealed : (setting : Setting) (history : List Event) → IsFair setting → IsClean setting history → AtEach (Invariant setting) (chronicle setting history)
+always_sealed : (setting : Setting) (history : List Event) → AreGuarded setting → IsSteady setting history → AtEach (Invariant setting) (chronicle setting history)
     → AreSealed setting (chronicle setting history)
 always_sealed setting [] fair clean each = λ x p up there epoch unmoved idle. cc
 always_sealed setting (e ∷ history) fair clean each =
@@ -201,7 +203,7 @@ always_sealed setting (e ∷ history) fair clean each =
 pub sealed_in_time : (setting : Setting) → AtNext SealedInTime setting
 sealed_in_time setting history e comes d old on =
     let steps = chronicle setting history in
-    let clean : IsClean setting history = clean_before setting e history comes.clean in
+    let clean : IsSteady setting history = clean_before setting e history comes.clean in
     let s : Stands setting steps d = old_stands setting history d old in
     let put = stands_by (is_some (live_past steps d)) (moved steps d) (acts_in steps d) on in
     let by : IsSealedBy steps d (heard_in steps d + silence setting.net) =

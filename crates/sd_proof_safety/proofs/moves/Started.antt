@@ -19,11 +19,10 @@ use Rattle.sd_history.specs.Sched.declared.Event.TheVariants as event
 use Rattle.sd_history.specs.Sched.Events.{joined, is_stage, is_commit}
 use Rattle.sd_history.specs.World.{Setting, Seen, is_up, has_failed, was_made, has_ever_failed, is_untouched, window, has_commit, epoch_in_force, staged_epoch, staged, in_force, plan_numbered, is_counted, joined_in_window}
 use Rattle.sd_history.specs.Steps.{Makes, Answers, tells_made, Step, seen_of, act_by, answers_in, live_answers, epoch_in, acts_in, flights, first_step, activated_by, acted_by}
-use Rattle.sd_history.specs.Refusals.{causes}
 use Rattle.sd_history.specs.Chronicle.{new_past, answers_by, told_by, chronicle, next_step}
 use Rattle.sd_history.specs.Premises.{ticks_in_time, tick_holds, first_reference}
 use Rattle.sd_history.proofs.Among.{first, later, all_pass}
-use Rattle.sd_history.proofs.Contained.{none_holds}
+use Rattle.sd_history.proofs.Admitted.{rule_holds}
 use Rattle.sd_proof_safety.specs.invariant.Bounds.{depth, delay, tick_gap}
 use Rattle.sd_proof_safety.specs.invariant.Eras.{era, plan_now, device_failed_now, is_old, is_new, is_blank, is_past, moved, heard_at, is_ordinary, root_lives, root_failed, hit, beginning, belongs}
 use Rattle.sd_proof_safety.specs.invariant.Clauses.{is_beginning, nothing_emitted, stays, member_follows, returned_is_joined, outsider_is_past, counted_is_current, blank_is_idle, root_acts, failed_root_is_not_old, ordinary_follows, backup_is_caused, move_is_caused, takeover_is_caused, path_stays, above_backup_root, backup_root_stays, shadow_is_short, none_sent_ahead, staged_root, left_out_is_hit}
@@ -37,7 +36,7 @@ use Rattle.sd_proof_safety.proofs.invariant.Known.{old_is_up}
 use Rattle.sd_proof_safety.specs.timers.Times.{AreTimed, heard_in}
 use Rattle.sd_proof_safety.proofs.timers.CalmBeginning.{counts_from_first}
 use Rattle.sd_proof_safety.proofs.timers.Periods.{reference_within}
-use Rattle.sd_history.proofs.Known.{named_is_known}
+use Rattle.sd_history.proofs.Known.{admitted_named_is_known}
 use Rattle.sd_proof_safety.proofs.timers.UpHasPast.{up_has_past}
 use Rattle.sd_proof_safety.proofs.timers.Histories.{Timely, timed}
 use Rattle.sd_proof_safety.proofs.waits.SameReferences.{heard_is}
@@ -154,8 +153,8 @@ module _ (setting : Setting) (r d c clock eps : ℕ) (history : List Event) (com
   member : is_member plan d ≡ true
   member = by (is_member plan d)
       (or_parts (not (is_member plan d) || false) false
-      (none_holds (causes setting (chronicle setting history) (event.Start r d c clock eps)) _ comes.clean.is.1
-      (later (later (later (later (later (later (later (later (later (later (later (later (later (later (later first))))))))))))))))).0
+      (rule_holds setting (chronicle setting history) (event.Start r d c clock eps) _ comes.clean.is.1
+      (later (later (later (later (later (later (later (later (later (later (later (later (later (later (later first))))))))))))))) refl)).0
     where
       by : (b : Bool) → (not b || false) ≡ false → b ≡ true
       by true h = refl
@@ -163,14 +162,14 @@ module _ (setting : Setting) (r d c clock eps : ℕ) (history : List Event) (com
 
   pub unmade : was_made (seen_of (chronicle setting history)) d ≡ false
   unmade = (or_parts (was_made (seen_of (chronicle setting history)) d) false
-      (none_holds (causes setting (chronicle setting history) (event.Start r d c clock eps)) _ comes.clean.is.1
-      (later (later (later (later (later (later (later (later (later (later first)))))))))))).0
+      (rule_holds setting (chronicle setting history) (event.Start r d c clock eps) _ comes.clean.is.1
+      (later (later (later (later (later (later (later (later (later (later first)))))))))) refl)).0
 
   sound : has_failed (seen_of (chronicle setting history)) (thing.Device d) ≡ false
-  sound = none_holds (causes setting (chronicle setting history) (event.Start r d c clock eps)) _ comes.clean.is.1 (later (later first))
+  sound = rule_holds setting (chronicle setting history) (event.Start r d c clock eps) _ comes.clean.is.1 (later (later first)) refl
 
   known : d < length setting.net.devices
-  known = named_is_known setting (chronicle setting history) (event.Start r d c clock eps) d comes.clean.is.1 refl
+  known = admitted_named_is_known setting (chronicle setting history) (event.Start r d c clock eps) d comes.clean.is.1 refl
 
   unfailed : has_ever_failed (seen_of (chronicle setting history)) d ≡ false
   unfailed = never_failed (seen_of (chronicle setting history)) (thing.Device d) (none_mended setting history comes.clean.is.0 unstaged) sound

@@ -12,10 +12,11 @@ use Rattle.sd_history.specs.Sched.Events.{given, joined, is_stage, is_commit}
 use Rattle.sd_history.specs.Things.{failure_of, mended}
 use Rattle.sd_history.specs.World.{Setting, Seen, fails, is_thing, has_failed, window, has_commit}
 use Rattle.sd_history.specs.Steps.{Step, seen_of, act_by, first_step}
-use Rattle.sd_history.specs.Chronicle.{told_by, chronicle, next_step, IsHistory}
+use Rattle.sd_history.specs.Chronicle.{told_by, chronicle, next_step}
+use Rattle.sd_history.specs.Admitted.{IsAdmitted}
+use Rattle.sd_history.proofs.Shared.{epoch_kept}
 use Rattle.sd_proof_safety.specs.invariant.Eras.{era}
 use Rattle.sd_proof_safety.proofs.invariant.Orders.{orderly, staged_before}
-use Rattle.sd_proof_safety.proofs.waits.LeastWaits.{epoch_kept}
 
 -- Histories without a stage
 
@@ -52,7 +53,7 @@ first_era setting (e ∷ history) none =
     ∙ first_era setting history parts.1
 
 -- nothing was mended
-pub none_mended : (setting : Setting) (history : List Event) → IsHistory setting history → IsUnstaged (seen_of (chronicle setting history))
+pub none_mended : (setting : Setting) (history : List Event) → IsAdmitted setting history → IsUnstaged (seen_of (chronicle setting history))
     → list_any (λ s. is_some (mended s.event)) (seen_of (chronicle setting history)) ≡ false
 none_mended setting [] is none = refl
 none_mended setting (e ∷ history) is none =

@@ -4,7 +4,7 @@ use Rattle.std.specs.Prelude.{◌≡◌, ℕ, zero, suc, ◌+◌, Bool, true, fa
 use Rattle.std.specs.List.{list_any, list_all}
 use Rattle.std.proofs.Common.{◌∙◌, ap, sym, subst}
 use Rattle.std.proofs.lemmas.Bool.{and_parts, and_from, or_left, eqb-true, eq-eqb, false_from_ne_true, both_ways, not-true}
-use Rattle.sd_checker.specs.Num.Lists.{map_or, same_number, below, has}
+use Rattle.sd_checker.specs.Num.Lists.{map_or, same_number, below, has, follow}
 use Rattle.sd_checker.specs.Topo.Network.{device_numbers}
 use Rattle.sd_checker.specs.Plan.Plans.{is_member, is_root}
 use Rattle.sd_checker.proofs.Num.Shared.{same_number-some}
@@ -17,7 +17,6 @@ use Rattle.sd_history.specs.Sched.declared.Event.{Event}
 use Rattle.sd_history.specs.World.{Setting, is_up, has_commit, is_counted, is_staged_member, joined_in_window, staged_epoch}
 use Rattle.sd_history.specs.Steps.{Told, Answers, Step, seen_of, answers_in, epoch_in, parent_in, acts_in}
 use Rattle.sd_history.specs.Chronicle.{answers_by, past_in, chronicle}
-use Rattle.sd_history.specs.Lines.{follow}
 use Rattle.sd_history.proofs.Given.{some_is}
 use Rattle.sd_proof_safety.specs.invariant.Bounds.{depth}
 use Rattle.sd_proof_safety.specs.invariant.Eras.{plan_now, is_old, is_new, is_blank, is_past, on_primary, heard_at, root_failed}

@@ -16,7 +16,8 @@ use Rattle.sd_history.specs.Steps.{Step, seen_of}
 use Rattle.sd_history.specs.Chronicle.{chronicle}
 use Rattle.sd_proof_safety.specs.invariant.Bounds.{depth, delay, tick_gap}
 use Rattle.sd_proof_safety.specs.invariant.Eras.{era, plan_now, all_started, late, first_failure, heard_at, is_old, on_primary, path_hit}
-use Rattle.sd_proof_safety.specs.invariant.Coming.{IsClean, IsNextEvent, AtNext}
+use Rattle.sd_proof_safety.specs.invariant.Guarded.{IsSteady}
+use Rattle.sd_proof_safety.specs.invariant.Coming.{IsNextEvent, AtNext}
 use Rattle.sd_proof_safety.proofs.invariant.Prefix.{clean_before}
 use Rattle.sd_proof_safety.proofs.invariant.Sides.{not_both}
 use Rattle.sd_proof_safety.proofs.spans.SilenceStarts.{idle_of}
@@ -43,7 +44,7 @@ pub started_first : (setting : Setting) (x : Event) (h : List Event) (e : Event)
     → heard_at (chronicle setting (x ∷ h)) d ≤ path_failed_at setting (chronicle setting (x ∷ h))
 started_first setting x h e comes d s =
     let steps : List Step = chronicle setting (x ∷ h) in
-    let clean : IsClean setting (x ∷ h) = clean_before setting e (x ∷ h) comes.clean in
+    let clean : IsSteady setting (x ∷ h) = clean_before setting e (x ∷ h) comes.clean in
     let early = start_early setting comes.fair d (era steps) s.event s.earlier (clean_of setting (s.event ∷ s.earlier) (x ∷ h) s.tail clean)
     (each_of setting (s.event ∷ s.earlier) (x ∷ h) s.tail comes.before).0 s.makes_ s.past s.there s.own (one_at_least steps) in
     let began : all_started setting (chronicle setting (s.event ∷ s.earlier)) ≡ all_started setting steps =
@@ -79,7 +80,7 @@ module _ (setting : Setting) (x : Event) (h : List Event) (e : Event) (comes : I
   Bound = heard_at (chronicle setting (x ∷ h)) (plan_now setting (chronicle setting (x ∷ h))).backup_root ≤ path_failed_at setting
       (chronicle setting (x ∷ h)) + depth setting.net * delay setting.net
 
-  clean : IsClean setting (x ∷ h)
+  clean : IsSteady setting (x ∷ h)
   clean = clean_before setting e (x ∷ h) comes.clean
 
   all : IsChronicle setting (chronicle setting (x ∷ h))

@@ -14,7 +14,7 @@ use Rattle.sd_history.specs.World.{Setting, Seen, fails, is_thing, has_failed}
 use Rattle.sd_history.specs.Steps.{Step, seen_of}
 use Rattle.sd_history.specs.Chronicle.{chronicle, next_step}
 use Rattle.sd_proof_safety.specs.invariant.Eras.{era, failed_now, first_failure}
-use Rattle.sd_proof_safety.specs.invariant.Coming.{IsClean}
+use Rattle.sd_proof_safety.specs.invariant.Guarded.{IsSteady}
 use Rattle.sd_proof_safety.proofs.invariant.Prefix.{clean_before}
 use Rattle.sd_proof_safety.specs.messages.Moments.{Tail, whole, behind}
 use Rattle.sd_proof_safety.proofs.silences.Phases.{era_grows, open_at}
@@ -70,7 +70,7 @@ none_fails x s none = ap (λ o. is_thing o x) none
 
 module _ (setting : Setting) where
   -- an event of the era after a mend
-  module _ (e : Event) (h : List Event) (clean : IsClean setting (e ∷ h)) (older : List Step) (t : Tail older (chronicle setting h))
+  module _ (e : Event) (h : List Event) (clean : IsSteady setting (e ∷ h)) (older : List Step) (t : Tail older (chronicle setting h))
       (le : era (chronicle setting (e ∷ h)) ≤ era older) (is : mended_now older ≡ true) where
     before_ : era older ≤ era (chronicle setting h)
     before_ = era_grows older (chronicle setting h) t
@@ -90,7 +90,7 @@ module _ (setting : Setting) where
     stays_open : (next_step setting (chronicle setting h) e).seen.closed ≡ false
     stays_open = open_at (next_step setting (chronicle setting h) e) (chronicle setting h) (let a = le in let c = before_ in omega (arith, a, c))
 
-  pub still_on : (older : List Step) (history : List Event) → IsClean setting history → Tail older (chronicle setting history)
+  pub still_on : (older : List Step) (history : List Event) → IsSteady setting history → Tail older (chronicle setting history)
       → era (chronicle setting history) ≤ era older → mended_now older ≡ true → IsStill older (chronicle setting history)
   still_on _ [] clean whole le is = record { failed = refl; first = λ things. refl }
   still_on _ (e ∷ h) clean whole le is = record { failed = refl; first = λ things. refl }
@@ -105,7 +105,7 @@ module _ (setting : Setting) where
   whole_by true m rest a b = cc
 
   -- what was whole stays so
-  pub whole_on : (y : Thing) (older : List Step) (history : List Event) → IsClean setting history → Tail older (chronicle setting history)
+  pub whole_on : (y : Thing) (older : List Step) (history : List Event) → IsSteady setting history → Tail older (chronicle setting history)
       → era (chronicle setting history) ≤ era older → mended_now older ≡ true → has_failed (seen_of older) y ≡ false
       → has_failed (seen_of (chronicle setting history)) y ≡ false
   whole_on y _ [] clean whole le is none = none
@@ -131,7 +131,7 @@ module _ (setting : Setting) where
   resolve true b either none = refl
   resolve false b either none = let clash : true ≡ false = sym either ∙ none in cc
 
-  pub first_mend : (history : List Event) → IsClean setting history → mended_now (chronicle setting history) ≡ true → FirstMend history
+  pub first_mend : (history : List Event) → IsSteady setting history → mended_now (chronicle setting history) ≡ true → FirstMend history
   first_mend [] clean is = cc
   first_mend (e ∷ h) clean is = by (mended_now (chronicle setting h)) refl (λ before. first_mend h (clean_before setting e h clean) before)
     where

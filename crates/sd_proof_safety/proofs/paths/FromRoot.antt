@@ -17,10 +17,11 @@ use Rattle.sd_history.specs.Sched.declared.Event.{Event}
 use Rattle.sd_history.specs.World.{Setting, link_has_failed}
 use Rattle.sd_history.specs.Steps.{Step, seen_of}
 use Rattle.sd_history.specs.Chronicle.{past_in, chronicle}
-use Rattle.sd_history.proofs.Parts.{premises_of}
+use Rattle.sd_proof_safety.proofs.invariant.Parts.{premises_of}
 use Rattle.sd_proof_safety.specs.invariant.Bounds.{depth, delay}
 use Rattle.sd_proof_safety.specs.invariant.Eras.{era, plan_now, is_old, on_primary}
-use Rattle.sd_proof_safety.specs.invariant.Coming.{IsClean, IsNextEvent}
+use Rattle.sd_proof_safety.specs.invariant.Guarded.{IsSteady}
+use Rattle.sd_proof_safety.specs.invariant.Coming.{IsNextEvent}
 use Rattle.sd_proof_safety.proofs.invariant.Facts.{IsSound, sound_now}
 use Rattle.sd_proof_safety.proofs.invariant.Prefix.{clean_before}
 use Rattle.sd_proof_safety.proofs.invariant.Sides.{implied, not_both}
@@ -55,7 +56,7 @@ module _ (setting : Setting) (x : Event) (h : List Event) (e : Event) (comes : I
   abbrev n : ℕ
   n = era (chronicle setting (x ∷ h))
 
-  clean : IsClean setting (x ∷ h)
+  clean : IsSteady setting (x ∷ h)
   clean = clean_before setting e (x ∷ h) comes.clean
 
   all : IsChronicle setting (chronicle setting (x ∷ h))

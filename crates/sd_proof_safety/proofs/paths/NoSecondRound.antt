@@ -14,7 +14,8 @@ use Rattle.sd_history.specs.Chronicle.{past_in, chronicle}
 use Rattle.sd_history.proofs.Given.{some_is}
 use Rattle.sd_proof_safety.specs.invariant.Bounds.{depth, delay}
 use Rattle.sd_proof_safety.specs.invariant.Eras.{era, plan_now, is_old, on_primary}
-use Rattle.sd_proof_safety.specs.invariant.Coming.{IsClean, IsNextEvent}
+use Rattle.sd_proof_safety.specs.invariant.Guarded.{IsSteady}
+use Rattle.sd_proof_safety.specs.invariant.Coming.{IsNextEvent}
 use Rattle.sd_proof_safety.proofs.invariant.Prefix.{clean_before}
 use Rattle.sd_proof_safety.specs.messages.Moments.{Tail, IsChronicle, Moment, upto, when, IsIn, Emits}
 use Rattle.sd_proof_safety.specs.messages.Stamping.{IsUpTo, EntersNot}
@@ -66,17 +67,17 @@ module _ (setting : Setting) (x : Event) (h : List Event) (e : Event) (comes : I
   abbrev early_first : Moment
   early_first = (traced setting s.y s.ys s.f s.comes_ s.old_ s.on_ earlier_).first
 
-  clean : IsClean setting (x ∷ h)
+  clean : IsSteady setting (x ∷ h)
   clean = clean_before setting e (x ∷ h) comes.clean
 
-  clean_then : IsClean setting (s.y ∷ s.ys)
+  clean_then : IsSteady setting (s.y ∷ s.ys)
   clean_then = clean_before setting s.f (s.y ∷ s.ys) s.comes_.clean
 
   all : IsChronicle setting (chronicle setting (x ∷ h))
   all = history_chronicle setting (x ∷ h) clean.is
 
   rule : IsApart setting.net
-  rule = apart_by_rule setting.net (plan_now setting steps) (sound setting x h e comes).accepted.timing
+  rule = apart_by_rule setting.net (plan_now setting steps) (sound setting x h e comes).guarded.timing
 
   late_emits : (m : Message) × Emits late_first (traced setting x h e comes old on heard).source m × (m.stamp ≡ heard.message.stamp)
       × (m.epoch ≡ era (chronicle setting (x ∷ h)))

@@ -12,7 +12,8 @@ use Rattle.sd_history.specs.World.{Setting, is_up}
 use Rattle.sd_history.specs.Steps.{Step, seen_of}
 use Rattle.sd_history.specs.Chronicle.{past_in, chronicle}
 use Rattle.sd_proof_safety.specs.invariant.Eras.{era, is_old}
-use Rattle.sd_proof_safety.specs.invariant.Coming.{IsClean, IsNextEvent}
+use Rattle.sd_proof_safety.specs.invariant.Guarded.{IsSteady}
+use Rattle.sd_proof_safety.specs.invariant.Coming.{IsNextEvent}
 use Rattle.sd_proof_safety.proofs.invariant.Prefix.{clean_before}
 use Rattle.sd_proof_safety.specs.messages.Moments.{Tail, IsChronicle, Moment, upto, when, IsIn, IsBefore, Emits}
 use Rattle.sd_proof_safety.specs.messages.Rounds.{IsUnbroken}
@@ -38,7 +39,7 @@ module _ (setting : Setting) (x : Event) (h : List Event) (e : Event) (comes : I
   abbrev steps : List Step
   steps = chronicle setting (x ∷ h)
 
-  clean : IsClean setting (x ∷ h)
+  clean : IsSteady setting (x ∷ h)
   clean = clean_before setting e (x ∷ h) comes.clean
 
   all : IsChronicle setting (chronicle setting (x ∷ h))

@@ -15,7 +15,8 @@ use Rattle.sd_history.specs.World.{Setting, is_up, plan_numbered}
 use Rattle.sd_history.specs.Steps.{Step, seen_of}
 use Rattle.sd_history.specs.Chronicle.{past_in, chronicle}
 use Rattle.sd_proof_safety.specs.invariant.Eras.{era, plan_now, is_old, on_primary}
-use Rattle.sd_proof_safety.specs.invariant.Coming.{IsClean, IsNextEvent}
+use Rattle.sd_proof_safety.specs.invariant.Guarded.{IsSteady}
+use Rattle.sd_proof_safety.specs.invariant.Coming.{IsNextEvent}
 use Rattle.sd_proof_safety.proofs.invariant.Prefix.{clean_before}
 use Rattle.sd_proof_safety.specs.messages.Moments.{Tail, whole, behind, Moment, upto, IsBefore, Accepts}
 use Rattle.sd_proof_safety.proofs.messages.Tails.{rest_of}
@@ -53,7 +54,7 @@ module _ (setting : Setting) (x : Event) (h : List Event) (e : Event) (comes : I
     pub on_ : on_primary (chronicle setting (y ∷ ys)) (plan_now setting (chronicle setting (y ∷ ys))).backup_root ≡ true
     pub newer : is_newer heard.message.stamp (stamp_now heard.past) ≡ true
 
-  clean : IsClean setting (x ∷ h)
+  clean : IsSteady setting (x ∷ h)
   clean = clean_before setting e (x ∷ h) comes.clean
 
   other : is_root (plan_now setting (chronicle setting (x ∷ h))) b ≡ false

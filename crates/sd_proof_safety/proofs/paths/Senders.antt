@@ -17,7 +17,8 @@ use Rattle.sd_history.specs.Steps.{Step, Calls, seen_of}
 use Rattle.sd_history.specs.Chronicle.{past_in, chronicle}
 use Rattle.sd_proof_safety.specs.invariant.Eras.{era, device_failed_now, is_old}
 use Rattle.sd_proof_safety.specs.invariant.Invariant.{Invariant, AtEach}
-use Rattle.sd_proof_safety.specs.invariant.Coming.{IsFair, IsClean, IsNextEvent}
+use Rattle.sd_proof_safety.specs.invariant.Guarded.{AreGuarded, IsSteady}
+use Rattle.sd_proof_safety.specs.invariant.Coming.{IsNextEvent}
 use Rattle.sd_proof_safety.proofs.invariant.Prefix.{clean_before}
 use Rattle.sd_proof_safety.proofs.invariant.Sides.{not_both}
 use Rattle.sd_proof_safety.specs.messages.Moments.{whole, behind, Moment, upto, IsIn, IsBefore, Accepts, entering, following}
@@ -35,7 +36,7 @@ use Rattle.sd_proof_safety.proofs.spans.PathHears.{spared}
 same_between : (a b c : ℕ) → a ≤ b → b ≤ c → c ≤ a → b ≡ c
 same_between a b c one two three = omega (arith, one, two, three)
 
-module _ (setting : Setting) (x : Event) (h : List Event) (fair : IsFair setting) (clean : IsClean setting (x ∷ h))
+module _ (setting : Setting) (x : Event) (h : List Event) (fair : AreGuarded setting) (clean : IsSteady setting (x ∷ h))
     (each : AtEach (Invariant setting) (chronicle setting (x ∷ h))) where
   abbrev steps : List Step
   steps = chronicle setting (x ∷ h)

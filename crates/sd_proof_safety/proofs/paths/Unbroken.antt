@@ -15,7 +15,8 @@ use Rattle.sd_history.specs.Steps.{Calls, Step, seen_of}
 use Rattle.sd_history.specs.Chronicle.{past_in, chronicle}
 use Rattle.sd_history.proofs.Given.{takes_given}
 use Rattle.sd_proof_safety.specs.invariant.Eras.{era, plan_now, device_failed_now, is_old}
-use Rattle.sd_proof_safety.specs.invariant.Coming.{IsClean, IsNextEvent}
+use Rattle.sd_proof_safety.specs.invariant.Guarded.{IsSteady}
+use Rattle.sd_proof_safety.specs.invariant.Coming.{IsNextEvent}
 use Rattle.sd_proof_safety.proofs.invariant.Prefix.{clean_before}
 use Rattle.sd_proof_safety.proofs.invariant.Sides.{not_both}
 use Rattle.sd_proof_safety.specs.messages.Moments.{Tail, whole, behind, Moment, upto, IsIn, IsBefore}
@@ -57,7 +58,7 @@ module _ (setting : Setting) (y : Event) (ys : List Event) (f : Event) (comes : 
   abbrev steps : List Step
   steps = chronicle setting (y ∷ ys)
 
-  clean : IsClean setting (y ∷ ys)
+  clean : IsSteady setting (y ∷ ys)
   clean = clean_before setting f (y ∷ ys) comes.clean
 
   own : IsSpared setting (chronicle setting (y ∷ ys)) d

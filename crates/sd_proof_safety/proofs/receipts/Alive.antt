@@ -14,7 +14,8 @@ use Rattle.sd_history.specs.Sched.Events.{device_of, started, joined}
 use Rattle.sd_history.specs.Things.{failure_of, mended}
 use Rattle.sd_history.specs.World.{Setting, makes, is_up, epoch_in_force, in_force}
 use Rattle.sd_history.specs.Steps.{Act, Makes, Calls, Asks, Passes, Step, seen_of, act_by}
-use Rattle.sd_history.specs.Chronicle.{new_past, past_in, past_after, chronicle, next_step, IsHistory}
+use Rattle.sd_history.specs.Chronicle.{new_past, past_in, past_after, chronicle, next_step}
+use Rattle.sd_history.specs.Admitted.{IsAdmitted}
 use Rattle.sd_history.proofs.Given.{some_is}
 use Rattle.sd_proof_safety.specs.invariant.Eras.{era, did_by}
 use Rattle.sd_proof_safety.proofs.invariant.Sides.{not_both}
@@ -36,7 +37,7 @@ alive_before : (setting : Setting) (e : Event) (history : List Event) (d : ℕ) 
 alive_before setting e history d past was = record { then_ = was.then_; tail = behind was.tail; up = was.up; there = was.there }
 
 -- an event that names a device which is neither made nor up after it does nothing to its past
-named_alone : (setting : Setting) (e : Event) (history : List Event) (d : ℕ) → IsHistory setting (e ∷ history) → same_number (device_of e) d ≡ true
+named_alone : (setting : Setting) (e : Event) (history : List Event) (d : ℕ) → IsAdmitted setting (e ∷ history) → same_number (device_of e) d ≡ true
     → is_up (seen_of (chronicle setting (e ∷ history))) d ≡ false
     → past_in (chronicle setting (e ∷ history)) d ≡ past_in (chronicle setting history) d
 named_alone setting e history d is named down = by e is named down
@@ -49,14 +50,14 @@ named_alone setting e history d is named down = by e is named down
     self m same = eqb-true m d same
 
     -- one that is called is up before and after
-    called : (f : Event) (m : ℕ) → IsHistory setting (f ∷ history)
+    called : (f : Event) (m : ℕ) → IsAdmitted setting (f ∷ history)
         → (is_some (started f) || is_some (joined f) || is_some (failure_of f) || is_some (mended f)) ≡ false → device_of f ≡ Some m → nat_eq m d ≡ true
         → is_up (seen_of (chronicle setting history)) d ≡ false → ⊥
     called f m is' plain names same none =
         not_both (is_up (seen_of (chronicle setting history)) d)
         (ap (is_up (seen_of (chronicle setting history))) (sym (self m same)) ∙ caller_is_up setting history f m is'.1 plain names) none
 
-    by : (f : Event) → IsHistory setting (f ∷ history) → same_number (device_of f) d ≡ true → is_up (seen_of (chronicle setting (f ∷ history))) d ≡ false
+    by : (f : Event) → IsAdmitted setting (f ∷ history) → same_number (device_of f) d ≡ true → is_up (seen_of (chronicle setting (f ∷ history))) d ≡ false
         → past_in (chronicle setting (f ∷ history)) d ≡ past_in (chronicle setting history) d
     by (event.Start r m c clock eps) is' same none = absurd (never (nat_eq m d) same none)
       where
@@ -85,7 +86,7 @@ named_alone setting e history d is named down = by e is named down
     by (event.End r) is' same none = refl
 
 -- a past is that of a device that was up
-pub was_alive : (setting : Setting) (history : List Event) → IsHistory setting history → (d : ℕ) (past : Past)
+pub was_alive : (setting : Setting) (history : List Event) → IsAdmitted setting history → (d : ℕ) (past : Past)
     → past_in (chronicle setting history) d ≡ Some past → WasAlive setting history d past
 was_alive setting [] is d past there = cc
 was_alive setting (e ∷ history) is d past there = by_up (is_up (seen_of (chronicle setting (e ∷ history))) d) refl (was_alive setting history is.0 d past)

@@ -3,11 +3,10 @@
 -- given to it in the window, and did not act, since the one device that acts has entered already. With the fields of C9 from the crate on windows, and what
 -- stood on the
 -- path of the backup root, each receipt keeps the core.
-use Rattle.std.specs.Prelude.{◌≡◌, ℕ, ◌+◌, ◌*◌, ◌≤◌, Bool, true, false, ◌&&◌, ◌||◌, not, List, ◌∷◌, length, nat_eq, nat_lt, Option, Some, None, is_some, option_map, refl, ◌⊎◌, if◌then◌else◌}
+use Rattle.std.specs.Prelude.{◌≡◌, ℕ, ◌+◌, ◌*◌, ◌≤◌, Bool, true, false, ◌&&◌, ◌||◌, not, List, ◌∷◌, length, nat_eq, nat_lt, Option, Some, None, option_map, refl, ◌⊎◌, if◌then◌else◌}
 use Rattle.std.proofs.Common.{arith, ◌∙◌, ap, sym, subst, inl, inr}
 use Rattle.std.proofs.lemmas.Bool.{and_parts, and_from, eqb-true, eq-eqb, false_from_ne_true, lt-ltb, or_cases}
 use Rattle.sd_checker.specs.Num.Lists.{map_or, same_number}
-use Rattle.sd_checker.specs.Topo.declared.Thing.TheVariants as thing
 use Rattle.sd_checker.specs.Plan.declared.Duty.{Duty}
 use Rattle.sd_checker.specs.Plan.declared.Edge.{Edge}
 use Rattle.sd_checker.specs.Plan.declared.Plan.{Plan}
@@ -15,24 +14,23 @@ use Rattle.sd_checker.specs.Plan.Plans.{is_member}
 use Rattle.sd_history.specs.Msg.declared.Flight.{Flight}
 use Rattle.sd_history.specs.Core.Calls as calls
 use Rattle.sd_history.specs.Core.Calls.{Call, Past}
-use Rattle.sd_history.specs.Core.Words.{after, transition_of, taken_up, accepted_over, duty_now, given_now, epoch_now, is_acting}
+use Rattle.sd_history.specs.Core.Words.{after, transition_of, taken_up, accepted_over, duty_now, epoch_now}
 use Rattle.sd_history.specs.Sched.declared.Event.{Event}
 use Rattle.sd_history.specs.Sched.declared.Event.TheVariants as event
-use Rattle.sd_history.specs.World.{Setting, is_up, link_has_failed, has_commit, staged_epoch, staged, is_counted, joined_in_window}
+use Rattle.sd_history.specs.World.{Setting, is_up, has_commit, staged_epoch, staged, is_counted, joined_in_window}
 use Rattle.sd_history.specs.Steps.{Calls, Passes, Answers, Step, seen_of, acts_in, epoch_in, given_in, flights, flight_numbered}
 use Rattle.sd_history.specs.Chronicle.{answers_by, past_in, past_after, chronicle}
 use Rattle.sd_history.proofs.Among.{found}
 use Rattle.sd_history.proofs.Given.{takes_given}
-use Rattle.sd_history.proofs.Known.{named_is_known}
+use Rattle.sd_history.proofs.Known.{admitted_named_is_known}
 use Rattle.sd_proof_safety.specs.invariant.Bounds.{depth, delay, rounds_gap}
-use Rattle.sd_proof_safety.specs.invariant.Eras.{era, plan_now, failed_now, is_old, is_new, is_blank, live_past, will_belong}
-use Rattle.sd_proof_safety.specs.invariant.Clauses.{member_enters, member_entered, staged_root, commit_at, committer_is_root, committer_acts}
+use Rattle.sd_proof_safety.specs.invariant.Eras.{era, plan_now, is_old, is_new, is_blank, live_past, will_belong}
+use Rattle.sd_proof_safety.specs.invariant.Clauses.{member_entered, staged_root, commit_at}
 use Rattle.sd_proof_safety.specs.invariant.Invariant.{Core, IsCommitted}
 use Rattle.sd_proof_safety.specs.invariant.Silences.{EntersSoon}
 use Rattle.sd_proof_safety.specs.invariant.Coming.{IsNextEvent, AtNext}
 use Rattle.sd_proof_safety.specs.invariant.Kept.{Keeps}
 use Rattle.sd_proof_safety.proofs.invariant.Empty.{core_before}
-use Rattle.sd_proof_safety.proofs.invariant.Known.{old_is_up}
 use Rattle.sd_proof_safety.proofs.invariant.Opening.{gives}
 use Rattle.sd_proof_safety.proofs.invariant.Parents.{live_is}
 use Rattle.sd_proof_safety.proofs.invariant.Prefix.{clean_before}
@@ -58,7 +56,7 @@ use Rattle.sd_proof_safety.proofs.frame.LeftOut.{left_out_kept}
 use Rattle.sd_proof_safety.proofs.frame.Turning.{GoesOn, Turns, turn_keeps}
 use Rattle.sd_proof_safety.proofs.frame.Idles.{step_at, caller_is_up}
 use Rattle.sd_proof_safety.proofs.frame.Shadows.{receive_from_standing}
-use Rattle.sd_proof_safety.proofs.moves.Ahead.{IsAhead, AreAhead, always_ahead}
+use Rattle.sd_proof_safety.proofs.moves.Ahead.{IsAhead, always_ahead}
 use Rattle.sd_proof_safety.proofs.receipts.Stood.{stood_then}
 
 -- the number of the next plan is neither that of this one nor 0
@@ -190,7 +188,7 @@ module _ {setting : Setting} (enters : AtNext EntersSoon setting) (r d c n : ℕ
   -- it was old or blank
   was : (is_old (chronicle setting history) d || is_blank (chronicle setting history) d) ≡ true
   was =
-      let known : nat_lt d (length setting.net.devices) ≡ true = lt-ltb d (length setting.net.devices) (named_is_known setting one e d comes.clean.is.1 refl) in
+      let known : nat_lt d (length setting.net.devices) ≡ true = lt-ltb d (length setting.net.devices) (admitted_named_is_known setting one e d comes.clean.is.1 refl) in
       old_or_blank (is_new one d) (is_old one d) (is_blank one d) (same_number (given_in one d) (staged_epoch (seen_of one)))
       (implied (has_commit (seen_of one) && will_belong setting one d) _ (core.committed.entering d)
       (and_from (has_commit (seen_of one)) (will_belong setting one d) commit (and_from (nat_lt d (length setting.net.devices)) _ known ahead.member))) not_new

@@ -16,7 +16,8 @@ use Rattle.sd_history.specs.Sched.declared.Event.TheVariants as event
 use Rattle.sd_history.specs.Sched.Events.{reference_of}
 use Rattle.sd_history.specs.World.{Setting, makes}
 use Rattle.sd_history.specs.Steps.{Calls, act_by}
-use Rattle.sd_history.specs.Chronicle.{past_in, chronicle, next_step, IsHistory}
+use Rattle.sd_history.specs.Chronicle.{past_in, chronicle, next_step}
+use Rattle.sd_history.specs.Admitted.{IsAdmitted}
 use Rattle.sd_history.proofs.Given.{some_is}
 use Rattle.sd_proof_safety.specs.invariant.Eras.{era, did_by, does, hears, heard_at}
 use Rattle.sd_proof_safety.proofs.invariant.Sides.{not_both}
@@ -185,7 +186,7 @@ module _ (setting : Setting) (e : Event) (history : List Event) (d n : ℕ) wher
         → does hears (chronicle setting history) (next_step setting (chronicle setting history) e) d ≡ false
     deaf_here none = ap (λ (o : Option Did). map_or o false hears) did_is ∙ ap (λ (o : Option Edge). is_some o) none
 
-pub last_heard : (setting : Setting) (history : List Event) → IsHistory setting history → (d : ℕ) (past : Past)
+pub last_heard : (setting : Setting) (history : List Event) → IsAdmitted setting history → (d : ℕ) (past : Past)
     → past_in (chronicle setting history) d ≡ Some past → (n : ℕ) → epoch_now past ≡ n → 1 ≤ n → is_acting past ≡ false
     → LastHeard setting history d n
 last_heard setting [] is d past there n number one idle = cc
@@ -242,7 +243,7 @@ last_heard setting (e ∷ history) is d past there n number one idle =
     by_made false none rest = by_went none (went setting e history d) rest
 
 -- the plan came after the latest event's era: so it was not started in it
-pub heard_in_plan : (setting : Setting) (history : List Event) → IsHistory setting history → (d : ℕ) (past : Past)
+pub heard_in_plan : (setting : Setting) (history : List Event) → IsAdmitted setting history → (d : ℕ) (past : Past)
     → past_in (chronicle setting history) d ≡ Some past → (n : ℕ) → epoch_now past ≡ n → era (chronicle setting history) < n
     → is_acting past ≡ false → IsHeard setting history d n
 heard_in_plan setting history is d past there n number less idle = by (last_heard setting history is d past there n number (omega (arith, less)) idle)

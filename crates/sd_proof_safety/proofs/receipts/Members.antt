@@ -18,7 +18,7 @@ use Rattle.sd_history.proofs.Given.{some_is, takes_given}
 use Rattle.sd_history.proofs.Known.{up_case}
 use Rattle.sd_proof_safety.specs.invariant.Eras.{era, is_new}
 use Rattle.sd_proof_safety.specs.invariant.Invariant.{Invariant, AtEach}
-use Rattle.sd_proof_safety.specs.invariant.Coming.{IsFair, IsClean}
+use Rattle.sd_proof_safety.specs.invariant.Guarded.{AreGuarded, IsSteady}
 use Rattle.sd_proof_safety.proofs.invariant.Prefix.{clean_before}
 use Rattle.sd_proof_safety.proofs.invariant.Sides.{not_both}
 use Rattle.sd_proof_safety.proofs.windows.Eras.{era_kept}
@@ -33,7 +33,7 @@ too_far : (n k : ℕ) → k ≡ n + 1 → (k ≡ n) ⊎ (k ≡ 0) → ⊥
 too_far n k next (inl same) = omega (arith, next, same)
 too_far n k next (inr none) = omega (arith, next, none)
 
-module _ (setting : Setting) (e : Event) (history : List Event) (fair : IsFair setting) (clean : IsClean setting (e ∷ history))
+module _ (setting : Setting) (e : Event) (history : List Event) (fair : AreGuarded setting) (clean : IsSteady setting (e ∷ history))
     (each : AtEach (Invariant setting) (chronicle setting history)) (x : ℕ)
     (new : is_new (chronicle setting (e ∷ history)) x ≡ true) where
   abbrev s : Step
@@ -95,7 +95,7 @@ module _ (setting : Setting) (e : Event) (history : List Event) (fair : IsFair s
     member_so : Member (e ∷ history)
     member_so = by_made (makes x e) refl
 
-pub new_is_member : (setting : Setting) (history : List Event) → IsFair setting → IsClean setting history
+pub new_is_member : (setting : Setting) (history : List Event) → AreGuarded setting → IsSteady setting history
     → AtEach (Invariant setting) (chronicle setting history) → (x : ℕ) → is_new (chronicle setting history) x ≡ true
     → is_staged_member setting (seen_of (chronicle setting history)) x ≡ true
 new_is_member setting [] fair clean each x new = cc

@@ -3,7 +3,7 @@
 -- event: either the backup root was old and on its primary there too, so this is C5 and C2; or it had not started, and then nobody had moved (C0); or the plan
 -- was not
 -- yet in force, and then who was of it was new and on its primary (C9 d).
-use Rattle.std.specs.Prelude.{◌≡◌, ℕ, ◌+◌, ◌<◌, ◌≤◌, Bool, true, false, ◌&&◌, ◌||◌, not, List, [], ◌∷◌, count_by, map, nat_eq, Option, Some, None, is_some, option_map, refl, ◌⊎◌, if◌then◌else◌}
+use Rattle.std.specs.Prelude.{◌≡◌, ℕ, ◌+◌, ◌<◌, ◌≤◌, Bool, true, false, ◌&&◌, ◌||◌, not, List, [], ◌∷◌, count_by, map, nat_eq, Option, Some, None, is_some, option_map, refl, if◌then◌else◌}
 use Rattle.std.proofs.Common.{arith, ◌∙◌, ap, sym, subst}
 use Rattle.std.proofs.lemmas.Bool.{and_parts, and_from, eqb-true, eq-eqb, false_from_ne_true}
 use Rattle.sd_checker.specs.Num.Lists.{map_or, same_number, has}
@@ -21,13 +21,15 @@ use Rattle.sd_history.specs.Sched.declared.Event.{Event}
 use Rattle.sd_history.specs.Sched.declared.Event.TheVariants as event
 use Rattle.sd_history.specs.World.{Setting, Seen, makes, fails, is_up, was_made, has_commit, plan_numbered}
 use Rattle.sd_history.specs.Steps.{Answers, Step, seen_of, acts_in, epoch_in, parent_in}
-use Rattle.sd_history.specs.Chronicle.{answers_by, new_past, past_in, chronicle, next_step, IsHistory}
+use Rattle.sd_history.specs.Chronicle.{answers_by, new_past, past_in, chronicle, next_step}
+use Rattle.sd_history.specs.Admitted.{IsAdmitted}
 use Rattle.sd_history.proofs.Given.{takes_given}
 use Rattle.sd_history.proofs.Known.{up_case}
 use Rattle.sd_proof_safety.specs.invariant.Eras.{era, plan_now, is_old, is_new, is_ordinary, live_past, moved, on_primary}
 use Rattle.sd_proof_safety.specs.invariant.Clauses.{is_beginning, above_backup_root, backup_root_stays, staged_root}
 use Rattle.sd_proof_safety.specs.invariant.Invariant.{Core, Invariant, AtEach}
-use Rattle.sd_proof_safety.specs.invariant.Coming.{IsFair, IsClean, IsNextEvent}
+use Rattle.sd_proof_safety.specs.invariant.Guarded.{AreGuarded, IsSteady}
+use Rattle.sd_proof_safety.specs.invariant.Coming.{IsNextEvent}
 use Rattle.sd_proof_safety.proofs.invariant.Empty.{core_empty}
 use Rattle.sd_proof_safety.proofs.invariant.Closings.{start_closes_none}
 use Rattle.sd_proof_safety.proofs.invariant.Known.{old_is_up}
@@ -144,12 +146,12 @@ data BackThen (setting : Setting) (b n : ℕ) (history : List Event) : Type 0 wh
 
 -- so it is after these events, at which the invariant holds
 record IsBack (setting : Setting) (b n : ℕ) (then_ : List Event) : Type 0 where
-  clean : IsClean setting then_
+  clean : IsSteady setting then_
   each : AtEach (Invariant setting) (chronicle setting then_)
   there : BackThen setting b n then_
 
-module _ (setting : Setting) (fair : IsFair setting) (b n : ℕ) (positive : 1 ≤ n) where
-  module _ (e : Event) (history : List Event) (clean : IsClean setting (e ∷ history)) (each : AtEach (Invariant setting) (chronicle setting history)) where
+module _ (setting : Setting) (fair : AreGuarded setting) (b n : ℕ) (positive : 1 ≤ n) where
+  module _ (e : Event) (history : List Event) (clean : IsSteady setting (e ∷ history)) (each : AtEach (Invariant setting) (chronicle setting history)) where
     comes : IsNextEvent setting history e
     comes = record { fair = fair; clean = clean; before = each }
 
@@ -331,18 +333,18 @@ module _ (setting : Setting) (fair : IsFair setting) (b n : ℕ) (positive : 1 �
 
   -- so at each event so far
   module _ (then_ : List Event) where
-    back_to : (history : List Event) → Tail then_ history → IsClean setting history → AtEach (Invariant setting) (chronicle setting history)
+    back_to : (history : List Event) → Tail then_ history → IsSteady setting history → AtEach (Invariant setting) (chronicle setting history)
         → BackThen setting b n history → IsBack setting b n then_
     back_to history whole clean each now = record { clean = clean; each = each; there = now }
     back_to (e ∷ history) (behind t) clean each now =
         let rest : IsBack setting b n then_ = back_to history t (clean_before setting e history clean) each.0 (back e history clean each.0 now) in
         record { clean = rest.clean; each = rest.each; there = rest.there }
 
-pub history_of : (setting : Setting) (then_ history : List Event) → Tail then_ history → IsHistory setting history → IsHistory setting then_
+pub history_of : (setting : Setting) (then_ history : List Event) → Tail then_ history → IsAdmitted setting history → IsAdmitted setting then_
 history_of setting then_ history whole is = is
 history_of setting then_ (e ∷ history) (behind t) is = history_of setting then_ history t is.0
 
-pub clean_of : (setting : Setting) (then_ history : List Event) → Tail then_ history → IsClean setting history → IsClean setting then_
+pub clean_of : (setting : Setting) (then_ history : List Event) → Tail then_ history → IsSteady setting history → IsSteady setting then_
 clean_of setting then_ history whole clean = clean
 clean_of setting then_ (e ∷ history) (behind t) clean = clean_of setting then_ history t (clean_before setting e history clean)
 
@@ -357,7 +359,7 @@ core_of setting [] each = core_empty setting
 core_of setting (x ∷ history) each = each.1.core
 
 -- who is of a plan to come, and not its root, has neither moved nor does it act: it is new
-pub next_stood : (setting : Setting) (then_ : List Event) → IsFair setting → IsClean setting then_ → Core setting (chronicle setting then_)
+pub next_stood : (setting : Setting) (then_ : List Event) → AreGuarded setting → IsSteady setting then_ → Core setting (chronicle setting then_)
     → (y : ℕ) (past : Past) → is_up (seen_of (chronicle setting then_)) y ≡ true
     → past_in (chronicle setting then_) y ≡ Some past → (n : ℕ) → epoch_now past ≡ n → era (chronicle setting then_) < n
     → is_root (plan_numbered setting n) y ≡ false → (has_moved past ≡ false) × (is_acting past ≡ false)
@@ -397,7 +399,7 @@ next_stood setting then_ fair clean core y past up there n own less low = by (ha
         linked).0).0 in
         stands_by true (has_moved past) (is_acting past) (sym (primary_is setting then_ y past up there) ∙ primary)
 
-module _ (setting : Setting) (history : List Event) (fair : IsFair setting) (clean : IsClean setting history)
+module _ (setting : Setting) (history : List Event) (fair : AreGuarded setting) (clean : IsSteady setting history)
     (each : AtEach (Invariant setting) (chronicle setting history))
     (stays_ : backup_root_stays setting (chronicle setting history) ≡ true) (y : ℕ)
     (on_ : (nat_eq y (plan_now setting (chronicle setting history)).backup_root || has (above_backup_root setting (chronicle setting history)) y) ≡ true)

@@ -24,13 +24,15 @@ use Rattle.sd_history.specs.Sched.Events.{joined, is_commit}
 use Rattle.sd_history.specs.World.{Setting, Seen, makes, fails, is_up, was_made, has_ever_failed, is_untouched, link_has_failed, window, has_commit, is_staged_member, is_counted, joined_in_window, plan_numbered}
 use Rattle.sd_history.specs.Steps.{Step, seen_of, live_answers, acts_in, parent_in, epoch_in, has_settled}
 use Rattle.sd_history.specs.Chronicle.{past_in, chronicle, next_step}
-use Rattle.sd_history.proofs.Known.{up_is_known}
+use Rattle.sd_history.proofs.Known.{admitted_up_is_known}
+use Rattle.sd_history.proofs.Shared.{up_made}
 use Rattle.sd_proof_safety.specs.invariant.Bounds.{depth, delay, tick_gap}
 use Rattle.sd_proof_safety.specs.invariant.Eras.{era, plan_now, failed_now, device_failed_now, link_failed_now, is_among, is_old, is_new, is_blank, is_past, belongs, on_primary, hears, heard_at}
 use Rattle.sd_proof_safety.specs.invariant.Clauses.{just_closed, is_beginning, was_touched, member_is_up, member_follows, returned_is_joined, outsider_is_past, counted_is_current, blank_is_idle, link_is_sound, above_backup_root, backup_root_stays, shadow_is_short}
 use Rattle.sd_proof_safety.specs.invariant.Invariant.{Core, IsClosed, IsUncommitted}
 use Rattle.sd_proof_safety.specs.invariant.Silences.{AreSilent}
-use Rattle.sd_proof_safety.specs.invariant.Coming.{IsNextEvent, IsClean}
+use Rattle.sd_proof_safety.specs.invariant.Guarded.{IsSteady}
+use Rattle.sd_proof_safety.specs.invariant.Coming.{IsNextEvent}
 use Rattle.sd_proof_safety.specs.invariant.Kept.{KeepsSeal}
 use Rattle.sd_proof_safety.proofs.invariant.Empty.{core_before}
 use Rattle.sd_proof_safety.proofs.invariant.Facts.{IsSound, sound_now}
@@ -42,7 +44,7 @@ use Rattle.sd_proof_safety.specs.messages.Moments.{Tail, whole, behind, Moment, 
 use Rattle.sd_proof_safety.specs.messages.Traces.{Traced}
 use Rattle.sd_proof_safety.proofs.messages.Tails.{tail_trans, tail_chronicle, history_chronicle}
 use Rattle.sd_proof_safety.proofs.messages.Tracing.{accepted_traced}
-use Rattle.sd_history.proofs.Parts.{premises_of}
+use Rattle.sd_proof_safety.proofs.invariant.Parts.{premises_of}
 use Rattle.sd_proof_safety.proofs.silences.Phases.{era_grows}
 use Rattle.sd_proof_safety.specs.windows.Standing.{HasEntered}
 use Rattle.sd_proof_safety.proofs.windows.NoneBeforeCommit.{uncommitted}
@@ -78,7 +80,7 @@ module _ {setting : Setting} (history : List Event) (e : Event) (comes : IsNextE
   abbrev next : Plan
   next = plan_numbered setting (era (chronicle setting history) + 1)
 
-  clean : IsClean setting history
+  clean : IsSteady setting history
   clean = clean_before setting e history comes.clean
 
   -- nobody but its root has moved or acted in it
@@ -171,16 +173,6 @@ old_is_not_past true true n b old = refl
 old_is_not_past false true n b old = refl
 old_is_not_past u false n b old = cc
 
-made_if_up : (seen : List Seen) (d : ℕ) → is_up seen d ≡ true → was_made seen d ≡ true
-made_if_up [] d is = cc
-made_if_up (s ∷ seen) d is = go (makes d s.event) (fails (thing.Device d) s.event) (made_if_up seen d) is
-  where
-    go : (m f : Bool) → (is_up seen d ≡ true → was_made seen d ≡ true)
-        → map_or (if m then Some true else if f then Some false else None) (is_up seen d) (λ told. told) ≡ true → (m || was_made seen d) ≡ true
-    go true f rest is' = refl
-    go false true rest is' = cc
-    go false false rest is' = rest is'
-
 -- who is up before a closing and no member of the new plan was not blank
 blank_by : (member failed up joined_ old new blank : Bool) → (not (member && not failed && up) || (old || new)) ≡ true
     → (not (member && failed && up) || (joined_ && (blank || new))) ≡ true
@@ -257,7 +249,7 @@ module _ {setting : Setting} (silent : AreSilent setting) (r d : ℕ) (history :
   same = alike_called setting e history d calls.Seal refl (λ x. refl) (λ x. refl) (λ past there. seal_turns_nothing past)
 
   known : (x : ℕ) → is_up (seen_of (chronicle setting (event.Seal r d ∷ history))) x ≡ true → nat_lt x (length setting.net.devices) ≡ true
-  known x up = lt-ltb x (length setting.net.devices) (up_is_known setting (e ∷ history) comes.clean.is x up)
+  known x up = lt-ltb x (length setting.net.devices) (admitted_up_is_known setting (e ∷ history) comes.clean.is x up)
 
   old_was_new : (x : ℕ) → is_old (chronicle setting (event.Seal r d ∷ history)) x ≡ true → is_new (chronicle setting history) x ≡ true
   old_was_new x old = sym (ap (λ o. same_number o (era one + 1)) (same x).epoch_is) ∙ sym (ap (same_number (epoch_in two x)) eras) ∙ old
@@ -308,7 +300,7 @@ module _ {setting : Setting} (silent : AreSilent setting) (r d : ℕ) (history :
       (λ both.
       ap not
       (ap (λ b. not b && not (has_ever_failed (seen_of two) x))
-      (made_if_up (seen_of two) x (member_up x (and_parts (not (is_beginning setting two)) (belongs setting.net (plan_now setting two) x) both).1))))
+      (up_made (seen_of two) x (member_up x (and_parts (not (is_beginning setting two)) (belongs setting.net (plan_now setting two) x) both).1))))
 
   -- C1
   members_up : (x : ℕ) → member_is_up setting (chronicle setting (event.Seal r d ∷ history)) x ≡ true

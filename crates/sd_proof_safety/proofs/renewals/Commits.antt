@@ -1,6 +1,6 @@
 -- A commit keeps the core: the device that commits was old, since before a commit the one that acts is the root, or where that failed the backup root; it is
 -- new afterwards and acts on.
-use Rattle.std.specs.Prelude.{◌≡◌, ℕ, ◌+◌, Bool, true, false, ◌||◌, List, ◌∷◌, nat_eq, refl, ◌⊎◌}
+use Rattle.std.specs.Prelude.{◌≡◌, ℕ, ◌+◌, Bool, true, false, List, ◌∷◌, nat_eq, refl, ◌⊎◌}
 use Rattle.std.proofs.Common.{◌∙◌, ap, sym, subst, inl, inr}
 use Rattle.std.proofs.lemmas.Bool.{or_left, eqb-true}
 use Rattle.sd_checker.specs.Num.Lists.{same_number}

@@ -4,7 +4,7 @@
 use Rattle.sd_history.specs.World.{Setting}
 use Rattle.sd_proof_safety.specs.invariant.Silences.{EntersSoon, AreSilent}
 use Rattle.sd_proof_safety.specs.invariant.Coming.{AtNext}
-use Rattle.sd_proof_safety.specs.invariant.Kept.{EachKeeps, StaysSafe}
+use Rattle.sd_proof_safety.specs.invariant.Kept.{EachKeeps, AlwaysSafe}
 use Rattle.sd_proof_safety.proofs.invariant.Safe.{safe}
 use Rattle.sd_proof_safety.proofs.frame.Idles.{ask, lose, ends, tick_quiet, tick_emits, fix}
 use Rattle.sd_proof_safety.proofs.frame.Failures.{fail_device, fail_link}
@@ -45,5 +45,5 @@ each_keeps setting silent enters =
       ends = ends enters;
     }
 
-pub safe_if_silent : (setting : Setting) → AreSilent setting → AtNext EntersSoon setting → StaysSafe setting
+pub safe_if_silent : (setting : Setting) → AreSilent setting → AtNext EntersSoon setting → AlwaysSafe setting
 safe_if_silent setting silent enters = safe setting (each_keeps setting silent enters)

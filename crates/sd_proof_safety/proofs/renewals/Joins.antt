@@ -1,7 +1,7 @@
 -- A join keeps the core: the device that joins stands outside until it enters. It is blank, joined in the open window, and where it is a member of the plan in
 -- force it
 -- failed in the era, since only then it was not up.
-use Rattle.std.specs.Prelude.{◌≡◌, ℕ, ◌+◌, ◌<◌, Bool, true, false, ◌&&◌, ◌||◌, not, List, ◌∷◌, length, nat_eq, nat_lt, Option, Some, None, is_some, option_and_then, option_map, refl, ◌⊎◌, if◌then◌else◌}
+use Rattle.std.specs.Prelude.{◌≡◌, ℕ, ◌+◌, Bool, true, false, ◌&&◌, ◌||◌, not, List, ◌∷◌, length, nat_eq, nat_lt, Option, Some, None, is_some, option_and_then, option_map, refl, ◌⊎◌, if◌then◌else◌}
 use Rattle.std.specs.List.{list_any}
 use Rattle.std.proofs.Common.{arith, ◌∙◌, ap, sym, subst, inl, inr}
 use Rattle.std.proofs.lemmas.Bool.{and_parts, and_from, or_left, or_right, eq-eqb, eqb-true, false_from_ne_true, lt-ltb}
@@ -16,19 +16,18 @@ use Rattle.sd_history.specs.Core.Words.{has_moved}
 use Rattle.sd_history.specs.Sched.declared.Event.{Event}
 use Rattle.sd_history.specs.Sched.declared.Event.TheVariants as event
 use Rattle.sd_history.specs.Sched.Events.{started, joined, is_stage}
-use Rattle.sd_history.specs.World.{Setting, is_up, was_made, has_ever_failed, is_untouched, joined_in_window, has_commit, window_is_open, staged_epoch}
+use Rattle.sd_history.specs.World.{Setting, is_up, was_made, has_ever_failed, is_untouched, joined_in_window, staged_epoch}
 use Rattle.sd_history.specs.Steps.{Answers, Step, seen_of, live_answers, parent_in, acts_in, epoch_in}
 use Rattle.sd_history.specs.Chronicle.{answers_by, new_past, past_in, chronicle}
-use Rattle.sd_history.specs.Refusals.{causes, started_twice}
 use Rattle.sd_history.proofs.Among.{first, later}
-use Rattle.sd_history.proofs.Contained.{none_holds}
-use Rattle.sd_history.proofs.Known.{named_is_known}
-use Rattle.sd_proof_safety.specs.invariant.Eras.{era, plan_now, device_failed_now, failed_now, is_among, live_past, is_old, is_new, is_blank, is_past, moved, belongs, root_failed, root_lives}
-use Rattle.sd_proof_safety.specs.invariant.Clauses.{is_beginning, member_is_up, member_follows, returned_is_joined, outsider_is_past, counted_is_current, blank_is_idle, backup_root_acts}
+use Rattle.sd_history.proofs.Admitted.{rule_holds}
+use Rattle.sd_history.proofs.Known.{admitted_named_is_known}
+use Rattle.sd_proof_safety.specs.invariant.Eras.{era, plan_now, device_failed_now, failed_now, is_among, live_past, is_old, is_new, is_blank, is_past, belongs, root_failed, root_lives}
+use Rattle.sd_proof_safety.specs.invariant.Clauses.{is_beginning, backup_root_acts}
 use Rattle.sd_proof_safety.specs.invariant.Invariant.{Core}
 use Rattle.sd_proof_safety.specs.invariant.Coming.{IsNextEvent}
 use Rattle.sd_proof_safety.specs.invariant.Kept.{Keeps}
-use Rattle.sd_proof_safety.proofs.invariant.Empty.{core_before, asks_nothing}
+use Rattle.sd_proof_safety.proofs.invariant.Empty.{core_before}
 use Rattle.sd_proof_safety.proofs.invariant.Facts.{IsSound, sound_now}
 use Rattle.sd_proof_safety.proofs.invariant.Orders.{renews}
 use Rattle.sd_proof_safety.proofs.invariant.Parents.{live_is}
@@ -36,7 +35,7 @@ use Rattle.sd_proof_safety.proofs.invariant.Sides.{implied, not_both}
 use Rattle.sd_proof_safety.proofs.invariant.Closings.{join_closes_none}
 use Rattle.sd_proof_safety.proofs.windows.Frames.{in_window_now}
 use Rattle.sd_proof_safety.proofs.frame.ElsewhereSteps.{heard_alone}
-use Rattle.sd_proof_safety.proofs.frame.PlainSteps.{era_kept, plan_kept, failed_kept, commit_kept, joined_kept, in_window_kept}
+use Rattle.sd_proof_safety.proofs.frame.PlainSteps.{era_kept, plan_kept, failed_kept, commit_kept, in_window_kept}
 use Rattle.sd_proof_safety.proofs.frame.Steps.{elsewhere, alike_elsewhere}
 use Rattle.sd_proof_safety.proofs.frame.Timely.{failed_ever, first_era, up_if_made}
 use Rattle.sd_proof_safety.proofs.frame.Failing.{acts_none}
@@ -103,7 +102,7 @@ module _ {setting : Setting} (r d c clock eps : ℕ) (history : List Event) (com
 
   twice : (is_up (seen_of (chronicle setting history)) d
       && (is_member (plan_now setting (chronicle setting history)) d || joined_in_window (seen_of (chronicle setting history)) d)) ≡ false
-  twice = none_holds (causes setting one e) _ comes.clean.is.1 (later (later (later (later (later (later (later (later (later (later first))))))))))
+  twice = rule_holds setting one e _ comes.clean.is.1 (later (later (later (later (later (later (later (later (later (later first)))))))))) refl
 
   member_down : is_member (plan_now setting (chronicle setting history)) d ≡ true → is_up (seen_of (chronicle setting history)) d ≡ false
   member_down member = not_member_up (is_up (seen_of one) d) (is_member (plan_now setting one) d) (joined_in_window (seen_of one) d) twice member
@@ -131,7 +130,7 @@ module _ {setting : Setting} (r d c clock eps : ℕ) (history : List Event) (com
       by_time false over unfailed =
           let known : belongs setting.net (plan_now setting one) d ≡ true =
           and_from (nat_lt d (length setting.net.devices)) (is_member (plan_now setting one) d)
-          (lt-ltb d (length setting.net.devices) (named_is_known setting one e d comes.clean.is.1 refl)) member in
+          (lt-ltb d (length setting.net.devices) (admitted_named_is_known setting one e d comes.clean.is.1 refl)) member in
           not_both (is_up (seen_of one) d)
           (implied (not (is_beginning setting one) && belongs setting.net (plan_now setting one) d && not (device_failed_now one d)) (is_up (seen_of one) d)
           (core.census.members_up d)

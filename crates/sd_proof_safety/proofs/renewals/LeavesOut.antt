@@ -3,7 +3,7 @@
 -- and has still time to start. For where nothing of its cut path failed, that joins it to the root or the backup root; the backup root is joined to a root that
 -- lives, by its path
 -- or where that is hit by its fallback; and renewal asks that nobody is left out who is joined to the staged root.
-use Rattle.std.specs.Prelude.{◌≡◌, ℕ, zero, suc, ◌+◌, ◌<◌, ◌≤◌, Bool, true, false, ◌&&◌, ◌||◌, not, List, [], ◌∷◌, length, nat_eq, nat_lt, Option, Some, None, option_map, refl, ◌⊎◌, if◌then◌else◌}
+use Rattle.std.specs.Prelude.{◌≡◌, ℕ, zero, suc, ◌<◌, Bool, true, false, ◌&&◌, not, List, [], ◌∷◌, length, nat_eq, nat_lt, Option, Some, None, option_map, refl, ◌⊎◌, if◌then◌else◌}
 use Rattle.std.specs.List.{list_any, list_all}
 use Rattle.std.proofs.Common.{IfSome, ◌∙◌, ap, sym, subst, inl, inr}
 use Rattle.std.proofs.lemmas.Bool.{and_parts, and_from, or_left, or_right, or_parts, or_from, eqb-true, eq-eqb, false_from_ne_true, lt-ltb, ltb-true, not-true, not-false, or_cases}
@@ -20,18 +20,18 @@ use Rattle.sd_checker.specs.Plan.Walks.{hops, walk, path, things_of, devices_of,
 use Rattle.sd_checker.specs.Plan.Structure.{hop_is_right}
 use Rattle.sd_checker.proofs.Plan.Rules.{keeps_rules, hops_within}
 use Rattle.sd_checker.specs.CheckRoot.Roots.{fallback_devices, fallback_links}
-use Rattle.sd_checker.specs.Verdicts.{IsAccepted}
+use Rattle.sd_proof_safety.specs.invariant.Guarded.{IsGuarded}
 use Rattle.sd_checker.proofs.CheckReach.Shared.{joined_on, end_ends}
 use Rattle.sd_history.specs.Sched.declared.Event.{Event}
 use Rattle.sd_history.specs.Sched.declared.Event.TheVariants as event
 use Rattle.sd_history.specs.Sched.Events.{joined, is_stage}
 use Rattle.sd_history.specs.World.{Setting, Seen, is_up, was_made, has_ever_failed, is_untouched, link_has_failed, has_commit, window, is_staged_member, joined_in_window, plan_numbered}
 use Rattle.sd_history.specs.Steps.{Step, seen_of}
-use Rattle.sd_history.specs.Chronicle.{chronicle, next_step, IsHistory}
-use Rattle.sd_history.specs.Refusals.{causes}
+use Rattle.sd_history.specs.Chronicle.{chronicle, next_step}
+use Rattle.sd_history.specs.Admitted.{IsAdmitted}
 use Rattle.sd_history.proofs.Among.{first, later, all_pass, passes}
-use Rattle.sd_history.proofs.Contained.{none_holds}
-use Rattle.sd_history.proofs.Known.{up_is_known}
+use Rattle.sd_history.proofs.Admitted.{rule_holds}
+use Rattle.sd_history.proofs.Known.{admitted_up_is_known}
 use Rattle.sd_history.proofs.Shared.{among_below}
 use Rattle.sd_proof_safety.specs.invariant.Eras.{era, plan_now, failed_now, device_failed_now, link_failed_now, is_among, touches, belongs, is_ordinary, hit, path_hit, root_failed}
 use Rattle.sd_proof_safety.specs.invariant.Clauses.{is_beginning, begins_with, left_out_is_hit}
@@ -66,7 +66,7 @@ joined_member : (o : Option ℕ) (x : ℕ) (member : ℕ → Bool) → same_numb
 joined_member None x member is refused = cc
 joined_member (Some d) x member is refused = subst (λ z. member z ≡ true) (eqb-true d x is) (not-false (member d) refused)
 
-pub joined_is_staged : (setting : Setting) (history : List Event) → IsHistory setting history → (x : ℕ)
+pub joined_is_staged : (setting : Setting) (history : List Event) → IsAdmitted setting history → (x : ℕ)
     → joined_in_window (seen_of (chronicle setting history)) x ≡ true → is_staged_member setting (seen_of (chronicle setting history)) x ≡ true
 joined_is_staged setting [] is x joined_ = cc
 joined_is_staged setting (e ∷ history) is x joined_ = by s.seen.closed refl (is_stage e) refl joined_ (joined_is_staged setting history is.0 x)
@@ -77,8 +77,8 @@ joined_is_staged setting (e ∷ history) is x joined_ = by s.seen.closed refl (i
     refused : map_or (joined e) false (λ d. not (is_staged_member setting (seen_of (chronicle setting history)) d)) ≡ false
     refused =
         (or_parts _ (map_or (joined e) false (λ d. not (is_staged_member setting (seen_of (chronicle setting history)) d)))
-        (none_holds (causes setting (chronicle setting history) e) _ is.1
-        (later (later (later (later (later (later (later (later (later (later (later (later (later (later (later first))))))))))))))))).1
+        (rule_holds setting (chronicle setting history) e _ is.1
+        (later (later (later (later (later (later (later (later (later (later (later (later (later (later (later first))))))))))))))) refl)).1
 
     by : (c : Bool) → (next_step setting (chronicle setting history) e).seen.closed ≡ c → (st : Bool) → is_stage e ≡ st
         → map_or (if c then None else if st then Some [] else option_map (λ w. (next_step setting (chronicle setting history) e).seen ∷ w)
@@ -175,8 +175,8 @@ module _ {setting : Setting} (r d c : ℕ) (history : List Event) (comes : IsNex
   -- the staged root is a member of its plan
   staged_root_stays : is_member (staged_plan setting (chronicle setting history)) d ≡ true
   staged_root_stays =
-      let accepted : IsAccepted net (staged_plan setting one) = staged_too (IsAccepted net) setting history comes.fair.accepted comes.clean.is.0 asks.opened in
-      sym (ap (is_member (staged_plan setting one)) asks.root) ∙ (keeps_rules net (staged_plan setting one) accepted.structure).root
+      let guarded : IsGuarded net (staged_plan setting one) = staged_too (IsGuarded net) setting history comes.fair.guarded comes.clean.is.0 asks.opened in
+      sym (ap (is_member (staged_plan setting one)) asks.root) ∙ (keeps_rules net (staged_plan setting one) guarded.structure).root
 
   -- a thing joins, as renewal counts it
   abbrev Way : ℕ → ℕ → Type 0
@@ -186,11 +186,11 @@ module _ {setting : Setting} (r d c : ℕ) (history : List Event) (comes : IsNex
   not_joined : (x : ℕ) → is_up (seen_of (chronicle setting history)) x ≡ true → is_member (staged_plan setting (chronicle setting history)) x ≡ false → Way x d
       → ⊥
   not_joined x up out way =
-      let known : x < length net.devices = up_is_known setting history comes.clean.is.0 x up in
+      let known : x < length net.devices = admitted_up_is_known setting history comes.clean.is.0 x up in
       let near : joined_within net (is_up (seen_of one)) (λ l. not (link_has_failed (seen_of one) l)) (length net.devices) x (staged_plan setting one).root
       ≡ true =
       ap (joined_within net (is_up (seen_of one)) (λ l. not (link_has_failed (seen_of one) l)) (length net.devices) x) asks.root
-      ∙ joined_so net (is_up (seen_of one)) (λ l. not (link_has_failed (seen_of one) l)) (up_is_known setting history comes.clean.is.0) x d known way in
+      ∙ joined_so net (is_up (seen_of one)) (λ l. not (link_has_failed (seen_of one) l)) (admitted_up_is_known setting history comes.clean.is.0) x d known way in
       let clear = passes
       (λ y. not (is_up (seen_of one) y && not (is_member (staged_plan setting one) y)
       && joined_within net (is_up (seen_of one)) (λ l. not (link_has_failed (seen_of one) l)) (length net.devices) y (staged_plan setting one).root))
@@ -327,7 +327,7 @@ module _ {setting : Setting} (r d c : ℕ) (history : List Event) (comes : IsNex
 
         off : IsOff setting.net (plan_now setting (chronicle setting history)) (holds_device setting.net holding.domain) (holds_link setting.net holding.domain)
         off =
-            off_fallback setting plan two holding sound.accepted
+            off_fallback setting plan two holding sound.guarded
             (touched_is_hit net holding.domain (failed_now two) (path net plan plan.backup_root) holding.all
             (ap (λ xs. touches xs (path net plan plan.backup_root)) failures ∙ path_broken))
 
@@ -378,7 +378,7 @@ module _ {setting : Setting} (r d c : ℕ) (history : List Event) (comes : IsNex
                 by false other = device_clear y (on_fallback net plan hop y is on other)
 
         by_fallback : Way (plan_now setting (chronicle setting history)).backup_root (plan_now setting (chronicle setting history)).root
-        by_fallback = let hop = the_hop (backup_of plan B) (falls net plan sound.accepted.structure sound.fits.backup_root) in with_hop hop.0 hop.1
+        by_fallback = let hop = the_hop (backup_of plan B) (falls net plan sound.guarded.structure sound.fits.backup_root) in with_hop hop.0 hop.1
 
       backup_reaches : Way (plan_now setting (chronicle setting history)).backup_root (plan_now setting (chronicle setting history)).root
       backup_reaches = by (path_hit setting one B) refl
@@ -393,7 +393,7 @@ module _ {setting : Setting} (r d c : ℕ) (history : List Event) (comes : IsNex
     module _ (x : ℕ) (up : is_up (seen_of (chronicle setting history)) x ≡ true) (member : is_member (plan_now setting (chronicle setting history)) x ≡ true)
         (out : is_member (staged_plan setting (chronicle setting history)) x ≡ false) where
       known : x < length setting.net.devices
-      known = up_is_known setting history comes.clean.is.0 x up
+      known = admitted_up_is_known setting history comes.clean.is.0 x up
 
       -- it is not the one that commits
       not_committer : d ≡ x → ⊥

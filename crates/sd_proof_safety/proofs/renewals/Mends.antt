@@ -4,7 +4,7 @@ use Rattle.std.proofs.Common.{◌∙◌, ap}
 use Rattle.sd_checker.specs.Num.Lists.{map_or}
 use Rattle.sd_history.specs.Sched.declared.Event.{Event}
 use Rattle.sd_history.specs.Sched.declared.Event.TheVariants as event
-use Rattle.sd_history.specs.Sched.Events.{reference_of, given, joined, is_stage, is_commit}
+use Rattle.sd_history.specs.Sched.Events.{given, joined, is_stage, is_commit}
 use Rattle.sd_history.specs.Things.{failure_of, mended}
 use Rattle.sd_history.specs.World.{Setting, link_has_failed}
 use Rattle.sd_history.specs.Steps.{Step, seen_of, flights}

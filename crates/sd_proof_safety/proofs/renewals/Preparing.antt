@@ -9,7 +9,8 @@ use Rattle.sd_history.specs.Sched.Events.{given, joined, is_commit}
 use Rattle.sd_history.specs.Things.{mended}
 use Rattle.sd_history.specs.World.{Setting, window_is_open, has_commit, staged_epoch}
 use Rattle.sd_history.specs.Steps.{Step, seen_of, given_in}
-use Rattle.sd_history.specs.Chronicle.{chronicle, IsHistory}
+use Rattle.sd_history.specs.Chronicle.{chronicle}
+use Rattle.sd_history.specs.Admitted.{IsAdmitted}
 use Rattle.sd_history.specs.Refusals.{past_preparing}
 use Rattle.sd_proof_safety.specs.invariant.Eras.{is_old, is_new, is_blank, will_belong}
 use Rattle.sd_proof_safety.specs.invariant.Clauses.{member_enters}
@@ -25,7 +26,7 @@ opened_uncommitted true false is = (refl, refl)
 opened_uncommitted true true is = cc
 opened_uncommitted false commit is = cc
 
-pub preparing : (setting : Setting) (e : Event) (history : List Event) → IsHistory setting (e ∷ history)
+pub preparing : (setting : Setting) (e : Event) (history : List Event) → IsAdmitted setting (e ∷ history)
     → (is_some (given e) || is_some (joined e) || is_some (mended e) || is_commit e) ≡ true
     → IsPreparing (chronicle setting history)
 preparing setting e history is prepares =

@@ -1,31 +1,16 @@
 -- Devices that are joined are so by as many links as there are devices at most: a way that comes back to a device can be cut there, and numbers below a bound
 -- of which none
 -- comes twice are as many at most.
-use Rattle.std.specs.Prelude.{◌≡◌, ℕ, zero, suc, ◌+◌, ◌<◌, ◌≤◌, Bool, true, false, ◌&&◌, ◌||◌, List, [], ◌∷◌, length, nat_eq, refl, ◌⊎◌}
-use Rattle.std.specs.List.{list_any, IsDistinct}
-use Rattle.std.proofs.Common.{arith, ◌∙◌, sym, subst, inl, inr}
+use Rattle.std.specs.Prelude.{◌≡◌, ℕ, zero, suc, ◌<◌, ◌≤◌, Bool, true, false, ◌&&◌, List, [], ◌∷◌, length, nat_eq, refl, ◌⊎◌}
+use Rattle.std.specs.List.{list_any}
+use Rattle.std.proofs.Common.{arith, sym, subst, inl, inr}
 use Rattle.std.proofs.lemmas.Bool.{and_from, or_left, or_right, or_cases, eqb-true, eq-eqb}
 use Rattle.sd_checker.specs.Num.Lists.{has}
 use Rattle.sd_checker.specs.Topo.Network.{Network, joins, device_numbers, link_numbers}
 use Rattle.sd_checker.specs.Topo.Joined.{Joined, here, over, joined_within}
-use Rattle.std.proofs.lemmas.Map.Steps.{length-le_from_distinct_below}
-use Rattle.sd_checker.proofs.Num.Shared.{differs}
+use Rattle.sd_checker.proofs.Num.Distinct.{AreDistinct, few}
 use Rattle.sd_history.proofs.Shared.{among_below}
 use Rattle.sd_proof_safety.proofs.invariant.Prefix.{any_passing}
-
--- Numbers of which none comes twice
-
-abbrev AreDistinct : List ℕ → Type 0
-AreDistinct [] = Unit {0}
-AreDistinct (x ∷ xs) = (has xs x ≡ false) × AreDistinct xs
-
-as_distinct : (xs : List ℕ) → AreDistinct xs → IsDistinct nat_eq xs
-unfolding IsDistinct
-as_distinct [] all = tt
-as_distinct (x ∷ xs) all = (differs x xs all.0, as_distinct xs all.1)
-
-as_many : (xs : List ℕ) (n : ℕ) → AreDistinct xs → ((x : ℕ) → has xs x ≡ true → x < n) → length xs ≤ n
-as_many xs n all within = length-le_from_distinct_below xs n (as_distinct xs all) within
 
 module _ (net : Network) (may_pass may_cross : ℕ → Bool) (known : (e : ℕ) → may_pass e ≡ true → e < length net.devices) where
   abbrev has_link : ℕ → ℕ → Bool
@@ -98,7 +83,7 @@ module _ (net : Network) (may_pass may_cross : ℕ → Bool) (known : (e : ℕ) 
     where
       go : Straight d x → joined_within net may_pass may_cross (length net.devices) d x ≡ true
       go s = within_way d x s.over_ (length net.devices) s.way
-          (shorter (length s.over_) (length net.devices) (as_many (d ∷ s.over_) (length net.devices) s.once all))
+          (shorter (length s.over_) (length net.devices) (few (d ∷ s.over_) (length net.devices) s.once all))
         where
           shorter : (a b : ℕ) → suc a ≤ b → a ≤ b
           shorter a b le = omega (arith, le)

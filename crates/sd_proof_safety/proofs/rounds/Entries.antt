@@ -14,11 +14,11 @@ use Rattle.sd_history.specs.World.{Setting, has_commit, staged_epoch}
 use Rattle.sd_history.specs.Steps.{Step, seen_of, acts_in, parent_in}
 use Rattle.sd_history.specs.Chronicle.{past_in, chronicle}
 use Rattle.sd_history.proofs.Given.{some_is}
-use Rattle.sd_history.proofs.Parts.{premises_of}
+use Rattle.sd_proof_safety.proofs.invariant.Parts.{premises_of}
 use Rattle.sd_proof_safety.specs.invariant.Eras.{era, is_new, on_primary, moved, live_past}
 use Rattle.sd_proof_safety.specs.invariant.Clauses.{staged_root}
 use Rattle.sd_proof_safety.specs.invariant.Invariant.{Invariant, AtEach}
-use Rattle.sd_proof_safety.specs.invariant.Coming.{IsFair, IsClean}
+use Rattle.sd_proof_safety.specs.invariant.Guarded.{AreGuarded, IsSteady}
 use Rattle.sd_proof_safety.proofs.invariant.Prefix.{clean_before}
 use Rattle.sd_proof_safety.proofs.invariant.Sides.{implied}
 use Rattle.sd_proof_safety.specs.messages.Moments.{Tail, behind, IsChronicle, Moment, upto, when, IsIn, Emits}
@@ -44,7 +44,7 @@ use Rattle.sd_proof_safety.proofs.rounds.Places.{InEra}
 use Rattle.sd_proof_safety.proofs.rounds.Leaders.{IsLeader, spacing, one_life, emitter, leader_is_staged}
 
 -- after a moment at which a device is of the plan after the era's, that is the staged one, with a commit
-pub committed_from : (setting : Setting) (history : List Event) → IsFair setting → IsClean setting history
+pub committed_from : (setting : Setting) (history : List Event) → AreGuarded setting → IsSteady setting history
     → AtEach (Invariant setting) (chronicle setting history) → (q : Moment) → IsIn q (chronicle setting history) → (d : ℕ) (past : Past)
     → past_in (upto q) d ≡ Some past → epoch_now past ≡ era (chronicle setting history) + 1
     → (has_commit (seen_of (upto q)) ≡ true) × (era (chronicle setting history) ≤ era (upto q))
@@ -68,7 +68,7 @@ module _ (setting : Setting) (x : Event) (h : List Event) (e : Event) (s0 a : �
   abbrev steps : List Step
   steps = chronicle setting (x ∷ h)
 
-  clean : IsClean setting (x ∷ h)
+  clean : IsSteady setting (x ∷ h)
   clean = clean_before setting e (x ∷ h) l.span.comes.clean
 
   steps_is : IsChronicle setting (chronicle setting (x ∷ h))
@@ -126,7 +126,7 @@ module _ (setting : Setting) (x : Event) (h : List Event) (e : Event) (s0 a : �
       older : List Step
       older = chronicle setting (k.x ∷ k.h)
 
-      k_clean : IsClean setting (k.x ∷ k.h)
+      k_clean : IsSteady setting (k.x ∷ k.h)
       k_clean = clean_before setting k.e (k.x ∷ k.h) k.comes.clean
 
       inside : Tail (chronicle setting (k.x ∷ k.h)) (chronicle setting (x ∷ h))

@@ -15,11 +15,11 @@ use Rattle.sd_history.specs.World.{Setting, makes, is_up, has_commit, is_staged_
 use Rattle.sd_history.specs.Steps.{Calls, Step, seen_of, acts_in, epoch_in}
 use Rattle.sd_history.specs.Chronicle.{past_in, chronicle, next_step}
 use Rattle.sd_history.proofs.Given.{some_is}
-use Rattle.sd_history.proofs.Parts.{premises_of}
+use Rattle.sd_proof_safety.proofs.invariant.Parts.{premises_of}
 use Rattle.sd_proof_safety.specs.invariant.Eras.{era, plan_now, is_old, is_new, sent_at}
 use Rattle.sd_proof_safety.specs.invariant.Clauses.{staged_root}
 use Rattle.sd_proof_safety.specs.invariant.Invariant.{Invariant, AtEach}
-use Rattle.sd_proof_safety.specs.invariant.Coming.{IsClean}
+use Rattle.sd_proof_safety.specs.invariant.Guarded.{IsSteady}
 use Rattle.sd_proof_safety.proofs.invariant.Prefix.{clean_before}
 use Rattle.sd_proof_safety.proofs.invariant.Sides.{not_both}
 use Rattle.sd_proof_safety.specs.messages.Moments.{Tail, whole, behind, IsChronicle, Moment, upto, when, IsIn, Emits}
@@ -54,7 +54,7 @@ use Rattle.sd_proof_safety.proofs.timers.Emissions.{timed_tail}
 pub record LeadsAt (setting : Setting) (steps : List Step) (a : ℕ) (q : Moment) : Type 0 where
   pub then_ : List Event
   pub is : q.earlier ≡ chronicle setting then_
-  pub clean : IsClean setting then_
+  pub clean : IsSteady setting then_
   pub each : AtEach (Invariant setting) (chronicle setting then_)
   pub actor : IsActor setting (chronicle setting then_) a
   pub soon : when q ≤ sent_at q.earlier a + round_gap setting.net
@@ -121,7 +121,7 @@ module _ (setting : Setting) (x : Event) (h : List Event) (e : Event) (s0 a : �
   spacing = emissions_are_apart setting (x ∷ h) (before setting e (x ∷ h) (times setting x h e l.span.comes))
 
   pub rule : IsApart setting.net
-  rule = apart_by_rule setting.net (plan_now setting steps) (sound setting x h e l.span.comes).accepted.timing
+  rule = apart_by_rule setting.net (plan_now setting steps) (sound setting x h e l.span.comes).guarded.timing
 
   pub one_life : (p q : Moment) → s0 < when p → IsIn q (chronicle setting (x ∷ h)) → IsUnbroken p q a
   one_life p q late q_in = unbroken setting (top_of setting (x ∷ h) e) a s0 source spacing rule p q late q_in
@@ -226,7 +226,7 @@ module _ (setting : Setting) (steps : List Step) (q : Moment) (k : InEra setting
   abbrev older : List Step
   older = chronicle setting (k.x ∷ k.h)
 
-  clean_then : IsClean setting (k.x ∷ k.h)
+  clean_then : IsSteady setting (k.x ∷ k.h)
   clean_then = clean_before setting k.e (k.x ∷ k.h) k.comes.clean
 
   soon_then : reference_of k.e ≤ sent_at (chronicle setting (k.x ∷ k.h)) a + round_gap setting.net

@@ -16,13 +16,14 @@ use Rattle.sd_history.specs.World.{Setting, has_commit, epoch_in_force, staged_e
 use Rattle.sd_history.specs.Steps.{Step, seen_of}
 use Rattle.sd_history.specs.Chronicle.{chronicle}
 use Rattle.sd_history.proofs.Among.{Among}
-use Rattle.sd_history.proofs.Parts.{AllHold, premises_of}
+use Rattle.sd_history.specs.Rounds.{is_spoiled}
+use Rattle.sd_proof_safety.proofs.invariant.Parts.{AllButStart, premises_of}
 use Rattle.sd_proof_safety.specs.invariant.Bounds.{depth, delay, rounds_gap}
 use Rattle.sd_proof_safety.specs.invariant.Eras.{era, is_old, heard_at}
-use Rattle.sd_proof_safety.specs.invariant.Coming.{IsClean}
+use Rattle.sd_proof_safety.specs.invariant.Guarded.{IsSteady}
 use Rattle.sd_proof_safety.proofs.invariant.Prefix.{clean_before}
 use Rattle.sd_proof_safety.specs.messages.Moments.{whole, behind, IsChronicle, Moment, upto, when, IsIn, Emits}
-use Rattle.sd_proof_safety.specs.messages.Rounds.{is_spoiled, Hears}
+use Rattle.sd_proof_safety.specs.messages.Rounds.{Hears}
 use Rattle.sd_proof_safety.proofs.messages.Tails.{tail_chronicle, history_chronicle, before_is_earlier}
 use Rattle.sd_proof_safety.proofs.messages.Cleans.{Clean, one_is_clean}
 use Rattle.sd_proof_safety.proofs.messages.Flowing.{HeardBy}
@@ -77,7 +78,7 @@ module _ (setting : Setting) (x : Event) (h : List Event) (e : Event) (s0 a : �
         → limit ≤ when first + 2 * (setting.net.params.depth + 1) * greatest_delay setting.net
         → AreOpenHops setting (top_of setting (x ∷ h) e) (era (chronicle setting (x ∷ h))) first limit a a way
 
-  clean : IsClean setting (x ∷ h)
+  clean : IsSteady setting (x ∷ h)
   clean = clean_before setting e (x ∷ h) l.span.comes.clean
 
   all_chronicle : IsChronicle setting (chronicle setting (e ∷ x ∷ h))
@@ -101,7 +102,7 @@ module _ (setting : Setting) (x : Event) (h : List Event) (e : Event) (s0 a : �
           → (epoch ≡ epoch_in_force (seen_of q.earlier)) ⊎ (epoch ≡ staged_epoch (seen_of q.earlier)) × (window_is_open (seen_of q.earlier) ≡ true))
           → IsRound setting top a epoch first limit
       round_of epoch epoch_is current =
-          let premises : AllHold setting (seen_of (chronicle setting (e ∷ x ∷ h))) =
+          let premises : AllButStart setting (seen_of (chronicle setting (e ∷ x ∷ h))) =
           premises_of setting (seen_of (chronicle setting (e ∷ x ∷ h))) l.span.comes.clean.premises in
           let terms : IsTermed setting steps = termed setting (x ∷ h) l.span.comes.fair clean l.span.comes.before in
           record {
@@ -204,7 +205,7 @@ module _ (setting : Setting) (x : Event) (h : List Event) (e : Event) (s0 a : �
         let rule_ = rule setting x h e s0 a l in
         let gap = round_gap setting.net in
         let last = n * greatest_delay setting.net in
-        let premises : AllHold setting (seen_of (chronicle setting (e ∷ x ∷ h))) =
+        let premises : AllButStart setting (seen_of (chronicle setting (e ∷ x ∷ h))) =
         premises_of setting (seen_of (chronicle setting (e ∷ x ∷ h))) l.span.comes.clean.premises in
         let one = first_sent setting top a s0 src apart rule_ (first_by s0 setting.net.params.loss gap last (reference_of e) less) in
         let fresh : Clean setting (seen_of (upto top)) one.0.stamp.term one.0.stamp.round =

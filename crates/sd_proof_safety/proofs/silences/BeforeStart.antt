@@ -13,14 +13,14 @@ use Rattle.sd_history.specs.Steps.{Act, Makes, Calls, Asks, Passes, Step, seen_o
 use Rattle.sd_history.specs.Chronicle.{past_in, chronicle, next_step}
 use Rattle.sd_proof_safety.specs.invariant.Eras as eras
 use Rattle.sd_proof_safety.specs.invariant.Eras.{does, hears, latest_such, heard_at, heard_since_made, has_emission, emission_by, begins_round, all_started}
-use Rattle.sd_proof_safety.specs.invariant.Coming.{IsFair, IsClean}
+use Rattle.sd_proof_safety.specs.invariant.Guarded.{AreGuarded, IsSteady}
 use Rattle.sd_proof_safety.proofs.invariant.Prefix.{clean_before}
 use Rattle.sd_proof_safety.specs.messages.Moments.{whole, behind, Moment, when, IsIn, Emits, is_emission}
 use Rattle.sd_proof_safety.specs.messages.Traces.{Traced}
 use Rattle.sd_proof_safety.proofs.messages.Tails.{history_chronicle}
 use Rattle.sd_proof_safety.proofs.messages.Tracing.{accepted_traced}
 use Rattle.sd_proof_safety.proofs.messages.Latest.{trace_first, trace_emits}
-use Rattle.sd_history.proofs.Parts.{premises_of}
+use Rattle.sd_proof_safety.proofs.invariant.Parts.{premises_of}
 use Rattle.sd_history.proofs.Known.{has_some}
 use Rattle.sd_proof_safety.proofs.timers.Transitions.{by_case}
 use Rattle.sd_proof_safety.proofs.waits.LeastWaits.{timely_of}
@@ -50,7 +50,7 @@ has_emitted p x m _ whole emits = or_left (emission_by p.earlier p.step.act) (ha
 has_emitted p x m _ (behind {x = s} {xs = earlier} t) emits = or_right (emission_by earlier s.act) (has_emission earlier) (has_emitted p x m earlier t emits)
 
 -- an emission is later than r0 + Q
-pub emission_late : (setting : Setting) → IsFair setting → (p : Moment) (x : ℕ) (m : Message) → Emits p x m → (history : List Event) → IsClean setting history
+pub emission_late : (setting : Setting) → AreGuarded setting → (p : Moment) (x : ℕ) (m : Message) → Emits p x m → (history : List Event) → IsSteady setting history
     → IsIn p (chronicle setting history)
     → all_started setting (chronicle setting history) < when p
 emission_late setting fair p x m emits [] clean here = elim here [ ]
@@ -77,9 +77,9 @@ receives past call is =
     })
     call is
 
-module _ (setting : Setting) (fair : IsFair setting) where
+module _ (setting : Setting) (fair : AreGuarded setting) where
   -- at a receipt something was emitted
-  heard_emission : (e : Event) (history : List Event) → IsClean setting (e ∷ history) → (d : ℕ)
+  heard_emission : (e : Event) (history : List Event) → IsSteady setting (e ∷ history) → (d : ℕ)
       → does hears (chronicle setting history) (next_step setting (chronicle setting history) e) d ≡ true
       → has_emission (chronicle setting (e ∷ history)) ≡ true
   heard_emission e history clean d h = by_act (next_step setting (chronicle setting history) e).act refl h
@@ -125,7 +125,7 @@ module _ (setting : Setting) (fair : IsFair setting) where
   on_longer e (x ∷ hs) d h less = less
 
   -- what a device heard since it was made is later than r0 + Q
-  pub heard_after : (d : ℕ) (history : List Event) → IsClean setting history → heard_since_made (chronicle setting history) d ≡ true
+  pub heard_after : (d : ℕ) (history : List Event) → IsSteady setting history → heard_since_made (chronicle setting history) d ≡ true
       → all_started setting (chronicle setting history) < heard_at (chronicle setting history) d
   heard_after d [] clean h = cc
   heard_after d (e ∷ history) clean h =

@@ -77,7 +77,7 @@ module _ (setting : Setting) (x : Event) (h : List Event) (e : Event) (s0 : ℕ)
       life a c after c_in =
           unbroken setting (top_of setting (x ∷ h) e) root' s0 (root_source setting x h e s0 phase kept)
           (emissions_are_apart setting (x ∷ h) (before setting e (x ∷ h) (times setting x h e phase.comes)))
-          (apart_by_rule setting.net (plan_now setting steps') (sound setting x h e phase.comes).accepted.timing) a c after c_in
+          (apart_by_rule setting.net (plan_now setting steps') (sound setting x h e phase.comes).guarded.timing) a c after c_in
 
       terms : Order p q → Emits q root' n → n.stamp.term ≡ m.stamp.term
       terms (comes_before t) two' = (rounds_apart p q root' m n one two' t (life p q late q_in)).0

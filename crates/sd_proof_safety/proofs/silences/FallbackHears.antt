@@ -30,7 +30,7 @@ use Rattle.sd_proof_safety.specs.invariant.Eras.{era, plan_now, all_started, beg
 use Rattle.sd_proof_safety.specs.invariant.Invariant.{Invariant}
 use Rattle.sd_proof_safety.specs.invariant.Silences.{FallbackHears}
 use Rattle.sd_proof_safety.proofs.invariant.Sides.{implied, not_both}
-use Rattle.sd_proof_safety.specs.messages.Moments.{behind, Moment, upto, when, IsIn}
+use Rattle.sd_proof_safety.specs.messages.Moments.{behind, Moment, when, IsIn}
 use Rattle.sd_proof_safety.specs.messages.Rounds.{IsReady}
 use Rattle.sd_proof_safety.proofs.messages.Ends.{backup_follows}
 use Rattle.sd_proof_safety.proofs.waits.Waits.{Stands, old_stands}
@@ -198,7 +198,7 @@ module _ (setting : Setting) (x : Event) (h : List Event) (e : Event) (s0 : ℕ)
 
   pub rests_by : reference_of e ≤ s0 + rounds_gap setting.net + (depth setting.net + 1) * delay setting.net
   rests_by =
-      let hop = the_hop (backup_of plan b) (falls setting.net plan fine.accepted.structure fine.fits.backup_root) in
+      let hop = the_hop (backup_of plan b) (falls setting.net plan fine.guarded.structure fine.fits.backup_root) in
       fallback_by hop.0 hop.1
 
 rest_sum : (r h m r0 q p a b : ℕ) → r ≤ max (max h m) (r0 + q) + a + b → r0 ≤ h → q + 1 ≤ p → r - max h m ≤ a + p + b

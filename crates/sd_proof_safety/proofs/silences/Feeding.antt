@@ -15,9 +15,10 @@ use Rattle.sd_history.specs.Steps.{seen_of, ends_at}
 use Rattle.sd_history.specs.Chronicle.{past_in}
 use Rattle.sd_history.specs.Premises.{arrives_in_time, delay_holds, renew_holds}
 use Rattle.sd_history.proofs.Among.{Among}
+use Rattle.sd_history.specs.Rounds.{is_spoiled}
 use Rattle.sd_proof_safety.specs.invariant.Bounds.{rounds_gap}
 use Rattle.sd_proof_safety.specs.messages.Moments.{whole, behind, IsChronicle, Moment, upto, when, IsIn, Emits}
-use Rattle.sd_proof_safety.specs.messages.Rounds.{is_spoiled, Takes, HeardSince, IsOpen, AreOpen, Flows, IsOnlyEmission, IsSpaced, IsReady, follows_parent, has_given, AreApart}
+use Rattle.sd_proof_safety.specs.messages.Rounds.{Takes, HeardSince, IsOpen, AreOpen, Flows, IsOnlyEmission, IsSpaced, IsReady, follows_parent, has_given, AreApart}
 use Rattle.sd_proof_safety.proofs.messages.Tails.{tail_chronicle, before_is_earlier}
 use Rattle.sd_proof_safety.proofs.messages.Hearing.{receiver_past}
 use Rattle.sd_proof_safety.proofs.messages.Following.{follows_or_heard, given_takes}

@@ -9,8 +9,9 @@ use Rattle.sd_checker.specs.Topo.declared.Thing.TheVariants as thing
 use Rattle.sd_checker.specs.Plan.declared.Duty.{Duty}
 use Rattle.sd_checker.specs.Plan.declared.Plan.{Plan}
 use Rattle.sd_checker.specs.Plan.Plans.{is_member, is_root, is_backup_root}
+use Rattle.sd_history.specs.Admitted.{Admits}
 use Rattle.sd_history.specs.Msg.declared.Message.{Message}
-use Rattle.sd_history.specs.Core.Calls.{Tick, Past}
+use Rattle.sd_history.specs.Core.Calls.{Past}
 use Rattle.sd_history.specs.Core.Words.{after, is_acting, epoch_now}
 use Rattle.sd_history.specs.Sched.declared.Event.{Event}
 use Rattle.sd_history.specs.Sched.declared.Event.TheVariants as event
@@ -18,9 +19,9 @@ use Rattle.sd_history.specs.Sched.Events.{reference_of, ticked, is_stage, is_com
 use Rattle.sd_history.specs.World.{Setting, Seen, makes, fails, is_up, plan_numbered, window, window_is_open, has_commit}
 use Rattle.sd_history.specs.Steps.{Calls, Step, seen_of, acts_in, epoch_in}
 use Rattle.sd_history.specs.Chronicle.{past_in, chronicle, next_step}
-use Rattle.sd_history.specs.Refusals.{refusal, causes, window_order, window_order_seen, window_order_within, not_started}
+use Rattle.sd_history.specs.Refusals.{window_order, window_order_seen, window_order_within, not_started}
 use Rattle.sd_history.proofs.Among.{first, later}
-use Rattle.sd_history.proofs.Contained.{none_holds}
+use Rattle.sd_history.proofs.Admitted.{rule_holds}
 use Rattle.sd_history.proofs.Given.{some_is}
 use Rattle.sd_proof_safety.specs.invariant.Eras.{era, plan_now, is_old, is_new, is_ordinary, root_failed, all_started}
 use Rattle.sd_proof_safety.specs.invariant.Clauses.{backup_root_acts}
@@ -53,10 +54,10 @@ use Rattle.sd_proof_safety.proofs.timers.Emissions.{timed_tail}
 
 -- A commit stays in its window.
 
-stage_not : (setting : Setting) (steps : List Step) (e : Event) → refusal setting steps e ≡ None → (is_stage e && window_is_open (seen_of steps)) ≡ false
+stage_not : (setting : Setting) (steps : List Step) (e : Event) → Admits setting steps e → (is_stage e && window_is_open (seen_of steps)) ≡ false
 stage_not setting steps e none =
     let order : window_order setting steps e ≡ false =
-    none_holds (causes setting steps e) _ none (later (later (later (later (later (later (later (later (later (later (later (later first)))))))))))) in
+    rule_holds setting steps e _ none (later (later (later (later (later (later (later (later (later (later (later (later first)))))))))))) refl in
     let seen = (or_parts (window_order_seen setting (seen_of steps) e) (window_order_within steps e) order).0 in
     (or_parts (is_stage e && window_is_open (seen_of steps)) _ (or_parts _ _ (or_parts _ _ seen).0).0).0
 
@@ -99,7 +100,7 @@ emitter_up setting p y m is timed_ emits =
     true_from_ne_false (is_up (seen_of p.earlier) y)
     (λ down. not_both (not (is_up (seen_of p.earlier) y)) (ap not down)
     (subst (λ e. not_started (seen_of p.earlier) e ≡ false) tick.1
-    (none_holds (causes setting p.earlier p.step.seen.event) _ is.2 (later (later (later (later (later (later (later (later (later first)))))))))))) in
+    (rule_holds setting p.earlier p.step.seen.event _ is.2 (later (later (later (later (later (later (later (later (later first))))))))) refl))) in
     up_stays_by (makes y p.step.seen.event) (fails (thing.Device y) p.step.seen.event) (is_up (seen_of p.earlier) y)
     (sending_fails_not setting p y m (thing.Device y) is s) up
 
@@ -228,7 +229,7 @@ module _ (setting : Setting) (x : Event) (h : List Event) (e : Event) (s0 : ℕ)
   spacing = emissions_are_apart setting (x ∷ h) (before setting e (x ∷ h) (times setting x h e phase.comes))
 
   rule : IsApart setting.net
-  rule = apart_by_rule setting.net (plan_now setting steps') (sound setting x h e phase.comes).accepted.timing
+  rule = apart_by_rule setting.net (plan_now setting steps') (sound setting x h e phase.comes).guarded.timing
 
   -- where all emissions are later than the reference they are of one life of the root, and of one term
   pub first_led : ((p : Moment) → IsIn p (chronicle setting (x ∷ h)) → (y : ℕ) (m : Message) → Emits p y m → s0 < when p)

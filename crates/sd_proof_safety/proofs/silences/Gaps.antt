@@ -17,7 +17,7 @@ use Rattle.sd_proof_safety.specs.invariant.Silences.{WholePathHears}
 use Rattle.sd_proof_safety.specs.invariant.Coming.{IsNextEvent}
 use Rattle.sd_proof_safety.proofs.invariant.Sides.{implied}
 use Rattle.sd_proof_safety.proofs.invariant.Staying.{old_is_member}
-use Rattle.sd_history.proofs.Known.{up_is_known}
+use Rattle.sd_history.proofs.Known.{admitted_up_is_known}
 use Rattle.sd_proof_safety.proofs.timers.Periods.{tick_within}
 use Rattle.sd_proof_safety.proofs.waits.Waits.{Stands, old_stands}
 use Rattle.sd_proof_safety.specs.silences.Promises.{AtFirstAlways, WholePathAlways}
@@ -33,7 +33,7 @@ pub next_event : (setting : Setting) (x : Event) (h : List Event) (e : Event) �
     → reference_of e ≤ latest_reference (seen_of (chronicle setting (x ∷ h))) + tick_gap setting.net
 next_event setting x h e comes d up member =
     let steps : List Step = chronicle setting (x ∷ h) in
-    let known : d < length setting.net.devices = up_is_known setting (x ∷ h) comes.clean.is.0 d up in
+    let known : d < length setting.net.devices = admitted_up_is_known setting (x ∷ h) comes.clean.is.0 d up in
     let current : is_current_member setting (seen_of steps) d ≡ true =
     or_left (is_member (plan_now setting steps) d) (is_staged_member setting (seen_of steps) d) member in
     let each = (and_parts _ _ (and_parts _ _ (times setting x h e comes).ticks).1).0 in
@@ -67,7 +67,7 @@ whole_path_always setting (x ∷ h) e comes first_era calm d lives old primary p
     let by = lately_by setting (x ∷ h) e comes first_era calm d lives old primary path_ in
     let both = whole_path_lately setting (x ∷ h) e comes first_era calm d lives
     (or_left (not (has_commit (seen_of steps))) _ (ap not calm)) old primary path_ in
-    let rule : IsApart net = apart_by_rule net (plan_now setting steps) (sound setting x h e comes).accepted.timing in (
+    let rule : IsApart net = apart_by_rule net (plan_now setting steps) (sound setting x h e comes).guarded.timing in (
       always_sum (reference_of e) (latest_reference (seen_of steps)) (heard_at steps d) (beginning (seen_of steps)) (tick_gap net)
           (greatest_up net net.params.period) (round_gap net) (rounds_gap net) (depth net * delay net) (least_low net net.params.period)
           gap by.0 by.1 refl (least_below_greatest net net.params.period)

@@ -5,37 +5,29 @@ use Rattle.std.proofs.lemmas.Bool.{and_from, or_left, or_parts, or_from, eqb-tru
 use Rattle.sd_checker.specs.Num.Lists.{map_or, same_number}
 use Rattle.sd_checker.specs.Topo.declared.Thing.TheVariants as thing
 use Rattle.sd_checker.specs.Plan.Plans.{is_member}
+use Rattle.sd_history.specs.Admitted.{Admits}
 use Rattle.sd_history.specs.Sched.declared.Event.{Event}
 use Rattle.sd_history.specs.Sched.Events.{started, joined}
 use Rattle.sd_history.specs.World.{Setting, Seen, makes, fails, is_up, was_made, in_force, joined_in_window}
 use Rattle.sd_history.specs.Steps.{Act, Makes, Calls, Asks, Passes, Step, seen_of}
-use Rattle.sd_history.specs.Refusals.{refusal, causes, started_twice}
+use Rattle.sd_history.specs.Refusals.{started_twice}
 use Rattle.sd_history.proofs.Among.{first, later}
-use Rattle.sd_history.proofs.Contained.{none_holds}
+use Rattle.sd_history.proofs.Admitted.{rule_holds}
+use Rattle.sd_history.proofs.Shared.{up_made}
 use Rattle.sd_proof_safety.proofs.invariant.Sides.{not_both}
 use Rattle.sd_proof_safety.specs.messages.Stamping.{remakes}
 use Rattle.sd_proof_safety.specs.timers.Times.{makes_device}
-
-pub up_made : (seen : List Seen) (d : ℕ) → is_up seen d ≡ true → was_made seen d ≡ true
-up_made [] d up = cc
-up_made (s ∷ seen) d up = go (makes d s.event) (fails (thing.Device d) s.event) up (up_made seen d)
-  where
-    go : (m f : Bool) → map_or (if m then Some true else if f then Some false else None) (is_up seen d) (λ told. told) ≡ true
-        → (is_up seen d ≡ true → was_made seen d ≡ true) → (m || was_made seen d) ≡ true
-    go true f up' rest = refl
-    go false true up' rest = cc
-    go false false up' rest = rest up'
 
 -- the option is the number
 named_by : (o : Option ℕ) (d : ℕ) (P : ℕ → Bool) → map_or o false P ≡ false → P d ≡ true → same_number o d ≡ false
 named_by None d P none is = refl
 named_by (Some e) d P none is = false_from_ne_true (nat_eq e d) (λ same. not_both (P d) is (subst (λ z. P z ≡ false) (eqb-true e d same) none))
 
-pub not_made : (setting : Setting) (steps : List Step) (e : Event) (d : ℕ) → refusal setting steps e ≡ None → is_up (seen_of steps) d ≡ true
+pub not_made : (setting : Setting) (steps : List Step) (e : Event) (d : ℕ) → Admits setting steps e → is_up (seen_of steps) d ≡ true
     → is_member (in_force setting (seen_of steps)) d ≡ true → makes d e ≡ false
 not_made setting steps e d none up member =
     let once : started_twice setting (seen_of steps) e ≡ false =
-    none_holds (causes setting steps e) _ none (later (later (later (later (later (later (later (later (later (later first)))))))))) in
+    rule_holds setting steps e _ none (later (later (later (later (later (later (later (later (later (later first)))))))))) refl in
     let parts = or_parts (map_or (started e) false (was_made (seen_of steps))) _ once in
     or_from (same_number (started e) d) (same_number (joined e) d)
     (named_by (started e) d (was_made (seen_of steps)) parts.0 (up_made (seen_of steps) d up))

@@ -25,9 +25,9 @@ use Rattle.sd_proof_safety.specs.invariant.Invariant.{Invariant}
 use Rattle.sd_proof_safety.proofs.invariant.Sides.{implied, not_both}
 use Rattle.sd_proof_safety.proofs.invariant.Staying.{old_is_member}
 use Rattle.sd_proof_safety.proofs.messages.Overlap.{apart_by_rule}
-use Rattle.sd_history.proofs.Parts.{AllHold, premises_of}
+use Rattle.sd_proof_safety.proofs.invariant.Parts.{AllButStart, premises_of}
 use Rattle.sd_proof_safety.specs.messages.Moments.{behind}
-use Rattle.sd_history.proofs.Known.{up_is_known}
+use Rattle.sd_history.proofs.Known.{admitted_up_is_known}
 use Rattle.sd_history.proofs.Given.{some_is}
 use Rattle.sd_proof_safety.proofs.timers.Histories.{before}
 use Rattle.sd_proof_safety.specs.silences.Feeds.{Feeds, AreSound}
@@ -81,7 +81,7 @@ module _ (setting : Setting) (x : Event) (h : List Event) (e : Event) (s0 : ℕ)
 
   pub root_feeds : Feeds setting (top_of setting (x ∷ h) e) (plan_now setting (chronicle setting (x ∷ h))).root s0 (era (chronicle setting (x ∷ h)))
   root_feeds =
-      let premises : AllHold setting (seen_of (chronicle setting (e ∷ x ∷ h))) =
+      let premises : AllButStart setting (seen_of (chronicle setting (e ∷ x ∷ h))) =
       premises_of setting (seen_of (chronicle setting (e ∷ x ∷ h))) phase.comes.clean.premises in
       let s : IsSound setting.net plan = sound setting x h e phase.comes in
       record {
@@ -90,7 +90,7 @@ module _ (setting : Setting) (x : Event) (h : List Event) (e : Event) (s0 : ℕ)
         loss = premises.loss;
         life = led.life;
         spacing = emissions_are_apart setting (x ∷ h) (before setting e (x ∷ h) (times setting x h e phase.comes));
-        rule = apart_by_rule setting.net plan s.accepted.timing;
+        rule = apart_by_rule setting.net plan s.guarded.timing;
         epoch_is = root_epoch setting x h e s0 phase kept;
         newest = led.newest;
         current = λ q here late. inl (sym (phase.same q (behind here) late).0);
@@ -122,7 +122,7 @@ module _ (setting : Setting) (x : Event) (h : List Event) (e : Event) (s0 : ℕ)
       let parts = primary_is true (moved steps d) (acts_in steps d) (is_some (live_past steps d)) primary in
       let up : is_up (seen_of steps) d ≡ true = up_by (is_up (seen_of steps) d) (past_in steps d) parts.0 in
       let member : is_member plan d ≡ true = old_is_member setting steps d (inv.core.census.outsiders d) old in
-      let known = up_is_known setting (x ∷ h) phase.comes.clean.is.0 d up in
+      let known = admitted_up_is_known setting (x ∷ h) phase.comes.clean.is.0 d up in
       let other : is_root plan d ≡ false =
       false_from_ne_true (is_root plan d)
       (λ is. not_both (acts_in steps d)

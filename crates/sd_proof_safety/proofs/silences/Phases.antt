@@ -21,7 +21,8 @@ use Rattle.sd_history.specs.Steps.{Step, seen_of}
 use Rattle.sd_history.specs.Chronicle.{chronicle, next_step}
 use Rattle.sd_proof_safety.specs.invariant.Eras.{era, plan_now, is_among, failed_now, beginning}
 use Rattle.sd_proof_safety.specs.invariant.Invariant.{Invariant, AtEach}
-use Rattle.sd_proof_safety.specs.invariant.Coming.{IsFair, IsClean, IsNextEvent}
+use Rattle.sd_proof_safety.specs.invariant.Guarded.{AreGuarded, IsSteady}
+use Rattle.sd_proof_safety.specs.invariant.Coming.{IsNextEvent}
 use Rattle.sd_proof_safety.proofs.invariant.Prefix.{clean_before}
 use Rattle.sd_proof_safety.proofs.invariant.Sides.{not_both}
 use Rattle.sd_proof_safety.specs.messages.Moments.{Tail, whole, behind, Moment, upto, when, IsIn}
@@ -127,7 +128,7 @@ pub record Stage (setting : Setting) (r0 : ℕ) (q : Moment) : Type 0 where
   pub comes : IsNextEvent setting (x ∷ h) e
   pub begins : beginning (seen_of (chronicle setting (x ∷ h))) ≡ r0
 
-pub stage : (setting : Setting) → IsFair setting → (q : Moment) (history : List Event) (e : Event) → IsClean setting (e ∷ history)
+pub stage : (setting : Setting) → AreGuarded setting → (q : Moment) (history : List Event) (e : Event) → IsSteady setting (e ∷ history)
     → AtEach (Invariant setting) (chronicle setting history)
     → IsIn q (chronicle setting (e ∷ history)) → beginning (seen_of (chronicle setting (e ∷ history))) < when q
     → Stage setting (beginning (seen_of (chronicle setting (e ∷ history)))) q

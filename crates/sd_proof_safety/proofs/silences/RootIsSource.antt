@@ -21,7 +21,7 @@ use Rattle.sd_proof_safety.specs.messages.Stamping.{EntersNot, enters, remakes}
 use Rattle.sd_proof_safety.proofs.messages.Tails.{tail_chronicle, history_chronicle, before_is_earlier}
 use Rattle.sd_proof_safety.proofs.messages.Sending.{sends_own}
 use Rattle.sd_proof_safety.proofs.messages.Consecutive.{past_after_call}
-use Rattle.sd_history.proofs.Parts.{premises_of}
+use Rattle.sd_proof_safety.proofs.invariant.Parts.{premises_of}
 use Rattle.sd_history.proofs.Core.Reached.{added}
 use Rattle.sd_proof_safety.specs.timers.Times.{AreTimed}
 use Rattle.sd_proof_safety.proofs.waits.Waits.{Stands, old_stands}

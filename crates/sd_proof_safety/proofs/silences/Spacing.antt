@@ -10,10 +10,10 @@ use Rattle.sd_history.specs.Core.Words.{transition_of, after, is_acting, emits}
 use Rattle.sd_history.specs.Sched.declared.Event.{Event}
 use Rattle.sd_history.specs.Sched.Events.{device_of}
 use Rattle.sd_history.specs.World.{Setting}
-use Rattle.sd_history.specs.Steps.{Calls, Step}
+use Rattle.sd_history.specs.Steps.{Calls}
 use Rattle.sd_history.specs.Chronicle.{past_in, chronicle}
 use Rattle.sd_history.proofs.Given.{some_is}
-use Rattle.sd_proof_safety.specs.messages.Moments.{Tail, whole, behind, IsChronicle, upto, when, is_emission}
+use Rattle.sd_proof_safety.specs.messages.Moments.{IsChronicle, upto, when, is_emission}
 use Rattle.sd_proof_safety.specs.messages.Stamping.{EntersNot}
 use Rattle.sd_proof_safety.specs.messages.Rounds.{AreApart}
 use Rattle.sd_proof_safety.proofs.messages.Tails.{tail_chronicle, history_chronicle, before_is_earlier}
@@ -28,7 +28,7 @@ use Rattle.sd_proof_safety.proofs.timers.Emissions.{emissions_apart, timed_tail}
 use Rattle.sd_proof_safety.proofs.timers.Pasts.{acting_has_duty, takeover_from_backup}
 use Rattle.sd_proof_safety.proofs.timers.Turns.{IsEmission, is_emission as emission_is, IsTakeover, is_takeover}
 use Rattle.sd_proof_safety.proofs.timers.NetworkBounds.{least_is_low, rate_is_low}
-use Rattle.sd_history.proofs.Known.{named_is_known}
+use Rattle.sd_history.proofs.Known.{admitted_named_is_known}
 use Rattle.sd_proof_safety.proofs.timers.Histories.{Timely, timed}
 
 -- an emission of a device that acts is none by a takeover
@@ -83,7 +83,7 @@ emissions_are_apart setting history t p q p_in q_in before d m n first second li
     let reads : counter_at q.step.act d ≡ Some e.counter =
     ap (λ act. counter_at act d) (two.act ∙ ap (Calls d) e.tick) ∙ ap (λ b. if b then Some e.counter else None) (eq-eqb d d refl) in
     let known : d < length setting.net.devices =
-    named_is_known setting q.earlier q.step.seen.event d chronicle_.2 (same_number-some (device_of q.step.seen.event) d (all.1.fits.named d e.counter reads)) in
+    admitted_named_is_known setting q.earlier q.step.seen.event d chronicle_.2 (same_number-some (device_of q.step.seen.event) d (all.1.fits.named d e.counter reads)) in
     let duty = acting_has_duty q.earlier d two.past two.there acts in
     let counts = emission_counts one.past one.call first.emission in
     let marked : IsMarked emits p.step p.earlier d =

@@ -118,4 +118,4 @@ module _ (setting : Setting) (x : Event) (h : List Event) (e : Event) (s0 : ℕ)
       twice n = omega arith
 
   pub fallback_silent : reference_of e ≤ s0 + rounds_gap setting.net + (depth setting.net + 1) * delay setting.net
-  fallback_silent = let hop = the_hop (backup_of plan b) (falls setting.net plan fine.accepted.structure fine.fits.backup_root) in fallback_by hop.0 hop.1
+  fallback_silent = let hop = the_hop (backup_of plan b) (falls setting.net plan fine.guarded.structure fine.fits.backup_root) in fallback_by hop.0 hop.1

@@ -173,7 +173,7 @@ fallback_hears setting (x ∷ h) e comes lives leads old on =
     let by : reference_of x ≤ max (max hb mb) rs + rounds_gap net + (depth net + 1) * delay net =
     rests_lately setting x h e comes (max (max hb mb) rs) (le-max_right (max hb mb) rs) kept old on (heard_of hb mb rs) (moved_of hb mb rs) in
     let began : beginning (seen_of steps) ≤ max hb mb = first_of (beginning (seen_of steps)) hb mb (heard_late setting x h e comes b s.past s.there) in
-    let rule : IsApart net = apart_by_rule net (plan_now setting steps) (sound setting x h e comes).accepted.timing in
+    let rule : IsApart net = apart_by_rule net (plan_now setting steps) (sound setting x h e comes).guarded.timing in
     always_sum (reference_of e) (reference_of x) (max hb mb) (beginning (seen_of steps)) (tick_gap net) (greatest_up net net.params.period) (round_gap net)
     (rounds_gap net) ((depth net + 1) * delay net) (least_low net net.params.period)
     gap by began refl (least_below_greatest net net.params.period)

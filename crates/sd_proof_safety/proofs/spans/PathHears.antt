@@ -17,7 +17,7 @@ use Rattle.sd_history.specs.Sched.Events.{reference_of}
 use Rattle.sd_history.specs.World.{Setting, Seen, fails, is_up, joined_in_window, epoch_in_force}
 use Rattle.sd_history.specs.Steps.{Step, seen_of, acts_in, epoch_in}
 use Rattle.sd_history.specs.Chronicle.{chronicle}
-use Rattle.sd_history.proofs.Known.{up_is_known}
+use Rattle.sd_history.proofs.Known.{admitted_up_is_known}
 use Rattle.sd_history.proofs.Given.{some_is}
 use Rattle.sd_proof_safety.specs.invariant.Bounds.{depth, delay, rounds_gap}
 use Rattle.sd_proof_safety.specs.invariant.Eras.{era, plan_now, all_started, is_among, touches, failed_now, device_failed_now, heard_at, is_old, is_new, is_blank, is_ordinary, live_past, moved, on_primary, hit, root_failed, root_lives}
@@ -135,7 +135,7 @@ module _ (setting : Setting) (x : Event) (h : List Event) (e : Event) (s0 : ℕ)
       own = spared setting x h e span.comes d old
 
       known : d < length setting.net.devices
-      known = up_is_known setting (x ∷ h) span.comes.clean.is.0 d own.up
+      known = admitted_up_is_known setting (x ∷ h) span.comes.clean.is.0 d own.up
 
       idle : acts_in (chronicle setting (x ∷ h)) d ≡ false
       idle = idle_by (is_some (live_past steps d)) (moved steps d) (acts_in steps d) primary

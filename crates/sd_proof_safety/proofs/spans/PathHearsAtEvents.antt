@@ -129,7 +129,7 @@ whole_path_hears setting (x ∷ h) e comes d lives leads old primary path_ =
     lately setting x h e comes (max (heard_at steps d) (all_started setting steps)) d
     (le-max_right (heard_at steps d) (all_started setting steps)) kept old primary path_ (le-max_left (heard_at steps d) (all_started setting steps)) in
     let began : beginning (seen_of steps) ≤ heard_at steps d = heard_late setting x h e comes d s.past s.there in
-    let rule : IsApart net = apart_by_rule net (plan_now setting steps) (sound setting x h e comes).accepted.timing in (
+    let rule : IsApart net = apart_by_rule net (plan_now setting steps) (sound setting x h e comes).guarded.timing in (
       always_sum (reference_of e) (reference_of x) (heard_at steps d) (beginning (seen_of steps)) (tick_gap net) (greatest_up net net.params.period)
           (round_gap net) (rounds_gap net) (depth net * delay net) (least_low net net.params.period)
           gap by began refl (least_below_greatest net net.params.period)

@@ -13,7 +13,8 @@ use Rattle.sd_history.specs.Chronicle.{chronicle, next_step}
 use Rattle.sd_proof_safety.specs.invariant.Eras.{era, does, hears, moves, latest_such, heard_at, moved_at, is_old, is_new, live_past, moved, on_primary, on_backup}
 use Rattle.sd_proof_safety.specs.invariant.Clauses.{staged_root, commit_at}
 use Rattle.sd_proof_safety.specs.invariant.Invariant.{Core}
-use Rattle.sd_proof_safety.specs.invariant.Coming.{IsClean, IsNextEvent}
+use Rattle.sd_proof_safety.specs.invariant.Guarded.{IsSteady}
+use Rattle.sd_proof_safety.specs.invariant.Coming.{IsNextEvent}
 use Rattle.sd_proof_safety.proofs.invariant.Prefix.{clean_before}
 use Rattle.sd_proof_safety.proofs.invariant.Sides.{implied, not_both}
 use Rattle.sd_proof_safety.specs.messages.Moments.{whole, behind, Moment, when, IsIn}
@@ -74,7 +75,7 @@ module _ (setting : Setting) (x : Event) (h : List Event) (e : Event) (comes : I
       (λ same.
       let commit : has_commit (seen_of older) ≡ true =
       reached (has_commit (seen_of older)) (era older) (epoch_within setting h comes_before.clean.is.0 d (staged_epoch (seen_of older)) new) in
-      let clean : IsClean setting h = clean_before setting x h comes_before.clean in
+      let clean : IsSteady setting h = clean_before setting x h comes_before.clean in
       let actor : IsActor setting older (staged_root setting older) = committed_actor setting h comes.fair clean comes_before.before commit in
       not_both (acts_in older d)
       (subst (λ z. acts_in older z ≡ true) (sym (eqb-true d (staged_root setting older) same))

@@ -12,7 +12,7 @@ use Rattle.sd_history.specs.World.{Setting, is_up, has_commit, is_untouched, is_
 use Rattle.sd_history.specs.Steps.{Step, seen_of}
 use Rattle.sd_history.specs.Chronicle.{chronicle, next_step}
 use Rattle.sd_history.proofs.Among.{passes}
-use Rattle.sd_history.proofs.Known.{up_is_known}
+use Rattle.sd_history.proofs.Known.{admitted_up_is_known}
 use Rattle.sd_history.proofs.flights.Places.{among_below as among_less}
 use Rattle.sd_history.proofs.Shared.{among_below}
 use Rattle.sd_proof_safety.specs.invariant.Eras.{plan_now, all_started, is_ordinary, hit}
@@ -63,7 +63,7 @@ module _ (setting : Setting) (x : Event) (h : List Event) (e : Event) (comes : I
       inv = now setting x h e comes
 
       known : d < length setting.net.devices
-      known = up_is_known setting (x ∷ h) comes.clean.is.0 d up
+      known = admitted_up_is_known setting (x ∷ h) comes.clean.is.0 d up
 
       by : (list_all (left_out_is_hit setting (chronicle setting (x ∷ h))) (device_numbers setting.net) ≡ true)
           ⊎ (list_any (begins_with setting (chronicle setting (x ∷ h))) (device_numbers setting.net) ≡ true)

@@ -10,7 +10,7 @@ use Rattle.sd_history.specs.Sched.Events.{reference_of}
 use Rattle.sd_history.specs.World.{Setting}
 use Rattle.sd_history.specs.Steps.{Step, seen_of}
 use Rattle.sd_history.specs.Chronicle.{chronicle}
-use Rattle.sd_history.proofs.Known.{up_is_known}
+use Rattle.sd_history.proofs.Known.{admitted_up_is_known}
 use Rattle.sd_proof_safety.specs.invariant.Bounds.{depth, delay, tick_gap, rounds_gap, first_up}
 use Rattle.sd_proof_safety.specs.invariant.Eras.{plan_now, beginning, all_started, failed_now, heard_at, is_old, is_ordinary, on_primary}
 use Rattle.sd_proof_safety.specs.invariant.Coming.{IsNextEvent, AtNext}
@@ -74,7 +74,7 @@ module _ (setting : Setting) (x : Event) (h : List Event) (e : Event) (comes : I
       (walk setting.net (plan_now setting (chronicle setting (x ∷ h))) d)
   cut =
       cut_walk_of setting.net (plan_now setting steps) (failed_now steps) (sound setting x h e comes) d
-      (up_is_known setting (x ∷ h) comes.clean.is.0 d own.up) own.member parts.0 own.self st.missed parts.1
+      (admitted_up_is_known setting (x ∷ h) comes.clean.is.0 d own.up) own.member parts.0 own.self st.missed parts.1
 
   abbrev Soon : Type 0
   Soon = reference_of e ≤ max (heard_at (chronicle setting (x ∷ h)) d) soon + (rounds_gap setting.net + 2 * depth setting.net * delay setting.net) + tick_gap

@@ -20,7 +20,7 @@ use Rattle.sd_history.specs.Steps.{Step, seen_of, acts_in}
 use Rattle.sd_history.specs.Chronicle.{past_in, chronicle}
 use Rattle.sd_history.proofs.Among.{Among}
 use Rattle.sd_history.proofs.Given.{some_is}
-use Rattle.sd_history.proofs.Known.{up_is_known}
+use Rattle.sd_history.proofs.Known.{admitted_up_is_known}
 use Rattle.sd_proof_safety.specs.invariant.Bounds.{depth, delay, rounds_gap}
 use Rattle.sd_proof_safety.specs.invariant.Eras.{era, plan_now, all_started, failed_now, is_among, heard_at, is_old, is_new, is_ordinary, on_primary, hit, root_failed}
 use Rattle.sd_proof_safety.proofs.invariant.Facts.{IsSound}
@@ -168,7 +168,7 @@ module _ (setting : Setting) (x : Event) (h : List Event) (e : Event) (comes : I
           old = old_d;
           heard = heard;
           staged = λ commit. (
-            up_is_known setting (x ∷ h) comes.clean.is.0 d own.up,
+            admitted_up_is_known setting (x ∷ h) comes.clean.is.0 d own.up,
             is_staged setting x h e comes late d commit own.up own.member unhit,
             not_root steps (staged_plan setting steps) d
                 (subst (λ z. acts_in steps z ≡ true) (sym (staged_is setting x h e s0 span_ kept_ commit) ∙ states.root_is setting (x ∷ h) e comes commit)

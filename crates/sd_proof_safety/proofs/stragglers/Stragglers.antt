@@ -16,7 +16,8 @@ use Rattle.sd_history.specs.Steps.{Step, seen_of}
 use Rattle.sd_history.specs.Chronicle.{chronicle}
 use Rattle.sd_proof_safety.specs.invariant.Bounds.{depth, delay, tick_gap, first_up}
 use Rattle.sd_proof_safety.specs.invariant.Eras.{era, plan_now, failed_now, is_among, touches, device_failed_now, beginning, all_started, late, first_failure, heard_at, silent_for, is_old, on_primary, path_hit}
-use Rattle.sd_proof_safety.specs.invariant.Coming.{IsClean, IsNextEvent}
+use Rattle.sd_proof_safety.specs.invariant.Guarded.{IsSteady}
+use Rattle.sd_proof_safety.specs.invariant.Coming.{IsNextEvent}
 use Rattle.sd_proof_safety.proofs.invariant.Prefix.{clean_before}
 use Rattle.sd_proof_safety.specs.messages.Moments.{Tail, whole, behind, IsChronicle, Moment, upto, when, IsIn, IsBefore}
 use Rattle.sd_proof_safety.specs.messages.Traces.{Trace}
@@ -137,7 +138,7 @@ module _ (setting : Setting) (x : Event) (h : List Event) (e : Event) (comes : I
   abbrev b : ℕ
   b = (plan_now setting (chronicle setting (x ∷ h))).backup_root
 
-  clean : IsClean setting (x ∷ h)
+  clean : IsSteady setting (x ∷ h)
   clean = clean_before setting e (x ∷ h) comes.clean
 
   all : IsChronicle setting (chronicle setting (x ∷ h))
@@ -205,7 +206,7 @@ module _ (setting : Setting) (x : Event) (h : List Event) (e : Event) (comes : I
       abbrev c : ℕ
       c = (plan_now setting (chronicle setting (s.y ∷ s.ys))).backup_root
 
-      clean_then : IsClean setting (s.y ∷ s.ys)
+      clean_then : IsSteady setting (s.y ∷ s.ys)
       clean_then = clean_before setting s.f (s.y ∷ s.ys) s.comes_.clean
 
       earlier_is : heard.moment.earlier ≡ chronicle setting (s.y ∷ s.ys)

@@ -19,14 +19,14 @@ use Rattle.sd_history.specs.Sched.Events.{reference_of}
 use Rattle.sd_history.specs.World.{Setting, fails}
 use Rattle.sd_history.specs.Steps.{Step, seen_of, acts_in}
 use Rattle.sd_history.specs.Chronicle.{chronicle}
-use Rattle.sd_history.proofs.Known.{up_is_known}
-use Rattle.sd_history.proofs.Parts.{AllHold, premises_of}
+use Rattle.sd_history.proofs.Known.{admitted_up_is_known}
+use Rattle.sd_history.specs.Rounds.{is_spoiled}
+use Rattle.sd_proof_safety.proofs.invariant.Parts.{AllButStart, premises_of}
 use Rattle.sd_proof_safety.specs.invariant.Bounds.{depth, delay}
 use Rattle.sd_proof_safety.specs.invariant.Eras.{era, plan_now, is_among, touches, failed_now, is_old, is_behind, hears, heard_at}
 use Rattle.sd_proof_safety.specs.invariant.Coming.{IsNextEvent}
 use Rattle.sd_proof_safety.proofs.invariant.Sides.{not_both}
 use Rattle.sd_proof_safety.specs.messages.Moments.{behind, IsChronicle, Moment, upto, when, IsIn, Emits}
-use Rattle.sd_proof_safety.specs.messages.Rounds.{is_spoiled}
 use Rattle.sd_proof_safety.proofs.messages.Tails.{tail_chronicle, before_is_earlier, tail_trans}
 use Rattle.sd_proof_safety.proofs.messages.Flowing.{HeardBy}
 use Rattle.sd_proof_safety.proofs.waits.Standing.{sound}
@@ -76,7 +76,7 @@ module _ (setting : Setting) (x : Event) (h : List Event) (e : Event) (comes : I
   cut_walk =
       let own : IsSpared setting steps d = spared setting x h e comes d old_d in
       cut_walk_of setting.net plan failed (sound setting x h e comes) d
-      (up_is_known setting (x ∷ h) comes.clean.is.0 d own.up) own.member parts.0 self missed parts.1
+      (admitted_up_is_known setting (x ∷ h) comes.clean.is.0 d own.up) own.member parts.0 self missed parts.1
 
   -- one clean round, from the takeover on
   module _ (first : Moment) (here : IsIn first (chronicle setting (x ∷ h))) (from : IsIn start (upto first)) (m : Message) (emits : Emits first b m)
@@ -91,7 +91,7 @@ module _ (setting : Setting) (x : Event) (h : List Event) (e : Event) (comes : I
 
     round : IsRound setting top b (era (chronicle setting (x ∷ h))) first (when first + depth setting.net * delay setting.net)
     round =
-        let premises : AllHold setting (seen_of (chronicle setting (e ∷ x ∷ h))) =
+        let premises : AllButStart setting (seen_of (chronicle setting (e ∷ x ∷ h))) =
         premises_of setting (seen_of (chronicle setting (e ∷ x ∷ h))) comes.clean.premises in
         record {
           chronicle_ = all_chronicle setting x h e comes old acts;

@@ -10,7 +10,8 @@ use Rattle.sd_history.specs.Steps.{Step, seen_of, acts_in}
 use Rattle.sd_history.specs.Chronicle.{chronicle, next_step}
 use Rattle.sd_proof_safety.specs.invariant.Eras.{era, plan_now, all_started, is_old, moved}
 use Rattle.sd_proof_safety.specs.invariant.Clauses.{is_beginning}
-use Rattle.sd_proof_safety.specs.invariant.Coming.{IsClean, IsNextEvent}
+use Rattle.sd_proof_safety.specs.invariant.Guarded.{IsSteady}
+use Rattle.sd_proof_safety.specs.invariant.Coming.{IsNextEvent}
 use Rattle.sd_proof_safety.proofs.invariant.Prefix.{clean_before}
 use Rattle.sd_proof_safety.proofs.invariant.Sides.{implied, not_both}
 use Rattle.sd_proof_safety.specs.messages.Moments.{Tail, whole, behind, IsChronicle, Moment, upto, when, IsIn, IsBefore}
@@ -73,7 +74,7 @@ module _ (setting : Setting) (x : Event) (h : List Event) (e : Event) (comes : I
   actor_now = let s : Stands setting steps b = old_stands setting (x ∷ h) b old in
       record { past = s.past; up = s.live; there = s.there; acts = sym s.acts_is ∙ acts }
 
-  pub clean_now : IsClean setting (x ∷ h)
+  pub clean_now : IsSteady setting (x ∷ h)
   clean_now = clean_before setting e (x ∷ h) comes.clean
 
   calm : has_commit (seen_of (chronicle setting (x ∷ h))) ≡ false

@@ -14,13 +14,14 @@ use Rattle.sd_history.specs.World.{Setting, Seen}
 use Rattle.sd_history.specs.Steps.{Step, seen_of, acts_in}
 use Rattle.sd_history.specs.Chronicle.{chronicle}
 use Rattle.sd_history.specs.Premises.{loss_holds}
-use Rattle.sd_history.proofs.Parts.{premises_of}
+use Rattle.sd_history.specs.Rounds.{is_spoiled}
+use Rattle.sd_proof_safety.proofs.invariant.Parts.{premises_of}
 use Rattle.sd_proof_safety.specs.invariant.Bounds.{depth, delay, losses, rounds_gap}
 use Rattle.sd_proof_safety.specs.invariant.Eras.{plan_now, is_old, heard_at}
 use Rattle.sd_proof_safety.specs.invariant.Coming.{IsNextEvent}
 use Rattle.sd_proof_safety.proofs.invariant.Sides.{not_both}
 use Rattle.sd_proof_safety.specs.messages.Moments.{whole, behind, Moment, upto, when, IsIn, IsBefore, Emits}
-use Rattle.sd_proof_safety.specs.messages.Rounds.{is_spoiled, IsUnbroken, AreApart}
+use Rattle.sd_proof_safety.specs.messages.Rounds.{IsUnbroken, AreApart}
 use Rattle.sd_proof_safety.proofs.messages.Tails.{tail_trans, rest_of}
 use Rattle.sd_proof_safety.proofs.messages.Overlap.{IsApart}
 use Rattle.sd_proof_safety.proofs.messages.Cleans.{Clean, one_is_clean}

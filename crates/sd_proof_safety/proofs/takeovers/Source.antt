@@ -15,7 +15,7 @@ use Rattle.sd_history.specs.World.{Setting, makes}
 use Rattle.sd_history.specs.Steps.{Calls, Step, seen_of, acts_in}
 use Rattle.sd_history.specs.Chronicle.{past_in, chronicle, next_step}
 use Rattle.sd_history.proofs.Given.{some_is}
-use Rattle.sd_history.proofs.Parts.{premises_of}
+use Rattle.sd_proof_safety.proofs.invariant.Parts.{premises_of}
 use Rattle.sd_proof_safety.specs.invariant.Eras.{era, plan_now, is_old, sent_at}
 use Rattle.sd_proof_safety.specs.invariant.Coming.{IsNextEvent}
 use Rattle.sd_proof_safety.proofs.invariant.Sides.{not_both}
@@ -132,7 +132,7 @@ module _ (setting : Setting) (x : Event) (h : List Event) (e : Event) (comes : I
   spacing = emissions_are_apart setting (x ∷ h) (before setting e (x ∷ h) (times setting x h e comes))
 
   pub rule : IsApart setting.net
-  rule = apart_by_rule setting.net (plan_now setting steps) (sound setting x h e comes).accepted.timing
+  rule = apart_by_rule setting.net (plan_now setting steps) (sound setting x h e comes).guarded.timing
 
   pub terms : IsTermed setting (chronicle setting (x ∷ h))
   terms = termed setting (x ∷ h) comes.fair (clean_now setting x h e comes old acts) comes.before

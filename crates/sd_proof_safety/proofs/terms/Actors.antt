@@ -15,7 +15,6 @@ use Rattle.sd_checker.specs.Plan.declared.Role.TheVariants as role
 use Rattle.sd_checker.specs.Plan.Duties.{duty_of, role_of}
 use Rattle.sd_checker.specs.Plan.Plans.{is_member, is_root, is_backup_root}
 use Rattle.sd_checker.specs.Topo.Network.{Network}
-use Rattle.sd_history.specs.Core.Calls as calls
 use Rattle.sd_history.specs.Core.Calls.{Call, Transition, Past}
 use Rattle.sd_history.specs.Core.Words.{after, transition_of, taken_up, duty_now, epoch_now, is_acting, has_moved, is_backup_root_now}
 use Rattle.sd_history.specs.Sched.declared.Event.{Event}
@@ -24,13 +23,13 @@ use Rattle.sd_history.specs.World.{Setting, makes, fails, is_up, has_commit, is_
 use Rattle.sd_history.specs.Steps.{Step, seen_of, acts_in, parent_in, epoch_in, live_answers, has_settled}
 use Rattle.sd_history.specs.Chronicle.{past_in, chronicle, next_step}
 use Rattle.sd_history.proofs.Given.{some_is, takes_given}
-use Rattle.sd_history.proofs.Known.{up_case, up_is_known}
+use Rattle.sd_history.proofs.Known.{up_case, admitted_up_is_known}
 use Rattle.sd_history.proofs.Among.{passes}
-use Rattle.sd_history.proofs.Parts.{premises_of}
+use Rattle.sd_proof_safety.proofs.invariant.Parts.{premises_of}
 use Rattle.sd_proof_safety.specs.invariant.Eras.{era, plan_now, is_old, is_new, is_blank, is_past, is_ordinary, belongs, on_primary, moved, hit, live_past, heard_at, root_failed, all_started}
 use Rattle.sd_proof_safety.specs.invariant.Clauses.{just_closed, is_beginning, begins_with, left_out_is_hit, staged_root}
 use Rattle.sd_proof_safety.specs.invariant.Invariant.{Core, Invariant, AtEach}
-use Rattle.sd_proof_safety.specs.invariant.Coming.{IsFair, IsClean}
+use Rattle.sd_proof_safety.specs.invariant.Guarded.{AreGuarded, IsSteady}
 use Rattle.sd_proof_safety.proofs.invariant.Closings.{start_closes_none, join_closes_none, none_closes_uncommitted}
 use Rattle.sd_proof_safety.proofs.invariant.Facts.{IsSound, sound_now}
 use Rattle.sd_proof_safety.proofs.invariant.Parents.{IsOld, old_is}
@@ -106,14 +105,14 @@ past_parts true false false true is = cc
 past_parts false o n b is = cc
 
 -- an event that makes a device closes nothing
-makes_closes_none : (setting : Setting) (e : Event) (history : List Event) (x : ℕ) → IsClean setting (e ∷ history) → makes x e ≡ true
+makes_closes_none : (setting : Setting) (e : Event) (history : List Event) (x : ℕ) → IsSteady setting (e ∷ history) → makes x e ≡ true
     → (next_step setting (chronicle setting history) e).seen.closed ≡ false
 makes_closes_none setting (event.Start r d c clock eps) history x clean makes_ = start_closes_none setting history r d c clock eps clean
 makes_closes_none setting (event.Join r d c clock eps) history x clean makes_ = join_closes_none setting history r d c clock eps clean
 makes_closes_none setting _ history x clean makes_ = cc
 
 -- a window that closes had its commit
-closing_commits : (setting : Setting) (e : Event) (history : List Event) → IsClean setting (e ∷ history)
+closing_commits : (setting : Setting) (e : Event) (history : List Event) → IsSteady setting (e ∷ history)
     → (next_step setting (chronicle setting history) e).seen.closed ≡ true → has_commit (seen_of (chronicle setting history)) ≡ true
 closing_commits setting (event.Seal r d) history clean closed = by (has_commit (seen_of (chronicle setting history))) refl
   where
@@ -126,7 +125,7 @@ closing_commits setting e history clean closed =
     absurd (not_both (just_closed (chronicle setting (e ∷ history))) closed (others_close_none setting history e clean refl))
 
 -- and comes when members can no longer start: the new backup root has heard a round, and nothing is emitted before
-closing_is_late : (setting : Setting) (e : Event) (history : List Event) → IsFair setting → IsClean setting (e ∷ history)
+closing_is_late : (setting : Setting) (e : Event) (history : List Event) → AreGuarded setting → IsSteady setting (e ∷ history)
     → (next_step setting (chronicle setting history) e).seen.closed ≡ true → Invariant setting (chronicle setting (e ∷ history))
     → is_beginning setting (chronicle setting history) ≡ true → ⊥
 closing_is_late setting (event.Seal r d) history fair clean closed inv begins =
@@ -181,7 +180,7 @@ closing_is_late setting e history fair clean closed inv begins =
 
 -- Past devices
 
-module _ (setting : Setting) (e : Event) (history : List Event) (fair : IsFair setting) (clean : IsClean setting (e ∷ history))
+module _ (setting : Setting) (e : Event) (history : List Event) (fair : AreGuarded setting) (clean : IsSteady setting (e ∷ history))
     (each : AtEach (Invariant setting) (chronicle setting (e ∷ history))) (x : ℕ)
     (rest : (p : Past) → is_up (seen_of (chronicle setting history)) x ≡ true → is_past (chronicle setting history) x ≡ true
     → past_in (chronicle setting history) x ≡ Some p → IsIdle p)
@@ -262,7 +261,7 @@ module _ (setting : Setting) (e : Event) (history : List Event) (fair : IsFair s
           ∙ sym (ap (λ (o : Option Plan). map_or o false (λ q. is_member q x)) (staged_some setting one (commit_is_open (seen_of one) commit))) ∙ member in
           let belongs_ : belongs setting.net (plan_now setting two) x ≡ true =
           and_from (nat_lt x (length setting.net.devices)) (is_member (plan_now setting two) x)
-          (lt-ltb x (length setting.net.devices) (up_is_known setting (e ∷ history) clean.is x up_now)) now_member in
+          (lt-ltb x (length setting.net.devices) (admitted_up_is_known setting (e ∷ history) clean.is x up_now)) now_member in
           let settled =
           (and_parts (has_settled two (era two) x) _
           (implied (just_closed two && belongs setting.net (plan_now setting two) x) _ (each.1.core.closed.members x)
@@ -274,7 +273,7 @@ module _ (setting : Setting) (e : Event) (history : List Event) (fair : IsFair s
           (list_any (begins_with setting one) (device_numbers setting.net)) core.committed.left_out) [
             | inl all ↦
                 (let clause = passes (left_out_is_hit setting one)
-                (among_below (length setting.net.devices) x (up_is_known setting history clean.is.0 x up)) all in
+                (among_below (length setting.net.devices) x (admitted_up_is_known setting history clean.is.0 x up)) all in
                 (and_parts (hit setting one x) (is_ordinary (plan_now setting one) x)
                 (implied (has_commit (seen_of one) && is_up (seen_of one) x && is_member (plan_now setting one) x
                 && not (is_staged_member setting (seen_of one) x))
@@ -347,7 +346,7 @@ module _ (setting : Setting) (e : Event) (history : List Event) (fair : IsFair s
       by true makes_ = absurd (made_here makes_)
       by false none = by_went none (up_case (makes x e) (fails (thing.Device x) e) (is_up (seen_of one) x) up_now none) (went setting e history x)
 
-pub pasts_idle : (setting : Setting) (history : List Event) → IsFair setting → IsClean setting history → AtEach (Invariant setting) (chronicle setting history)
+pub pasts_idle : (setting : Setting) (history : List Event) → AreGuarded setting → IsSteady setting history → AtEach (Invariant setting) (chronicle setting history)
     → (x : ℕ) (p : Past) → is_up (seen_of (chronicle setting history)) x ≡ true
     → is_past (chronicle setting history) x ≡ true → past_in (chronicle setting history) x ≡ Some p → IsIdle p
 pasts_idle setting [] fair clean each x p up gone there = cc
@@ -364,7 +363,7 @@ pub record IsActor (setting : Setting) (steps : List Step) (a : ℕ) : Type 0 wh
   pub there : past_in steps a ≡ Some past
   pub acts : is_acting past ≡ true
 
-module _ (setting : Setting) (history : List Event) (fair : IsFair setting) (clean : IsClean setting history)
+module _ (setting : Setting) (history : List Event) (fair : AreGuarded setting) (clean : IsSteady setting history)
     (each : AtEach (Invariant setting) (chronicle setting history)) where
   abbrev steps : List Step
   steps = chronicle setting history

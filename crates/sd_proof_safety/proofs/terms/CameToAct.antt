@@ -1,5 +1,5 @@
 -- How a device that acts after an event came to act: it was made, it acted before, or it took over.
-use Rattle.std.specs.Prelude.{◌≡◌, ℕ, ◌+◌, ◌<◌, ◌≤◌, Bool, true, false, ◌&&◌, ◌||◌, List, [], ◌∷◌, Option, Some, None, option_map, refl, ◌⊎◌, if◌then◌else◌}
+use Rattle.std.specs.Prelude.{◌≡◌, ℕ, ◌+◌, ◌≤◌, Bool, true, false, List, ◌∷◌, Option, Some, None, option_map, refl, ◌⊎◌, if◌then◌else◌}
 use Rattle.std.proofs.Common.{◌∙◌, ap, sym, inl, inr}
 use Rattle.std.proofs.lemmas.Bool.{eqb-true, eq-eqb, false_from_ne_true}
 use Rattle.sd_checker.specs.Num.Lists.{map_or, same_number}
@@ -9,17 +9,16 @@ use Rattle.sd_history.specs.Core.Calls as calls
 use Rattle.sd_history.specs.Core.Calls.{Call, Transition, Committed, Did, Past}
 use Rattle.sd_history.specs.Core.Words.{after, transition_of, taken_up, duty_now, epoch_now, is_acting, stamp_now}
 use Rattle.sd_history.specs.Sched.declared.Event.{Event}
-use Rattle.sd_history.specs.Sched.declared.Event.TheVariants as event
 use Rattle.sd_history.specs.World.{Setting, makes, fails, is_up, has_commit}
 use Rattle.sd_history.specs.Steps.{Calls, Step, seen_of, act_by}
 use Rattle.sd_history.specs.Chronicle.{past_in, chronicle, next_step}
 use Rattle.sd_history.proofs.Given.{some_is, takes_given}
 use Rattle.sd_history.proofs.Known.{up_case}
-use Rattle.sd_history.proofs.Parts.{premises_of}
+use Rattle.sd_proof_safety.proofs.invariant.Parts.{premises_of}
 use Rattle.sd_history.proofs.Core.Reached.{added}
 use Rattle.sd_proof_safety.specs.invariant.Eras.{era, plan_now, is_old, is_new, did_by}
 use Rattle.sd_proof_safety.specs.invariant.Invariant.{Invariant, AtEach}
-use Rattle.sd_proof_safety.specs.invariant.Coming.{IsFair, IsClean}
+use Rattle.sd_proof_safety.specs.invariant.Guarded.{AreGuarded, IsSteady}
 use Rattle.sd_proof_safety.proofs.invariant.Prefix.{clean_before}
 use Rattle.sd_proof_safety.proofs.invariant.Sides.{not_both}
 use Rattle.sd_proof_safety.proofs.timers.Transitions.{Cases, by_case}
@@ -27,7 +26,7 @@ use Rattle.sd_proof_safety.proofs.timers.Pasts.{takeover_from_backup}
 use Rattle.sd_proof_safety.proofs.timers.Turns.{BeganToAct, by_takeover, by_commit, began_to_act, IsTakeover, is_takeover}
 use Rattle.sd_proof_safety.proofs.waits.Epochs.{era_rises}
 use Rattle.sd_proof_safety.specs.messages.Moments.{whole, IsChronicle, Moment}
-use Rattle.sd_proof_safety.specs.messages.Stamping.{EntersNot, enters, stays, calls as goes_on, committed}
+use Rattle.sd_proof_safety.specs.messages.Stamping.{EntersNot, enters, stays, calls as goes_on}
 use Rattle.sd_proof_safety.proofs.messages.Tails.{history_chronicle}
 use Rattle.sd_proof_safety.proofs.messages.Acting.{Acting, acts_on}
 use Rattle.sd_proof_safety.proofs.messages.Latest.{never_committed}
@@ -57,7 +56,7 @@ committed_is past call u is = by_case past (λ c transition. transition ≡ Comm
 
 -- How who acts came to act
 
-module _ (setting : Setting) (e : Event) (history : List Event) (fair : IsFair setting) (clean : IsClean setting (e ∷ history))
+module _ (setting : Setting) (e : Event) (history : List Event) (fair : AreGuarded setting) (clean : IsSteady setting (e ∷ history))
     (each : AtEach (Invariant setting) (chronicle setting (e ∷ history))) where
   abbrev one : List Step
   one = chronicle setting history
@@ -68,7 +67,7 @@ module _ (setting : Setting) (e : Event) (history : List Event) (fair : IsFair s
   abbrev here : Moment
   here = record { step = next_step setting (chronicle setting history) e; earlier = chronicle setting history }
 
-  clean_then : IsClean setting history
+  clean_then : IsSteady setting history
   clean_then = clean_before setting e history clean
 
   ends : IsChronicle setting (chronicle setting (e ∷ history))

@@ -23,12 +23,13 @@ use Rattle.sd_history.specs.Chronicle.{new_past, past_in, chronicle, next_step}
 use Rattle.sd_history.specs.Premises.{delay_holds, renew_holds}
 use Rattle.sd_history.proofs.Given.{some_is, takes_given}
 use Rattle.sd_history.proofs.Known.{up_case}
-use Rattle.sd_history.proofs.Parts.{premises_of}
+use Rattle.sd_proof_safety.proofs.invariant.Parts.{premises_of}
 use Rattle.sd_history.proofs.Core.Reached.{added}
 use Rattle.sd_proof_safety.specs.invariant.Eras.{era, plan_now, is_old, is_new, all_started}
 use Rattle.sd_proof_safety.specs.invariant.Clauses.{is_beginning, staged_root}
 use Rattle.sd_proof_safety.specs.invariant.Invariant.{Invariant, AtEach}
-use Rattle.sd_proof_safety.specs.invariant.Coming.{IsFair, IsClean, IsNextEvent}
+use Rattle.sd_proof_safety.specs.invariant.Guarded.{AreGuarded, IsSteady}
+use Rattle.sd_proof_safety.specs.invariant.Coming.{IsNextEvent}
 use Rattle.sd_proof_safety.proofs.invariant.Closings.{start_closes_none}
 use Rattle.sd_proof_safety.proofs.invariant.Prefix.{clean_before}
 use Rattle.sd_proof_safety.proofs.invariant.Sides.{not_both}
@@ -109,7 +110,7 @@ unstamped setting steps d past is delay renew there none = by (stamp_from steps 
         absurd (never_committed setting steps p d counter before duty is renew inside act was transition)
 
 -- before a start nothing is emitted
-start_emits_none : (setting : Setting) (e : Event) (history : List Event) → IsFair setting → IsClean setting (e ∷ history)
+start_emits_none : (setting : Setting) (e : Event) (history : List Event) → AreGuarded setting → IsSteady setting (e ∷ history)
     → AtEach (Invariant setting) (chronicle setting history) → (x : ℕ) → makes x e ≡ true → (past : Past)
     → past_in (chronicle setting (e ∷ history)) x ≡ Some past
     → (epoch_now past ≡ 0 → ⊥) → (q : Moment) → IsIn q (chronicle setting history) → (y : ℕ) (n : Message) → Emits q y n → ⊥
@@ -142,7 +143,7 @@ start_emits_none setting (event.Join r d c clock eps) history fair clean each x 
 start_emits_none setting _ history fair clean each x makes_ past there positive q inside y n emits = cc
 
 -- what is emitted is of a plan that is in force, or after a commit of the staged one
-emission_reaches : (setting : Setting) (history : List Event) → IsFair setting → IsClean setting history → (q : Moment) (y : ℕ) (n : Message)
+emission_reaches : (setting : Setting) (history : List Event) → AreGuarded setting → IsSteady setting history → (q : Moment) (y : ℕ) (n : Message)
     → IsIn q (chronicle setting history) → Emits q y n → n.epoch ≤ reach (chronicle setting history)
 emission_reaches setting [] fair clean q y n inside emits = elim inside [ ]
 emission_reaches setting (e ∷ history) fair clean q y n whole emits =
@@ -226,7 +227,7 @@ reach_none false n none = omega arith
 
 -- The next event
 
-module _ (setting : Setting) (e : Event) (history : List Event) (fair : IsFair setting) (clean : IsClean setting (e ∷ history))
+module _ (setting : Setting) (e : Event) (history : List Event) (fair : AreGuarded setting) (clean : IsSteady setting (e ∷ history))
     (each : AtEach (Invariant setting) (chronicle setting (e ∷ history))) (before : IsTermed setting (chronicle setting history)) where
   abbrev one : List Step
   one = chronicle setting history
@@ -243,7 +244,7 @@ module _ (setting : Setting) (e : Event) (history : List Event) (fair : IsFair s
   abbrev Was : ℕ → Type 0
   Was a = IsActor setting (chronicle setting history) a
 
-  clean_then : IsClean setting history
+  clean_then : IsSteady setting history
   clean_then = clean_before setting e history clean
 
   is_chronicle : IsChronicle setting (chronicle setting (e ∷ history))
@@ -645,7 +646,7 @@ module _ (setting : Setting) (e : Event) (history : List Event) (fair : IsFair s
   termed_now : IsTermed setting (chronicle setting (e ∷ history))
   termed_now = record { life = life_now; top = top_now; own = own_now; same = same_now; next = next_now }
 
-pub termed : (setting : Setting) (history : List Event) → IsFair setting → IsClean setting history → AtEach (Invariant setting) (chronicle setting history)
+pub termed : (setting : Setting) (history : List Event) → AreGuarded setting → IsSteady setting history → AtEach (Invariant setting) (chronicle setting history)
     → IsTermed setting (chronicle setting history)
 termed setting [] fair clean each =
     record {

@@ -1,6 +1,6 @@
 -- Deadlines: at each event a device on its primary, the backup root on its backup and a device that acts have waited for no longer than Up of their
 -- wait or period and one tick gap. From what the latest tick says of the waits, by induction on the steps, and the tick premise at the event.
-use Rattle.std.specs.Prelude.{◌≡◌, ℕ, ◌+◌, ◌<◌, ◌≤◌, Bool, true, false, ◌&&◌, ◌||◌, not, List, [], ◌∷◌, ◌++◌, length, max, nat_eq, nat_le, Option, Some, None, option_map, refl, ◌⊎◌, if◌then◌else◌}
+use Rattle.std.specs.Prelude.{◌≡◌, ℕ, ◌+◌, ◌≤◌, Bool, true, false, ◌&&◌, ◌||◌, not, List, [], ◌∷◌, length, max, nat_eq, nat_le, Option, Some, None, option_map, refl, if◌then◌else◌}
 use Rattle.std.proofs.Common.{arith, sym, ◌∙◌, ap, subst}
 use Rattle.std.proofs.lemmas.Bool.{and_parts, leb-true, eqb-true}
 use Rattle.sd_checker.specs.Num.Lists.{map_or, same_number}

@@ -1,5 +1,5 @@
 -- In a history of honest clocks each step has its own act, is not earlier than those before it, and reads honestly. By the sixteen kinds of event.
-use Rattle.std.specs.Prelude.{◌≡◌, ℕ, Bool, true, false, ◌&&◌, ◌||◌, List, [], ◌∷◌, nat_eq, Option, Some, None, refl, if◌then◌else◌}
+use Rattle.std.specs.Prelude.{◌≡◌, ℕ, Bool, true, false, List, [], ◌∷◌, nat_eq, Option, Some, None, refl, if◌then◌else◌}
 use Rattle.std.proofs.Common.{ap, sym}
 use Rattle.std.proofs.lemmas.Bool.{and_parts}
 use Rattle.sd_checker.specs.Num.Lists.{map_or, same_number}
@@ -16,9 +16,10 @@ use Rattle.sd_history.specs.Sched.declared.Event.TheVariants as event
 use Rattle.sd_history.specs.Sched.Events.{device_of, counter_of, ticked}
 use Rattle.sd_history.specs.World.{Setting, makes, staged, staged_epoch, in_force, epoch_in_force}
 use Rattle.sd_history.specs.Steps.{Act, Calls, Passes, Step, seen_of, act_by, flight_numbered}
-use Rattle.sd_history.specs.Chronicle.{chronicle, next_step, IsHistory}
+use Rattle.sd_history.specs.Chronicle.{chronicle, next_step}
+use Rattle.sd_history.specs.Admitted.{IsAdmitted}
 use Rattle.sd_history.specs.Premises.{drift_holds, reads_honestly}
-use Rattle.sd_history.proofs.Contained.{time_goes_on}
+use Rattle.sd_history.proofs.Contained.{admitted_time_goes_on}
 use Rattle.sd_proof_safety.specs.timers.Times.{Fits, AreTimed, is_tick, gives_duty}
 use Rattle.sd_history.proofs.Given.{some_is}
 
@@ -119,7 +120,7 @@ act_period setting steps (event.Give r m) = unfold OfPeriod in given_period sett
 act_period setting steps _ = λ duty same. cc
 
 -- every history of honest clocks is timed
-pub history_is_timed : (setting : Setting) (history : List Event) → IsHistory setting history → drift_holds setting (seen_of (chronicle setting history)) ≡ true
+pub history_is_timed : (setting : Setting) (history : List Event) → IsAdmitted setting history → drift_holds setting (seen_of (chronicle setting history)) ≡ true
     → AreTimed setting (chronicle setting history)
 unfolding OfPeriod
 history_is_timed setting [] is honest = tt
@@ -130,7 +131,7 @@ history_is_timed setting (e ∷ earlier) is honest =
       record {
         fits = act_fits setting (chronicle setting earlier) e;
         period = act_period setting (chronicle setting earlier) e;
-        goes_on = time_goes_on setting (chronicle setting earlier) e is.1;
+        goes_on = admitted_time_goes_on setting (chronicle setting earlier) e is.1;
         honest = parts.1;
       },
     )

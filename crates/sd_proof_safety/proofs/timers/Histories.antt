@@ -15,8 +15,10 @@ use Rattle.sd_history.specs.Sched.declared.Event.TheVariants as event
 use Rattle.sd_history.specs.Sched.Events.{reference_of}
 use Rattle.sd_history.specs.World.{Setting, is_up, latest_reference}
 use Rattle.sd_history.specs.Steps.{Step, seen_of}
-use Rattle.sd_history.specs.Chronicle.{past_in, chronicle, next_step, IsHistory}
-use Rattle.sd_history.specs.Premises.{readings, drift_holds, tick_holds, is_current_member, all_hold}
+use Rattle.sd_history.specs.Chronicle.{past_in, chronicle, next_step}
+use Rattle.sd_history.specs.Admitted.{IsAdmitted}
+use Rattle.sd_history.specs.Premises.{readings, drift_holds, tick_holds, is_current_member}
+use Rattle.sd_proof_safety.specs.invariant.Guarded.{all_but_start_hold}
 use Rattle.sd_proof_safety.specs.messages.Moments.{Tail}
 use Rattle.sd_proof_safety.specs.timers.Times.{AreTimed, stays_after, heard_in, moved_in, sent_in, sealed_in}
 use Rattle.sd_proof_safety.specs.timers.Dues.{AtEvent}
@@ -30,27 +32,23 @@ use Rattle.sd_proof_safety.proofs.timers.TickSoon.{tick_soon}
 use Rattle.sd_proof_safety.proofs.timers.Emissions.{emissions_apart}
 use Rattle.sd_proof_safety.proofs.timers.Periods.{periods_in}
 use Rattle.sd_proof_safety.proofs.timers.Pasts.{acting_has_duty}
-use Rattle.sd_history.proofs.Known.{up_is_known, named_is_known}
+use Rattle.sd_history.proofs.Known.{admitted_up_is_known, admitted_named_is_known}
 use Rattle.sd_history.proofs.Given.{some_is}
+use Rattle.sd_proof_safety.proofs.invariant.Parts.{premises_of}
 
 -- what the laws need of the premises
 pub record Timely (setting : Setting) (history : List Event) : Type 0 where
   pub network : IsNetwork setting.net
-  pub is : IsHistory setting history
+  pub is : IsAdmitted setting history
   pub drift : drift_holds setting (seen_of (chronicle setting history)) ≡ true
   pub ticks : tick_holds setting (seen_of (chronicle setting history)) ≡ true
 
--- where all premises hold, these do
-pub timely : (setting : Setting) (history : List Event) → IsNetwork setting.net → IsHistory setting history
-    → all_hold setting (seen_of (chronicle setting history)) ≡ true → Timely setting history
+-- where all premises but start hold, these do
+pub timely : (setting : Setting) (history : List Event) → IsNetwork setting.net → IsAdmitted setting history
+    → all_but_start_hold setting (seen_of (chronicle setting history)) ≡ true → Timely setting history
 timely setting history network is hold =
-    let six = and_parts _ _ hold in
-    let five = and_parts _ _ six.0 in
-    let four = and_parts _ _ five.0 in
-    let three = and_parts _ _ four.0 in
-    let two = and_parts _ _ three.0 in
-    let one = and_parts _ _ two.0 in
-    record { network = network; is = is; drift = one.1; ticks = three.1 }
+    let premises = premises_of setting (seen_of (chronicle setting history)) hold in
+    record { network = network; is = is; drift = premises.drift; ticks = premises.tick }
 
 pub timed : (setting : Setting) (history : List Event) → Timely setting history → AreTimed setting (chronicle setting history)
 timed setting history t = history_is_timed setting history t.is t.drift
@@ -67,7 +65,7 @@ at_event setting e earlier d t is_up_ member =
     record {
       timed = timed setting earlier (before setting e earlier t);
       ticks = (and_parts _ _ t.ticks).1;
-      known = up_is_known setting earlier t.is.0 d is_up_;
+      known = admitted_up_is_known setting earlier t.is.0 d is_up_;
       up = is_up_;
       member = member;
     }
@@ -155,7 +153,7 @@ module _ (setting : Setting) (r d c : ℕ) (earlier : List Event) (past : Past) 
   ppm = rate_is_low setting.net d t.network
 
   known : d < length setting.net.devices
-  known = named_is_known setting (chronicle setting earlier) (event.Tick r d c) d t.is.1 refl
+  known = admitted_named_is_known setting (chronicle setting earlier) (event.Tick r d c) d t.is.1 refl
 
   pub move_waits : (duty : Duty) (wait : ℕ) → duty_now past ≡ Some duty → wait_to_move duty ≡ Some wait → moves_at past c ≡ true
       → least_low setting.net wait ≤ r - heard_in (chronicle setting earlier) d

@@ -14,7 +14,7 @@ use Rattle.sd_history.proofs.Among.{first}
 use Rattle.sd_proof_safety.specs.invariant.Eras.{era, plan_now, is_among, failed_now, root_failed, first_failure, late, all_started}
 use Rattle.sd_proof_safety.specs.invariant.Invariant.{Invariant, AtEach}
 use Rattle.sd_proof_safety.specs.invariant.Silences.{root_failed_at}
-use Rattle.sd_proof_safety.specs.invariant.Coming.{IsFair, IsClean}
+use Rattle.sd_proof_safety.specs.invariant.Guarded.{AreGuarded, IsSteady}
 use Rattle.sd_proof_safety.proofs.invariant.Sides.{not_both}
 use Rattle.sd_proof_safety.specs.messages.Moments.{whole, behind, IsChronicle, Moment, upto, when, IsIn, IsBefore, Emits}
 use Rattle.sd_proof_safety.proofs.messages.Tails.{Order, before, same, after, ordered, rest_of, tail_chronicle, history_chronicle, before_is_earlier}
@@ -29,7 +29,7 @@ use Rattle.sd_proof_safety.proofs.behind.EraSums.{late_since}
 use Rattle.sd_proof_safety.proofs.entering.Stages.{Stage, stage}
 use Rattle.sd_proof_safety.proofs.traced.Roots.{root_acts_old}
 
-pub emits_before : (setting : Setting) (x : Event) (h : List Event) → IsFair setting → IsClean setting (x ∷ h)
+pub emits_before : (setting : Setting) (x : Event) (h : List Event) → AreGuarded setting → IsSteady setting (x ∷ h)
     → AtEach (Invariant setting) (chronicle setting (x ∷ h)) → root_failed setting (chronicle setting (x ∷ h)) ≡ true
     → (p : Moment) → IsIn p (chronicle setting (x ∷ h)) → (m : Message) → Emits p (plan_now setting (chronicle setting (x ∷ h))).root m
     → m.epoch ≡ era (chronicle setting (x ∷ h)) → when p ≤ root_failed_at setting (chronicle setting (x ∷ h))

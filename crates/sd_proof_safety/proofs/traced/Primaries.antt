@@ -13,12 +13,12 @@ use Rattle.sd_history.specs.Sched.declared.Event.{Event}
 use Rattle.sd_history.specs.World.{Setting}
 use Rattle.sd_history.specs.Steps.{Step, seen_of}
 use Rattle.sd_history.specs.Chronicle.{past_in, chronicle}
-use Rattle.sd_history.proofs.Parts.{premises_of}
+use Rattle.sd_proof_safety.proofs.invariant.Parts.{premises_of}
 use Rattle.sd_proof_safety.specs.invariant.Bounds.{depth, delay}
 use Rattle.sd_proof_safety.specs.invariant.Eras.{era, plan_now, root_failed, heard_at}
 use Rattle.sd_proof_safety.specs.invariant.Silences.{root_failed_at}
 use Rattle.sd_proof_safety.specs.invariant.Invariant.{Invariant, AtEach}
-use Rattle.sd_proof_safety.specs.invariant.Coming.{IsFair, IsClean}
+use Rattle.sd_proof_safety.specs.invariant.Guarded.{AreGuarded, IsSteady}
 use Rattle.sd_proof_safety.proofs.invariant.Facts.{IsSound, sound_now}
 use Rattle.sd_proof_safety.proofs.invariant.Sides.{implied}
 use Rattle.sd_proof_safety.specs.messages.Moments.{whole, Moment, upto, when, IsIn, Emits}
@@ -34,7 +34,7 @@ use Rattle.sd_proof_safety.proofs.traced.UpTheWalk.{FromRoot, from_root}
 use Rattle.sd_proof_safety.proofs.traced.Roots.{root_takes_none}
 use Rattle.sd_proof_safety.proofs.traced.BeforeFailure.{emits_before}
 
-module _ (setting : Setting) (x : Event) (h : List Event) (fair : IsFair setting) (clean : IsClean setting (x ∷ h))
+module _ (setting : Setting) (x : Event) (h : List Event) (fair : AreGuarded setting) (clean : IsSteady setting (x ∷ h))
     (each : AtEach (Invariant setting) (chronicle setting (x ∷ h))) (b : ℕ) (known : b < length setting.net.devices)
     (member : is_member (plan_now setting (chronicle setting (x ∷ h))) b ≡ true) (other : is_root (plan_now setting (chronicle setting (x ∷ h))) b ≡ false)
     (heard : IsHeard setting (x ∷ h) b (era (chronicle setting (x ∷ h)))) where

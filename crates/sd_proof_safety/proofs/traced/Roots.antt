@@ -16,7 +16,8 @@ use Rattle.sd_history.proofs.Given.{some_is}
 use Rattle.sd_proof_safety.specs.invariant.Eras.{era, plan_now, is_old, root_failed, root_lives}
 use Rattle.sd_proof_safety.specs.invariant.Clauses.{staged_root}
 use Rattle.sd_proof_safety.specs.invariant.Invariant.{Core, Invariant, AtEach}
-use Rattle.sd_proof_safety.specs.invariant.Coming.{IsFair, IsClean, IsNextEvent}
+use Rattle.sd_proof_safety.specs.invariant.Guarded.{AreGuarded, IsSteady}
+use Rattle.sd_proof_safety.specs.invariant.Coming.{IsNextEvent}
 use Rattle.sd_proof_safety.proofs.invariant.Prefix.{clean_before}
 use Rattle.sd_proof_safety.proofs.invariant.Sides.{implied, not_both}
 use Rattle.sd_proof_safety.specs.messages.Moments.{Tail, Moment, upto, IsIn, Accepts, entering, following}
@@ -44,7 +45,7 @@ module _ (setting : Setting) (h : List Event) (e : Event) (comes : IsNextEvent s
   core : Core setting (chronicle setting h)
   core = core_of setting h comes.before
 
-  clean : IsClean setting h
+  clean : IsSteady setting h
   clean = clean_before setting e h comes.clean
 
   -- the root of the era's plan, where it is up and of it, acts
@@ -88,7 +89,7 @@ next_or_now n a true le least = by (cases_lt a n)
 next_or_now n a false le least = inl (omega (arith, le, least))
 
 -- the root of plan n takes no message of it, at a moment of the eras up to that plan's
-pub root_takes_none : (setting : Setting) (history : List Event) → IsFair setting → IsClean setting history
+pub root_takes_none : (setting : Setting) (history : List Event) → AreGuarded setting → IsSteady setting history
     → AtEach (Invariant setting) (chronicle setting history) → (q : Moment) → IsIn q (chronicle setting history) → (stamp : Stamp) (from : Moment) (x : ℕ)
     → Hop setting stamp (era (chronicle setting history)) from x q (plan_now setting (chronicle setting history)).root → ⊥
 root_takes_none setting [] fair clean each q here stamp from x hop = elim here [ ]

@@ -22,7 +22,8 @@ use Rattle.sd_proof_safety.specs.invariant.Eras.{era, plan_now, all_started, beg
 use Rattle.sd_proof_safety.specs.invariant.Clauses.{is_beginning}
 use Rattle.sd_proof_safety.specs.invariant.Invariant.{Invariant, AtEach}
 use Rattle.sd_proof_safety.specs.invariant.Silences.{root_failed_at}
-use Rattle.sd_proof_safety.specs.invariant.Coming.{IsFair, IsClean, IsNextEvent}
+use Rattle.sd_proof_safety.specs.invariant.Guarded.{AreGuarded, IsSteady}
+use Rattle.sd_proof_safety.specs.invariant.Coming.{IsNextEvent}
 use Rattle.sd_proof_safety.proofs.invariant.Closings.{start_closes_none}
 use Rattle.sd_proof_safety.proofs.invariant.Facts.{IsSound, sound_now}
 use Rattle.sd_proof_safety.proofs.invariant.Prefix.{clean_before}
@@ -47,7 +48,7 @@ begins_with setting x older (e ∷ []) (behind t) = elim t [ ]
 
 -- in the first era the root counts as failed no earlier than all have started
 -- who was started was so in the first era, before all had started
-pub start_early : (setting : Setting) (fair : IsFair setting) (d n : ℕ) (f : Event) (earlier : List Event) → IsClean setting (f ∷ earlier)
+pub start_early : (setting : Setting) (fair : AreGuarded setting) (d n : ℕ) (f : Event) (earlier : List Event) → IsSteady setting (f ∷ earlier)
     → AtEach (Invariant setting) (chronicle setting earlier) → makes d f ≡ true → (past : Past)
     → past_in (chronicle setting (f ∷ earlier)) d ≡ Some past → epoch_now past ≡ n → 1 ≤ n
     → (era (chronicle setting earlier) ≡ 1) × (reference_of f ≤ all_started setting (chronicle setting (f ∷ earlier)))
@@ -79,7 +80,7 @@ pub started_by : (setting : Setting) (x : Event) (h : List Event) (e : Event) (c
 started_by setting x h e comes s =
     let steps : List Step = chronicle setting (x ∷ h) in
     let b : ℕ = (plan_now setting steps).backup_root in
-    let clean : IsClean setting (x ∷ h) = clean_before setting e (x ∷ h) comes.clean in
+    let clean : IsSteady setting (x ∷ h) = clean_before setting e (x ∷ h) comes.clean in
     let early = start_early setting comes.fair b (era steps) s.event s.earlier (clean_of setting (s.event ∷ s.earlier) (x ∷ h) s.tail clean)
     (each_of setting (s.event ∷ s.earlier) (x ∷ h) s.tail comes.before).0 s.makes_ s.past s.there s.own (one_at_least steps) in
     let began : all_started setting (chronicle setting (s.event ∷ s.earlier)) ≡ all_started setting steps =
@@ -108,7 +109,7 @@ module _ (setting : Setting) (x : Event) (h : List Event) (e : Event) (comes : I
   abbrev b : ℕ
   b = (plan_now setting (chronicle setting (x ∷ h))).backup_root
 
-  clean : IsClean setting (x ∷ h)
+  clean : IsSteady setting (x ∷ h)
   clean = clean_before setting e (x ∷ h) comes.clean
 
   fine : IsSound setting.net (plan_now setting (chronicle setting (x ∷ h)))

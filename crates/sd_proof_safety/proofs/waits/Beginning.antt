@@ -1,4 +1,4 @@
--- Calm beginning (C0), in every history over accepted plans in which no premise is broken: while members of the first plan may start nothing is emitted and
+-- Calm beginning (C0), in every history over guarded plans in which all premises but start hold: while members of the first plan may start nothing is emitted and
 -- nobody moves, and then each of them was started or has failed. From Calm of timers and the tick premise, by induction on the history.
 use Rattle.std.specs.Prelude.{◌≡◌, ℕ, ◌+◌, ◌-◌, ◌*◌, ◌<◌, ◌≤◌, Bool, true, false, ◌&&◌, ◌||◌, not, List, [], ◌∷◌, length, nat_eq, nat_le, Option, Some, None, option_map, IsTrue, refl, if◌then◌else◌}
 use Rattle.std.proofs.Common.{arith, sym, ◌∙◌, ap, subst, inl, inr}
@@ -9,7 +9,7 @@ use Rattle.sd_checker.specs.Topo.Network.{rates_of, least_low}
 use Rattle.sd_checker.specs.Topo.declared.Thing.TheVariants as thing
 use Rattle.sd_checker.specs.Plan.Plans.{is_member}
 use Rattle.sd_checker.specs.CheckRoot.Timing.{silence}
-use Rattle.sd_checker.specs.Verdicts.{IsAccepted}
+use Rattle.sd_proof_safety.specs.invariant.Guarded.{IsGuarded, AreGuarded, IsSteady}
 use Rattle.sd_checker.proofs.Num.Shared.{same_number-some}
 use Rattle.sd_history.specs.Core.Calls as calls
 use Rattle.sd_history.specs.Core.Calls.{Transition, Emitted, TookOver, Moved, Past}
@@ -18,12 +18,12 @@ use Rattle.sd_history.specs.Sched.declared.Event.{Event}
 use Rattle.sd_history.specs.Sched.Events.{reference_of, device_of}
 use Rattle.sd_history.specs.World.{Setting, Seen, plan_numbered, latest_reference, is_up, is_untouched, makes, fails, was_made, has_ever_failed}
 use Rattle.sd_history.specs.Steps.{Act, Makes, Calls, Asks, Passes, seen_of, act_by}
-use Rattle.sd_history.specs.Chronicle.{new_past, past_in, past_after, chronicle, next_step, IsHistory}
+use Rattle.sd_history.specs.Chronicle.{new_past, past_in, past_after, chronicle, next_step}
+use Rattle.sd_history.specs.Admitted.{IsAdmitted}
 use Rattle.sd_history.specs.Premises.{first_reference}
-use Rattle.sd_history.proofs.Contained.{time_goes_on}
+use Rattle.sd_history.proofs.Contained.{admitted_time_goes_on}
 use Rattle.sd_proof_safety.specs.invariant.Eras.{plan_now, beginning, has_emission, emission_by, begins_round, moved}
 use Rattle.sd_proof_safety.specs.invariant.Clauses.{is_beginning, nothing_emitted, stays}
-use Rattle.sd_proof_safety.specs.invariant.Coming.{IsFair, IsClean}
 use Rattle.sd_proof_safety.proofs.invariant.InForce.{in_force_too}
 use Rattle.sd_proof_safety.proofs.invariant.Timed.{IsTimed, timed as plan_is_timed}
 use Rattle.sd_proof_safety.specs.timers.Times.{counter_at}
@@ -33,7 +33,7 @@ use Rattle.sd_proof_safety.proofs.timers.Pasts.{takeover_from_backup, acting_has
 use Rattle.sd_proof_safety.proofs.timers.Turns.{IsMove, is_move, IsTakeover, is_takeover, IsEmission, is_emission, backup_by_move}
 use Rattle.sd_proof_safety.proofs.timers.CalmBeginning.{calm_move, calm_emission}
 use Rattle.sd_proof_safety.proofs.timers.Periods.{periods_in}
-use Rattle.sd_history.proofs.Known.{named_is_known}
+use Rattle.sd_history.proofs.Known.{admitted_named_is_known}
 use Rattle.sd_history.proofs.Given.{some_is}
 use Rattle.sd_proof_safety.proofs.timers.Histories.{Timely, timed, before}
 use Rattle.sd_proof_safety.proofs.waits.LeastWaits.{waits_are_long, Late, not_late, timely_of, starts_in_time}
@@ -42,20 +42,20 @@ use Rattle.sd_proof_safety.proofs.waits.LeastWaits.{waits_are_long, Late, not_la
 longer : (s q l : ℕ) → 1 ≤ q → 2 * (s + q) ≤ l → q < l
 longer s q l one le = omega (arith, one, le)
 
-later_too : (setting : Setting) (e : Event) (history : List Event) → IsHistory setting (e ∷ history) → Late setting (seen_of (chronicle setting history))
+later_too : (setting : Setting) (e : Event) (history : List Event) → IsAdmitted setting (e ∷ history) → Late setting (seen_of (chronicle setting history))
     → Late setting (seen_of (chronicle setting (e ∷ history)))
 later_too setting e [] is late = absurd (omega (arith, late))
 later_too setting e (x ∷ history) is late =
-    let on : latest_reference (seen_of (chronicle setting (x ∷ history))) ≤ reference_of e = time_goes_on setting (chronicle setting (x ∷ history)) e is.1 in
+    let on : latest_reference (seen_of (chronicle setting (x ∷ history))) ≤ reference_of e = admitted_time_goes_on setting (chronicle setting (x ∷ history)) e is.1 in
     omega (arith, late, on)
 
-module _ (setting : Setting) (fair : IsFair setting) (e : Event) (d c : ℕ) (old : Past) where
+module _ (setting : Setting) (fair : AreGuarded setting) (e : Event) (d c : ℕ) (old : Past) where
   abbrev IsTickOf : List Event → Type 0
   IsTickOf history = act_by setting (chronicle setting history) e ≡ Calls d (calls.Tick c)
 
   ticker_is_known : (history : List Event) → Timely setting (e ∷ history) → IsTickOf history → d < length setting.net.devices
   ticker_is_known history t act =
-      named_is_known setting (chronicle setting history) e d t.is.1
+      admitted_named_is_known setting (chronicle setting history) e d t.is.1
       (same_number-some (device_of e) d
       ((timed setting (e ∷ history) t).1.fits.named d c (ap (λ a. counter_at a d) act ∙ ap (λ b. if b then Some c else None) (eq-eqb d d refl))))
 
@@ -89,10 +89,10 @@ module _ (setting : Setting) (fair : IsFair setting) (e : Event) (d c : ℕ) (ol
       (chronicle setting history) d c old (rate_is_low setting.net d t.network) (tick_of (x ∷ history) t act is) duty.0 duty.1 sends in
       let least : least_low setting.net duty.0.period ≤ low (rates_of setting.net d) duty.0.period =
       least_is_low setting.net d duty.0.period (ticker_is_known (x ∷ history) t act) in
-      let accepted : IsAccepted setting.net (plan_now setting (chronicle setting (x ∷ history))) =
-      in_force_too (IsAccepted setting.net) setting (x ∷ history) fair.accepted fair.some_plan t.is.0 in
+      let guarded : IsGuarded setting.net (plan_now setting (chronicle setting (x ∷ history))) =
+      in_force_too (IsGuarded setting.net) setting (x ∷ history) fair.guarded fair.some_plan t.is.0 in
       let plan : IsTimed setting.net (plan_now setting (chronicle setting (x ∷ history))) =
-      plan_is_timed setting.net (plan_now setting (chronicle setting (x ∷ history))) accepted.timing in
+      plan_is_timed setting.net (plan_now setting (chronicle setting (x ∷ history))) guarded.timing in
       let long : setting.net.params.tick < least_low setting.net duty.0.period =
       subst (λ p. setting.net.params.tick < least_low setting.net p) (sym period)
       (drop_first (2 * (setting.net.params.depth + 1) * _) setting.net.params.tick (least_low setting.net setting.net.params.period) plan.period) in
@@ -103,7 +103,7 @@ module _ (setting : Setting) (fair : IsFair setting) (e : Event) (d c : ℕ) (ol
 
 -- Nobody who moved did so early.
 
-module _ (setting : Setting) (fair : IsFair setting) where
+module _ (setting : Setting) (fair : AreGuarded setting) where
   moved_case : (e : Event) (history : List Event) → Timely setting (e ∷ history) → (d : ℕ) (act : Act) → act_by setting (chronicle setting history) e ≡ act
       → ((old : Past) → past_in (chronicle setting history) d ≡ Some old → has_moved old ≡ true → Late setting (seen_of (chronicle setting history)))
       → (past : Past) → past_after act d (past_in (chronicle setting history) d) ≡ Some past → has_moved past ≡ true
@@ -190,7 +190,7 @@ implies true false never = refl
 implies false b never = refl
 
 -- nothing is emitted in the beginning
-pub quiet : (setting : Setting) (history : List Event) → IsFair setting → IsClean setting history → IsTrue (nothing_emitted setting (chronicle setting history))
+pub quiet : (setting : Setting) (history : List Event) → AreGuarded setting → IsSteady setting history → IsTrue (nothing_emitted setting (chronicle setting history))
 quiet setting history fair clean =
     implies (is_beginning setting (chronicle setting history)) (has_emission (chronicle setting history))
     (λ begins emits. not_late setting (chronicle setting history) begins (emitted_late setting fair history (timely_of setting history fair clean) emits))
@@ -201,7 +201,7 @@ moved_past true (Some past) h = (past, refl, h)
 moved_past false p h = cc
 
 -- and nobody moves
-pub still : (setting : Setting) (history : List Event) → IsFair setting → IsClean setting history → (d : ℕ)
+pub still : (setting : Setting) (history : List Event) → AreGuarded setting → IsSteady setting history → (d : ℕ)
     → IsTrue (stays setting (chronicle setting history) d)
 still setting history fair clean d =
     implies (is_beginning setting (chronicle setting history)) (moved (chronicle setting history) d)

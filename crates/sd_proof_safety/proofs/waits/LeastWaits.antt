@@ -14,7 +14,7 @@ use Rattle.sd_checker.specs.Plan.declared.Role.TheVariants as role
 use Rattle.sd_checker.specs.Plan.Plans.{is_member}
 use Rattle.sd_checker.specs.Plan.Duties.{duty_of, role_of}
 use Rattle.sd_checker.specs.CheckRoot.Timing.{silence}
-use Rattle.sd_checker.specs.Verdicts.{IsAccepted}
+use Rattle.sd_proof_safety.specs.invariant.Guarded.{IsGuarded, AreGuarded, IsSteady}
 use Rattle.sd_history.specs.Msg.declared.Flight.{Flight}
 use Rattle.sd_history.specs.Core.Calls as calls
 use Rattle.sd_history.specs.Core.Calls.{Past}
@@ -24,16 +24,16 @@ use Rattle.sd_history.specs.Sched.declared.Event.TheVariants as event
 use Rattle.sd_history.specs.Sched.Events.{reference_of, is_stage}
 use Rattle.sd_history.specs.World.{Setting, Seen, window, window_is_open, epoch_in_force, staged_epoch, in_force, plan_numbered, latest_reference, is_untouched}
 use Rattle.sd_history.specs.Steps.{Calls, Passes, Step, seen_of, act_by, flight_numbered}
-use Rattle.sd_history.specs.Refusals.{causes, no_plan_left}
-use Rattle.sd_history.specs.Chronicle.{past_in, chronicle, next_step, IsHistory}
+use Rattle.sd_history.specs.Refusals.{no_plan_left}
+use Rattle.sd_history.specs.Chronicle.{past_in, chronicle, next_step}
+use Rattle.sd_history.specs.Admitted.{IsAdmitted}
 use Rattle.sd_history.specs.Premises.{first_reference, ticks_in_time}
 use Rattle.sd_history.proofs.Among.{Among, first, later, passes}
-use Rattle.sd_history.proofs.Contained.{none_holds}
+use Rattle.sd_history.proofs.Admitted.{rule_holds}
 use Rattle.sd_history.proofs.Given.{some_is}
-use Rattle.sd_history.proofs.Shared.{among_below}
+use Rattle.sd_history.proofs.Shared.{among_below, epoch_kept}
 use Rattle.sd_proof_safety.specs.invariant.Eras.{era, beginning}
 use Rattle.sd_proof_safety.specs.invariant.Clauses.{is_beginning}
-use Rattle.sd_proof_safety.specs.invariant.Coming.{IsFair, IsClean}
 use Rattle.sd_proof_safety.proofs.invariant.InForce.{in_force_too, of_each}
 use Rattle.sd_proof_safety.proofs.invariant.Timed.{IsTimed, timed as plan_is_timed}
 use Rattle.sd_proof_safety.specs.timers.Times.{gives_duty}
@@ -48,9 +48,9 @@ LongPlan net plan = (2 * (silence net + net.params.tick) ≤ least_low net plan.
 abbrev pub LongDuty : Network → Duty → Type 0
 LongDuty net duty = (wait : ℕ) → wait_to_move duty ≡ Some wait → 2 * (silence net + net.params.tick) ≤ least_low net wait
 
-accepted_is_long : (net : Network) (plan : Plan) → IsNetwork net → IsAccepted net plan → LongPlan net plan
-accepted_is_long net plan is accepted =
-    let t : IsTimed net plan = plan_is_timed net plan accepted.timing in (
+guarded_is_long : (net : Network) (plan : Plan) → IsNetwork net → IsGuarded net plan → LongPlan net plan
+guarded_is_long net plan is guarded =
+    let t : IsTimed net plan = plan_is_timed net plan guarded.timing in (
       t.first,
       longest (silence net) net.params.tick _ _ (least_low net plan.wait) t.wait,
     )
@@ -80,28 +80,19 @@ long_duty net plan epoch d long = go (role_of plan d) (is_some (duty_of net plan
 
 -- what is true of each plan is true of one with a number
 
-pub epoch_kept : (s : Seen) (seen : List Seen) → s.closed ≡ false → epoch_in_force (s ∷ seen) ≡ epoch_in_force seen
-epoch_kept s seen open_ =
-    ap (λ n. n + 1)
-    (sum_by-cons (λ (x : Seen). cond x.closed 1 0) s seen ∙ ap (λ b. cond b 1 0 + count_by (λ (x : Seen). x.closed) seen) open_
-    ∙ nothing (count_by (λ (x : Seen). x.closed) seen))
-  where
-    nothing : (n : ℕ) → 0 + n ≡ n
-    nothing n = omega arith
-
 left : (stage opened : Bool) (l epoch : ℕ) → (stage && not opened && nat_le l epoch) ≡ false → stage ≡ true → opened ≡ false → epoch < l
 left true false l epoch none staged closed = leb-false l epoch none
 left true true l epoch none staged closed = cc
 left false opened l epoch none staged closed = cc
 
-pub staged_within : (setting : Setting) (history : List Event) → IsHistory setting history → window_is_open (seen_of (chronicle setting history)) ≡ true
+pub staged_within : (setting : Setting) (history : List Event) → IsAdmitted setting history → window_is_open (seen_of (chronicle setting history)) ≡ true
     → epoch_in_force (seen_of (chronicle setting history)) < length setting.plans
 staged_within setting [] is opened = cc
 staged_within setting (e ∷ earlier) is opened =
     let steps : List Step = chronicle setting earlier in
     let s : Seen = (next_step setting steps e).seen in
     let some_left : no_plan_left setting (seen_of steps) e ≡ false =
-    none_holds (causes setting steps e) _ is.1 (later (later (later (later (later (later (later (later (later (later (later first))))))))))) in
+    rule_holds setting steps e _ is.1 (later (later (later (later (later (later (later (later (later (later (later first))))))))))) refl in
     by s.closed (is_stage e) (window (seen_of steps)) refl refl refl some_left (staged_within setting earlier is.0) opened
   where
     s : Seen
@@ -125,10 +116,10 @@ staged_within setting (e ∷ earlier) is opened =
 
 -- Each duty of a device waits so long.
 
-long_plans : (setting : Setting) → IsFair setting → Each (LongPlan setting.net) setting.plans
-long_plans setting fair i plan at = accepted_is_long setting.net plan fair.network (fair.accepted i plan at)
+long_plans : (setting : Setting) → AreGuarded setting → Each (LongPlan setting.net) setting.plans
+long_plans setting fair i plan at = guarded_is_long setting.net plan fair.network (fair.guarded i plan at)
 
-module _ (setting : Setting) (fair : IsFair setting) where
+module _ (setting : Setting) (fair : AreGuarded setting) where
   given_long : (steps : List Step) (m : ℕ) (w : Option (List Seen)) → (is_some w ≡ true → epoch_in_force (seen_of steps) < length setting.plans) → (duty : Duty)
       → gives_duty
       (map_or (option_map (λ v. plan_numbered setting (staged_epoch (seen_of steps))) w) Passes
@@ -147,7 +138,7 @@ module _ (setting : Setting) (fair : IsFair setting) where
   received_long m c None duty same = cc
   received_long m c (Some f) duty same = cc
 
-  act_long : (history : List Event) → IsHistory setting history → (e : Event) (duty : Duty)
+  act_long : (history : List Event) → IsAdmitted setting history → (e : Event) (duty : Duty)
       → gives_duty (act_by setting (chronicle setting history) e) ≡ Some duty → LongDuty setting.net duty
   act_long history is (event.Start r m c clock eps) duty same =
       subst (LongDuty setting.net) (some_is same)
@@ -158,12 +149,12 @@ module _ (setting : Setting) (fair : IsFair setting) where
       given_long (chronicle setting history) m (window (seen_of (chronicle setting history))) (staged_within setting history is) duty same
   act_long history is _ duty same = cc
 
-  each_long : (history : List Event) → IsHistory setting history → EachGives (LongDuty setting.net) (chronicle setting history)
+  each_long : (history : List Event) → IsAdmitted setting history → EachGives (LongDuty setting.net) (chronicle setting history)
   each_long [] is = tt
   each_long (e ∷ earlier) is = (each_long earlier is.0, act_long earlier is.0 e)
 
   -- what waits to move waits so long
-  pub waits_are_long : (history : List Event) → IsHistory setting history → (d : ℕ) (past : Past) → past_in (chronicle setting history) d ≡ Some past
+  pub waits_are_long : (history : List Event) → IsAdmitted setting history → (d : ℕ) (past : Past) → past_in (chronicle setting history) d ≡ Some past
       → (duty : Duty) → duty_now past ≡ Some duty → LongDuty setting.net duty
   waits_are_long history is d past there' duty has =
       (duties_in (LongDuty setting.net) (chronicle setting history) (each_long history is) d past there').duty duty has
@@ -179,7 +170,7 @@ not_late setting steps begins late =
     leb-true (latest_reference (seen_of steps)) (beginning (seen_of steps) + setting.net.params.tick) (and_parts (nat_eq (era steps) 1) _ begins).1 in
     omega (arith, late, le)
 
-pub timely_of : (setting : Setting) (history : List Event) → IsFair setting → IsClean setting history → Timely setting history
+pub timely_of : (setting : Setting) (history : List Event) → AreGuarded setting → IsSteady setting history → Timely setting history
 timely_of setting history fair clean = timely setting history fair.network clean.is clean.premises
 
 -- members of the first plan start in time

@@ -23,7 +23,8 @@ use Rattle.sd_proof_safety.specs.invariant.Eras.{era, plan_now, is_among, device
 use Rattle.sd_proof_safety.specs.invariant.Clauses.{is_beginning, staged_root}
 use Rattle.sd_proof_safety.specs.invariant.Silences.{root_leads}
 use Rattle.sd_proof_safety.specs.invariant.Invariant.{Invariant}
-use Rattle.sd_proof_safety.specs.invariant.Coming.{IsClean, IsNextEvent}
+use Rattle.sd_proof_safety.specs.invariant.Guarded.{IsSteady}
+use Rattle.sd_proof_safety.specs.invariant.Coming.{IsNextEvent}
 use Rattle.sd_proof_safety.proofs.invariant.Prefix.{clean_before}
 use Rattle.sd_proof_safety.proofs.invariant.Sides.{implied, not_both}
 use Rattle.sd_proof_safety.proofs.invariant.Following.{held_now}
@@ -81,7 +82,7 @@ module _ (setting : Setting) (x : Event) (h : List Event) (e : Event) (comes : I
   pub now : Invariant setting (chronicle setting (x ∷ h))
   now = comes.before.1
 
-  pub clean : IsClean setting (x ∷ h)
+  pub clean : IsSteady setting (x ∷ h)
   clean = clean_before setting e (x ∷ h) comes.clean
 
   pub times : Timely setting (e ∷ x ∷ h)
@@ -192,7 +193,7 @@ module _ (setting : Setting) (x : Event) (h : List Event) (e : Event) (comes : I
   backup_root_is_old failed still late =
       let steps : List Step = chronicle setting (x ∷ h) in
       let b : ℕ = (plan_now setting steps).backup_root in
-      let kept : device_failed_now steps b ≡ false = not_both_failed setting steps (held_now setting x h clean) sound.accepted failed in
+      let kept : device_failed_now steps b ≡ false = not_both_failed setting steps (held_now setting x h clean) sound.guarded failed in
       let up_ : is_up (seen_of steps) b ≡ true = is_up_then b sound.fits.backup_root sound.backup_member kept late in
       old_by (is_member (plan_now setting steps) b) (device_failed_now steps b) (is_up (seen_of steps) b) (is_old steps b) (is_new steps b)
       (now.core.census.members_follow b) sound.backup_member kept up_

@@ -1,6 +1,6 @@
 -- Lemmas 4 to 6 in the words of the invariant: how long an old device is silent, rests or sends nothing at most, and how long it was at least when it moves,
 -- takes over or emits. From the laws of timers, with the duties of the plan in force.
-use Rattle.std.specs.Prelude.{◌≡◌, ℕ, ◌+◌, ◌-◌, ◌≤◌, Bool, true, false, ◌&&◌, List, ◌∷◌, max, Option, Some, None, is_some, option_map, refl, if◌then◌else◌}
+use Rattle.std.specs.Prelude.{◌≡◌, ℕ, ◌+◌, ◌-◌, ◌≤◌, Bool, true, false, List, ◌∷◌, max, Option, Some, None, is_some, option_map, refl, if◌then◌else◌}
 use Rattle.std.proofs.Common.{arith, sym, ◌∙◌, ap, subst}
 use Rattle.std.proofs.lemmas.Bool.{or_left}
 use Rattle.sd_checker.specs.Num.Lists.{map_or}

@@ -1,8 +1,9 @@
--- The invariant after each event of a clean history, with nothing assumed.
+-- The invariant after each event of a steady history, with nothing assumed.
 use Rattle.std.specs.Prelude.{List, ◌∷◌}
 use Rattle.sd_history.specs.Sched.declared.Event.{Event}
 use Rattle.sd_history.specs.World.{Setting}
-use Rattle.sd_proof_safety.specs.invariant.Coming.{IsFair, IsClean, IsNextEvent}
+use Rattle.sd_proof_safety.specs.invariant.Guarded.{AreGuarded, IsSteady}
+use Rattle.sd_proof_safety.specs.invariant.Coming.{IsNextEvent}
 use Rattle.sd_proof_safety.specs.invariant.Kept.{StaysInvariant}
 use Rattle.sd_proof_safety.proofs.invariant.Prefix.{clean_before}
 use Rattle.sd_proof_safety.proofs.invariant.Whole as whole
@@ -13,6 +14,6 @@ use Rattle.sd_proof_safety.proofs.entering.Entering.{members_enter}
 pub stays_invariant : (setting : Setting) → StaysInvariant setting
 stays_invariant setting = whole.stays_invariant (each_keeps setting (are_silent setting) (members_enter setting))
 
--- each event of a clean history comes with the invariant after each event before it
-pub comes : (setting : Setting) (history : List Event) (e : Event) → IsFair setting → IsClean setting (e ∷ history) → IsNextEvent setting history e
+-- each event of a steady history comes with the invariant after each event before it
+pub comes : (setting : Setting) (history : List Event) (e : Event) → AreGuarded setting → IsSteady setting (e ∷ history) → IsNextEvent setting history e
 comes setting history e fair clean = record { fair = fair; clean = clean; before = stays_invariant setting history fair (clean_before setting e history clean) }

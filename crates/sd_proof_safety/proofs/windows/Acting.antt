@@ -6,7 +6,8 @@ use Rattle.sd_checker.specs.Plan.Plans.{is_member, is_root, is_backup_root}
 use Rattle.sd_history.specs.Sched.declared.Event.{Event}
 use Rattle.sd_history.specs.World.{Setting, is_up, has_commit, is_counted, joined_in_window}
 use Rattle.sd_history.specs.Steps.{Step, seen_of, acts_in, parent_in}
-use Rattle.sd_history.specs.Chronicle.{chronicle, IsHistory}
+use Rattle.sd_history.specs.Chronicle.{chronicle}
+use Rattle.sd_history.specs.Admitted.{IsAdmitted}
 use Rattle.sd_proof_safety.specs.invariant.Eras.{plan_now, is_old, is_new, is_blank, is_ordinary, root_failed}
 use Rattle.sd_proof_safety.proofs.invariant.Sides.{implied, not_both, stands}
 use Rattle.sd_proof_safety.specs.windows.Standing.{HasStanding}
@@ -26,7 +27,7 @@ one_of true true backup is not_ordinary other = cc
 one_of false root backup is not_ordinary other = cc
 
 -- none is new before a commit
-pub not_new : (setting : Setting) (history : List Event) (x : ℕ) → IsHistory setting history → has_commit (seen_of (chronicle setting history)) ≡ false
+pub not_new : (setting : Setting) (history : List Event) (x : ℕ) → IsAdmitted setting history → has_commit (seen_of (chronicle setting history)) ≡ false
     → is_new (chronicle setting history) x ≡ false
 not_new setting history x is none =
     not-true (is_new (chronicle setting history) x)
@@ -39,7 +40,7 @@ pub record ActsOld (setting : Setting) (steps : List Step) (x : ℕ) : Type 0 wh
   pub member : is_member (plan_now setting steps) x ≡ true
   pub is : x ≡ (if root_failed setting steps then (plan_now setting steps).backup_root else (plan_now setting steps).root)
 
-module _ (setting : Setting) (history : List Event) (is : IsHistory setting history) (none : has_commit (seen_of (chronicle setting history)) ≡ false)
+module _ (setting : Setting) (history : List Event) (is : IsAdmitted setting history) (none : has_commit (seen_of (chronicle setting history)) ≡ false)
     (has : HasStanding setting (chronicle setting history)) where
   abbrev steps : List Step
   steps = chronicle setting history

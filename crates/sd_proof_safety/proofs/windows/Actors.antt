@@ -18,7 +18,7 @@ use Rattle.sd_history.specs.Steps.{Calls, Passes, Step, seen_of, flight_numbered
 use Rattle.sd_history.specs.Chronicle.{answers_by, past_in, past_after, next_step, chronicle}
 use Rattle.sd_proof_safety.specs.invariant.Eras.{plan_now, is_new}
 use Rattle.sd_proof_safety.specs.invariant.Clauses.{committer_acts, committer_is_root, staged_root}
-use Rattle.sd_proof_safety.specs.invariant.Coming.{IsClean}
+use Rattle.sd_proof_safety.specs.invariant.Guarded.{IsSteady}
 use Rattle.sd_proof_safety.proofs.invariant.Parents.{live_is}
 use Rattle.sd_proof_safety.proofs.invariant.Sides.{implied, not_both}
 use Rattle.sd_proof_safety.proofs.timers.Transitions.{by_case}
@@ -81,7 +81,7 @@ acts_on d x c true q (Some f) none = go (nat_eq d x)
     go true = (turns_none q f.link f.message c none).acts
     go false = refl
 
-module _ (setting : Setting) (r d c k : ℕ) (history : List Event) (clean : IsClean setting (event.Recv r d c k ∷ history)) where
+module _ (setting : Setting) (r d c k : ℕ) (history : List Event) (clean : IsSteady setting (event.Recv r d c k ∷ history)) where
   shut : (next_step setting (chronicle setting history) (event.Recv r d c k)).seen.closed ≡ false
   shut = receipt_closes_none setting history r d c k
 

@@ -10,7 +10,7 @@ use Rattle.sd_checker.specs.Plan.Plans.{is_member, is_root, is_present, members}
 use Rattle.sd_checker.proofs.Plan.Rules.{KeepsRules, keeps_rules}
 use Rattle.sd_checker.specs.CheckRoot.Timing.{round_gap, silence}
 use Rattle.sd_proof_safety.proofs.windows.Roots.{backup_root_member}
-use Rattle.sd_checker.specs.Verdicts.{IsAccepted}
+use Rattle.sd_proof_safety.specs.invariant.Guarded.{IsGuarded, AreGuarded, IsSteady}
 use Rattle.sd_history.specs.Core.Calls as calls
 use Rattle.sd_history.specs.Core.Calls.{Past}
 use Rattle.sd_history.specs.Sched.declared.Event.{Event}
@@ -24,7 +24,6 @@ use Rattle.sd_history.proofs.Shared.{among_below}
 use Rattle.sd_proof_safety.specs.invariant.Bounds.{depth, delay, rounds_gap}
 use Rattle.sd_proof_safety.specs.invariant.Eras.{era, plan_now, belongs, will_belong, is_old, is_new, is_blank, on_primary, heard_at, sent_at, sends, silent_for, root_failed}
 use Rattle.sd_proof_safety.specs.invariant.Clauses.{just_closed, member_enters, member_begins, root_begins, link_begins, staged_root, leads_to_root}
-use Rattle.sd_proof_safety.specs.invariant.Coming.{IsFair, IsClean}
 use Rattle.sd_proof_safety.proofs.invariant.InForce.{in_force_too}
 use Rattle.sd_proof_safety.proofs.invariant.Prefix.{clean_before}
 use Rattle.sd_proof_safety.proofs.invariant.Sides.{implied, not_both}
@@ -113,7 +112,7 @@ begins_of setting steps x settled stood =
     (acts_in steps x)
     (on_primary steps x && nat_le (latest_reference (seen_of steps)) (heard_at steps x + silence setting.net)) settled stood
 
-module _ (setting : Setting) (r d : ℕ) (history : List Event) (fair : IsFair setting) (clean : IsClean setting (event.Seal r d ∷ history))
+module _ (setting : Setting) (r d : ℕ) (history : List Event) (fair : AreGuarded setting) (clean : IsSteady setting (event.Seal r d ∷ history))
     (closed : just_closed (chronicle setting (event.Seal r d ∷ history)) ≡ true)
     (has : HasEntered setting (chronicle setting history) r) where
   abbrev steps : List Step
@@ -177,11 +176,11 @@ module _ (setting : Setting) (r d : ℕ) (history : List Event) (fair : IsFair s
       (member_settled x known member)
 
   -- the new root is a member of the plan in force, and acts
-  accepted : IsAccepted setting.net (plan_now setting (chronicle setting history))
-  accepted = in_force_too (IsAccepted setting.net) setting history fair.accepted fair.some_plan clean.is.0
+  guarded : IsGuarded setting.net (plan_now setting (chronicle setting history))
+  guarded = in_force_too (IsGuarded setting.net) setting history fair.guarded fair.some_plan clean.is.0
 
   rules : KeepsRules setting.net (plan_now setting (chronicle setting history))
-  rules = keeps_rules setting.net (plan_now setting (chronicle setting history)) accepted.structure
+  rules = keeps_rules setting.net (plan_now setting (chronicle setting history)) guarded.structure
 
   root_was_member : is_member (plan_now setting (chronicle setting history)) (staged_root setting (chronicle setting history)) ≡ true
   root_was_member =
@@ -195,7 +194,7 @@ module _ (setting : Setting) (r d : ℕ) (history : List Event) (fair : IsFair s
           → is_member (plan_now setting (chronicle setting history)) (staged_root setting (chronicle setting history)) ≡ true
       go true is =
           ap (is_member (plan_now setting (chronicle setting history))) is
-          ∙ (backup_root_member setting.net (plan_now setting (chronicle setting history)) accepted.structure).0
+          ∙ (backup_root_member setting.net (plan_now setting (chronicle setting history)) guarded.structure).0
       go false is = ap (is_member (plan_now setting (chronicle setting history))) is ∙ rules.root
 
   root_new : is_new (chronicle setting history) (staged_root setting (chronicle setting history)) ≡ true

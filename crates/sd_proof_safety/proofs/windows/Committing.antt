@@ -1,4 +1,4 @@
--- A commit in a clean history (C9 c): it comes of the one device that acts, the root, or where that failed the backup root; after it this device is
+-- A commit in a steady history (C9 c): it comes of the one device that acts, the root, or where that failed the backup root; after it this device is
 -- new and acts, and no other that counts does. Beside it, what renewal asks of a commit.
 use Rattle.std.specs.Prelude.{◌≡◌, ℕ, ◌+◌, ◌-◌, ◌<◌, Bool, true, false, ◌&&◌, ◌||◌, not, List, ◌∷◌, length, nat_eq, Option, Some, None, is_some, option_map, option_and_then, refl, if◌then◌else◌}
 use Rattle.std.specs.List.{list_any, list_all}
@@ -12,7 +12,7 @@ use Rattle.sd_checker.specs.Plan.declared.Duty.{Duty}
 use Rattle.sd_checker.specs.Plan.declared.Plan.{Plan}
 use Rattle.sd_checker.specs.Plan.Plans.{is_member, members}
 use Rattle.sd_checker.proofs.Plan.Rules.{KeepsRules, keeps_rules}
-use Rattle.sd_checker.specs.Verdicts.{IsAccepted}
+use Rattle.sd_proof_safety.specs.invariant.Guarded.{IsGuarded, AreGuarded, IsSteady}
 use Rattle.sd_history.specs.Core.Calls as calls
 use Rattle.sd_history.specs.Core.Calls.{Past}
 use Rattle.sd_history.specs.Core.Words.{after, transition_of, given_now, epoch_now, is_acting, committed_by}
@@ -21,17 +21,17 @@ use Rattle.sd_history.specs.Sched.declared.Event.TheVariants as event
 use Rattle.sd_history.specs.Sched.Events.{joined}
 use Rattle.sd_history.specs.World.{Setting, Seen, is_up, window, window_is_open, has_commit, epoch_in_force, staged, staged_epoch, plan_numbered, is_counted, joined_in_window}
 use Rattle.sd_history.specs.Steps.{Step, seen_of, live_answers, acts_in}
-use Rattle.sd_history.specs.Chronicle.{answers_by, past_in, next_step, chronicle, IsHistory}
+use Rattle.sd_history.specs.Chronicle.{answers_by, past_in, next_step, chronicle}
+use Rattle.sd_history.specs.Admitted.{IsAdmitted}
 use Rattle.sd_history.specs.Premises.{is_prepared, was_given, leaves_out_failed, leaves_out_cleanly}
 use Rattle.sd_history.proofs.Among.{passes}
 use Rattle.sd_proof_safety.specs.invariant.Eras.{plan_now, failed_now, is_new, live_past, root_failed}
 use Rattle.sd_proof_safety.specs.invariant.Clauses.{staged_root, committer_is_root, committer_acts}
-use Rattle.sd_proof_safety.specs.invariant.Coming.{IsFair, IsClean}
 use Rattle.sd_proof_safety.proofs.invariant.Parents.{live_is}
 use Rattle.sd_proof_safety.proofs.invariant.Orders.{renews}
 use Rattle.sd_proof_safety.proofs.invariant.Sides.{not_both}
 use Rattle.sd_proof_safety.proofs.invariant.Staying.{filter_in}
-use Rattle.sd_history.proofs.Known.{named_is_known}
+use Rattle.sd_history.proofs.Known.{admitted_named_is_known}
 use Rattle.sd_history.proofs.Shared.{among_below}
 use Rattle.sd_proof_safety.proofs.timers.Turns.{after_recommit}
 use Rattle.sd_proof_safety.proofs.waits.LeastWaits.{staged_within}
@@ -48,7 +48,7 @@ abbrev pub staged_plan : Setting → List Step → Plan
 staged_plan setting steps = plan_numbered setting (staged_epoch (seen_of steps))
 
 -- what is true of each plan is true of one that is staged
-pub staged_too : (P : Plan → Type 0) (setting : Setting) (history : List Event) → Each P setting.plans → IsHistory setting history
+pub staged_too : (P : Plan → Type 0) (setting : Setting) (history : List Event) → Each P setting.plans → IsAdmitted setting history
     → window_is_open (seen_of (chronicle setting history)) ≡ true → P (staged_plan setting (chronicle setting history))
 staged_too P setting history each is opened =
     of_each P setting.plans (staged_epoch (seen_of (chronicle setting history)) - 1) each (lower (staged_within setting history is opened))
@@ -106,7 +106,7 @@ counts true true member joined_ is = is
 counts true false member joined_ is = cc
 counts false given member joined_ is = cc
 
-pub commit_asks : (setting : Setting) (r d c : ℕ) (history : List Event) → IsFair setting → IsClean setting (event.Commit r d c ∷ history)
+pub commit_asks : (setting : Setting) (r d c : ℕ) (history : List Event) → AreGuarded setting → IsSteady setting (event.Commit r d c ∷ history)
     → AtCommit setting (chronicle setting history) d
 commit_asks setting r d c history fair clean =
     let steps : List Step = chronicle setting history in
@@ -123,9 +123,9 @@ commit_asks setting r d c history fair clean =
     let prepared : (x : ℕ) → x < length setting.net.devices → is_member (staged_plan setting steps) x ≡ true → is_prepared setting (seen_of steps) x ≡ true =
     (λ x known member. passes (is_prepared setting (seen_of steps))
     (filter_in (is_member (staged_plan setting steps)) x _ (among_below (length setting.net.devices) x known) member) two.0) in
-    let accepted : IsAccepted setting.net (staged_plan setting steps) =
-    staged_too (IsAccepted setting.net) setting history fair.accepted clean.is.0 asks.opened in
-    let rules : KeepsRules setting.net (staged_plan setting steps) = keeps_rules setting.net (staged_plan setting steps) accepted.structure in
+    let guarded : IsGuarded setting.net (staged_plan setting steps) =
+    staged_too (IsGuarded setting.net) setting history fair.guarded clean.is.0 asks.opened in
+    let rules : KeepsRules setting.net (staged_plan setting steps) = keeps_rules setting.net (staged_plan setting steps) guarded.structure in
     record {
       opened = asks.opened;
       first_one = asks.first_one;
@@ -136,13 +136,13 @@ commit_asks setting r d c history fair clean =
       cleanly = one.1;
       counted =
           counts (is_up (seen_of steps) d) (was_given (seen_of steps) d) (is_member (plan_now setting steps) d) (joined_in_window (seen_of steps) d)
-          (prepared d (named_is_known setting steps (event.Commit r d c) d clean.is.1 refl)
+          (prepared d (admitted_named_is_known setting steps (event.Commit r d c) d clean.is.1 refl)
           (ap (is_member (staged_plan setting steps)) (sym root) ∙ rules.root));
     }
 
 -- The state after it
 
-module _ (setting : Setting) (r d c : ℕ) (history : List Event) (fair : IsFair setting) (clean : IsClean setting (event.Commit r d c ∷ history)) where
+module _ (setting : Setting) (r d c : ℕ) (history : List Event) (fair : AreGuarded setting) (clean : IsSteady setting (event.Commit r d c ∷ history)) where
   abbrev steps : List Step
   steps = chronicle setting history
 

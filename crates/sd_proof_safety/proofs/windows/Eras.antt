@@ -1,5 +1,5 @@
 -- How an event changes the number of the era, and the window: an event that closes no window leaves the era, and one that closes it counts on.
-use Rattle.std.specs.Prelude.{◌≡◌, ℕ, ◌+◌, true, false, ◌&&◌, ◌||◌, not, List, ◌∷◌, cond, count_by, nat_eq}
+use Rattle.std.specs.Prelude.{◌≡◌, ℕ, ◌+◌, true, false, ◌&&◌, ◌||◌, not, List, ◌∷◌, cond, count_by, nat_eq, refl}
 use Rattle.std.proofs.Common.{arith, ◌∙◌, ap}
 use Rattle.std.proofs.lemmas.Bool.{or_parts, not-false}
 use Rattle.std.proofs.lemmas.List.Sums.{sum_by-cons}
@@ -9,10 +9,11 @@ use Rattle.sd_history.specs.Sched.declared.Event.TheVariants as event
 use Rattle.sd_history.specs.Sched.Events.{device_of, is_stage, is_commit, is_seal}
 use Rattle.sd_history.specs.World.{Setting, Seen, window_is_open, has_commit, plan_numbered, staged, staged_epoch}
 use Rattle.sd_history.specs.Steps.{Step, seen_of, given_in}
-use Rattle.sd_history.specs.Chronicle.{chronicle, IsHistory}
-use Rattle.sd_history.specs.Refusals.{causes, window_order_seen, window_order_within, window_order}
+use Rattle.sd_history.specs.Chronicle.{chronicle}
+use Rattle.sd_history.specs.Admitted.{IsAdmitted}
+use Rattle.sd_history.specs.Refusals.{window_order_seen, window_order_within, window_order}
 use Rattle.sd_history.proofs.Among.{first, later}
-use Rattle.sd_history.proofs.Contained.{none_holds}
+use Rattle.sd_history.proofs.Admitted.{rule_holds}
 use Rattle.sd_proof_safety.specs.invariant.Eras.{era, plan_now}
 use Rattle.sd_proof_safety.proofs.invariant.Orders.{orderly}
 
@@ -37,12 +38,12 @@ pub plan_kept : (setting : Setting) (s : Step) (steps : List Step) → s.seen.cl
 plan_kept setting s steps open_ = ap (λ n. plan_numbered setting n) (era_kept s steps open_)
 
 -- a stage comes in no open window
-pub stages_shut : (setting : Setting) (e : Event) (history : List Event) → IsHistory setting (e ∷ history)
+pub stages_shut : (setting : Setting) (e : Event) (history : List Event) → IsAdmitted setting (e ∷ history)
     → (is_stage e && window_is_open (seen_of (chronicle setting history))) ≡ false
 stages_shut setting e history is =
     let steps = chronicle setting history in
     let order : window_order setting steps e ≡ false =
-    none_holds (causes setting steps e) _ is.1 (later (later (later (later (later (later (later (later (later (later (later (later first)))))))))))) in
+    rule_holds setting steps e _ is.1 (later (later (later (later (later (later (later (later (later (later (later (later first)))))))))))) refl in
     let outside : window_order_seen setting (seen_of steps) e ≡ false = (or_parts (window_order_seen setting (seen_of steps) e) _ order).0 in
     let last = or_parts _ (is_seal e && (not (window_is_open (seen_of steps)) || not (has_commit (seen_of steps)))) outside in
     let front = or_parts _ _ last.0 in
@@ -55,13 +56,13 @@ pub record IsCommitting (setting : Setting) (steps : List Step) (d : ℕ) : Type
   pub root : map_or (staged setting (seen_of steps)) false (λ plan. nat_eq plan.root d) ≡ true
   pub given : same_number (given_in steps d) (staged_epoch (seen_of steps)) ≡ true
 
-pub committing : (setting : Setting) (r d c : ℕ) (history : List Event) → IsHistory setting (event.Commit r d c ∷ history)
+pub committing : (setting : Setting) (r d c : ℕ) (history : List Event) → IsAdmitted setting (event.Commit r d c ∷ history)
     → IsCommitting setting (chronicle setting history) d
 committing setting r d c history is =
     let steps : List Step = chronicle setting history in
     let e : Event = event.Commit r d c in
     let order : window_order setting steps e ≡ false =
-    none_holds (causes setting steps e) _ is.1 (later (later (later (later (later (later (later (later (later (later (later (later first)))))))))))) in
+    rule_holds setting steps e _ is.1 (later (later (later (later (later (later (later (later (later (later (later (later first)))))))))))) refl in
     let outside = or_parts (window_order_seen setting (seen_of steps) e) (window_order_within steps e) order in
     let last = or_parts _ (is_seal e && (not (window_is_open (seen_of steps)) || not (has_commit (seen_of steps)))) outside.0 in
     let front = or_parts _ (is_commit e && map_or (device_of e) false (λ x. not (map_or (staged setting (seen_of steps)) false (λ plan. nat_eq plan.root x))))

@@ -25,7 +25,7 @@ use Rattle.sd_proof_safety.specs.messages.Stamping.{remakes}
 use Rattle.sd_proof_safety.proofs.messages.Tails.{history_chronicle}
 use Rattle.sd_proof_safety.proofs.messages.Hearing.{up_has_past}
 use Rattle.sd_proof_safety.specs.invariant.Eras.{era}
-use Rattle.sd_proof_safety.specs.invariant.Coming.{IsClean}
+use Rattle.sd_proof_safety.specs.invariant.Guarded.{IsSteady}
 use Rattle.sd_proof_safety.proofs.invariant.Parents.{live_is}
 use Rattle.sd_proof_safety.proofs.invariant.Orders.{renews, staged_before}
 use Rattle.sd_proof_safety.proofs.invariant.Prefix.{clean_before}
@@ -159,7 +159,7 @@ gives_here setting steps (event.Give r d) x gives some =
 gives_here setting steps _ x gives some = cc
 
 -- before a commit, who is up and was given its duty in the window holds it
-pub given_so : (setting : Setting) (history : List Event) → IsClean setting history → has_commit (seen_of (chronicle setting history)) ≡ false → (x : ℕ)
+pub given_so : (setting : Setting) (history : List Event) → IsSteady setting history → has_commit (seen_of (chronicle setting history)) ≡ false → (x : ℕ)
     → was_given (seen_of (chronicle setting history)) x ≡ true
     → is_up (seen_of (chronicle setting history)) x ≡ true → GivenPast (chronicle setting history) x
 given_so setting [] clean none x gave up = cc

@@ -3,7 +3,7 @@
 use Rattle.std.specs.Prelude.{◌≡◌, ℕ, zero, suc, ◌≤◌, Bool, true, false, ◌&&◌, ◌||◌, not, List, [], ◌∷◌, Option, Some, None, is_some, option_map, option_and_then, refl, if◌then◌else◌}
 use Rattle.std.proofs.Common.{arith, ◌∙◌, ap, sym}
 use Rattle.std.proofs.lemmas.Bool.{eqb-true}
-use Rattle.sd_checker.specs.Num.Lists.{map_or}
+use Rattle.sd_checker.specs.Num.Lists.{map_or, follow}
 use Rattle.sd_checker.specs.Plan.declared.Hop.{Hop}
 use Rattle.sd_checker.specs.Plan.declared.Duty.{Duty}
 use Rattle.sd_checker.specs.Plan.Plans.{is_member, is_root, has_row, row_of, primary_of}
@@ -15,14 +15,14 @@ use Rattle.sd_history.specs.Core.Words.{duty_now, is_acting, has_moved, primary_
 use Rattle.sd_history.specs.Sched.declared.Event.{Event}
 use Rattle.sd_history.specs.World.{Setting, staged_epoch, plan_numbered}
 use Rattle.sd_history.specs.Steps.{Step, seen_of, live_answers, parent_in, acts_in}
-use Rattle.sd_history.specs.Chronicle.{answers_by, past_in, chronicle, IsHistory}
+use Rattle.sd_history.specs.Chronicle.{answers_by, past_in, chronicle}
+use Rattle.sd_history.specs.Admitted.{IsAdmitted}
 use Rattle.sd_proof_safety.specs.invariant.Bounds.{depth}
 use Rattle.sd_proof_safety.specs.invariant.Eras.{is_new, live_past, moved, on_primary}
-use Rattle.sd_history.specs.Lines.{follow}
 use Rattle.sd_proof_safety.proofs.invariant.Cycles.{Over, follow_front}
 use Rattle.sd_proof_safety.proofs.invariant.Parents.{IsPlanned, duties_planned, live_is, over_hop}
 use Rattle.sd_proof_safety.proofs.invariant.Sides.{implied, not_both}
-use Rattle.sd_history.proofs.Known.{up_is_known}
+use Rattle.sd_history.proofs.Known.{admitted_up_is_known}
 use Rattle.sd_proof_safety.proofs.windows.Committing.{staged_plan}
 use Rattle.sd_proof_safety.proofs.windows.Senders.{NewPast, new_past_of}
 
@@ -154,14 +154,14 @@ module _ (setting : Setting) (history : List Event) (each : (x : ℕ) → is_new
           }
 
   -- C9 d: parents lead to the staged root
-  pub leads : KeepsRules setting.net (staged_plan setting (chronicle setting history)) → IsHistory setting history → (x : ℕ)
+  pub leads : KeepsRules setting.net (staged_plan setting (chronicle setting history)) → IsAdmitted setting history → (x : ℕ)
       → is_new (chronicle setting history) x ≡ true
       → is_root (staged_plan setting (chronicle setting history)) x ≡ false
       → IsLedIn (parent_in (chronicle setting history)) (depth setting.net) x (staged_plan setting (chronicle setting history)).root
   leads rules is x new other =
       let linked = each x new other in
       let over = primary_hop setting history x new linked in
-      let known = up_is_known setting history is x (new_past_of setting history x new).up in
+      let known = admitted_up_is_known setting history is x (new_past_of setting history x new).up in
       let member : is_member (staged_plan setting (chronicle setting history)) x ≡ true =
       sym (member_is setting.net (staged_plan setting (chronicle setting history)) x rules known)
       ∙ ap (λ b. b || has_row (staged_plan setting (chronicle setting history)) x) other

@@ -2,24 +2,23 @@
 use Rattle.std.specs.Prelude.{◌≡◌, ℕ, ◌+◌, ◌<◌, ◌≤◌, Bool, true, false, ◌&&◌, not, List, ◌∷◌, nat_eq, Option, Some, None, refl}
 use Rattle.std.proofs.Common.{arith, ◌∙◌, ap, sym}
 use Rattle.std.proofs.lemmas.Bool.{and_parts, and_from, eqb-true, eq-eqb, not-true}
-use Rattle.sd_checker.specs.Num.Lists.{map_or, same_number, below}
+use Rattle.sd_checker.specs.Num.Lists.{map_or, same_number, below, follow}
 use Rattle.sd_checker.specs.Plan.declared.Plan.{Plan}
 use Rattle.sd_checker.specs.Plan.Plans.{is_root}
 use Rattle.sd_checker.proofs.Plan.Rules.{keeps_rules}
-use Rattle.sd_checker.specs.Verdicts.{IsAccepted}
+use Rattle.sd_proof_safety.specs.invariant.Guarded.{IsGuarded, AreGuarded, IsSteady}
 use Rattle.sd_checker.proofs.Num.Shared.{unequal_swap}
 use Rattle.sd_history.specs.Sched.declared.Event.{Event}
 use Rattle.sd_history.specs.Sched.declared.Event.TheVariants as event
 use Rattle.sd_history.specs.World.{Setting, is_up, has_commit, window_is_open, staged_epoch, plan_numbered}
 use Rattle.sd_history.specs.Steps.{Step, seen_of, parent_in, epoch_in}
-use Rattle.sd_history.specs.Chronicle.{next_step, chronicle, IsHistory}
-use Rattle.sd_history.specs.Lines.{follow}
+use Rattle.sd_history.specs.Chronicle.{next_step, chronicle}
+use Rattle.sd_history.specs.Admitted.{IsAdmitted}
 use Rattle.sd_history.proofs.Shared.{among_below}
 use Rattle.sd_proof_safety.specs.invariant.Bounds.{depth}
 use Rattle.sd_proof_safety.specs.invariant.Eras.{era, is_new, on_primary}
 use Rattle.sd_proof_safety.specs.invariant.Clauses.{new_is_linked, leads_to_root, staged_root, just_closed}
 use Rattle.sd_proof_safety.specs.invariant.Invariant.{IsClosed}
-use Rattle.sd_proof_safety.specs.invariant.Coming.{IsFair, IsClean}
 use Rattle.sd_proof_safety.proofs.invariant.Prefix.{any_passing}
 use Rattle.sd_proof_safety.proofs.invariant.Sides.{implied, not_both}
 use Rattle.sd_proof_safety.specs.windows.Standing.{HasEntered}
@@ -38,7 +37,7 @@ some_parent : (steps : List Step) (x : ℕ) (o : Option ℕ) → parent_in steps
 some_parent steps x None is primary new = cc
 some_parent steps x (Some y) is primary new = record { primary = primary; parent = y; leads = is; new = new }
 
-module _ (setting : Setting) (history : List Event) (clean : IsHistory setting history) where
+module _ (setting : Setting) (history : List Event) (clean : IsAdmitted setting history) where
   -- where a device is new the window has its commit
   pub new_opens : (x : ℕ) → is_new (chronicle setting history) x ≡ true → window_is_open (seen_of (chronicle setting history)) ≡ true
   new_opens x new =
@@ -65,7 +64,7 @@ module _ (setting : Setting) (history : List Event) (clean : IsHistory setting h
       some_parent (chronicle setting history) x (parent_in (chronicle setting history) x) refl both.0 both.1
 
   -- and to it
-  module _ (fair : IsFair setting) (each : (x : ℕ) → is_new (chronicle setting history) x ≡ true
+  module _ (fair : AreGuarded setting) (each : (x : ℕ) → is_new (chronicle setting history) x ≡ true
       → is_root (staged_plan setting (chronicle setting history)) x ≡ false → IsLinked (chronicle setting history) x) where
     pub clause_of : (x : ℕ) → new_is_linked setting (chronicle setting history) x ≡ true
     clause_of x = gives (is_new (chronicle setting history) x && not (nat_eq x (staged_root setting (chronicle setting history)))) _ shown
@@ -80,9 +79,9 @@ module _ (setting : Setting) (history : List Event) (clean : IsHistory setting h
             unequal_swap x (staged_plan setting (chronicle setting history)).root
             (sym (ap (nat_eq x) root) ∙ not-true (nat_eq x (staged_root setting (chronicle setting history))) parts.1) in
             let of : IsLinked (chronicle setting history) x = each x parts.0 other in
-            let accepted : IsAccepted setting.net (staged_plan setting (chronicle setting history)) =
-            staged_too (IsAccepted setting.net) setting history fair.accepted clean (new_opens x parts.0) in
-            let led = leads setting history each (keeps_rules setting.net (staged_plan setting (chronicle setting history)) accepted.structure) clean x parts.0
+            let guarded : IsGuarded setting.net (staged_plan setting (chronicle setting history)) =
+            staged_too (IsGuarded setting.net) setting history fair.guarded clean (new_opens x parts.0) in
+            let led = leads setting history each (keeps_rules setting.net (staged_plan setting (chronicle setting history)) guarded.structure) clean x parts.0
             other in
             and_from (on_primary (chronicle setting history) x && map_or (parent_in (chronicle setting history) x) false (is_new (chronicle setting history)))
             _
@@ -97,7 +96,7 @@ module _ (setting : Setting) (history : List Event) (clean : IsHistory setting h
             less a b le = omega (arith, le)
 
 -- C9 d at a receipt
-pub receipt_keeps_linked : (setting : Setting) (r d c n : ℕ) (history : List Event) → IsFair setting → IsClean setting (event.Recv r d c n ∷ history)
+pub receipt_keeps_linked : (setting : Setting) (r d c n : ℕ) (history : List Event) → AreGuarded setting → IsSteady setting (event.Recv r d c n ∷ history)
     → ((x : ℕ) → is_up (seen_of (chronicle setting history)) x ≡ true → new_is_linked setting (chronicle setting history) x ≡ true)
     → (x : ℕ) → new_is_linked setting (chronicle setting (event.Recv r d c n ∷ history)) x ≡ true
 receipt_keeps_linked setting r d c n history fair clean before =
@@ -107,7 +106,7 @@ receipt_keeps_linked setting r d c n history fair clean before =
     (before y (epoch_up (chronicle setting history) y (staged_epoch (seen_of (chronicle setting history))) new)) new other))
 
 -- C9 d at a commit: nobody but the root is new
-pub commit_links : (setting : Setting) (r d c : ℕ) (history : List Event) → IsFair setting → IsClean setting (event.Commit r d c ∷ history) → (x : ℕ)
+pub commit_links : (setting : Setting) (r d c : ℕ) (history : List Event) → AreGuarded setting → IsSteady setting (event.Commit r d c ∷ history) → (x : ℕ)
     → new_is_linked setting (chronicle setting (event.Commit r d c ∷ history)) x ≡ true
 commit_links setting r d c history fair clean =
     clause_of setting (event.Commit r d c ∷ history) clean.is fair by
@@ -139,7 +138,7 @@ commit_links setting r d c history fair clean =
             (not_new setting history x clean.is.0 asks.first_one))
 
 -- C10 at a closing
-pub closing_begins : (setting : Setting) (r d : ℕ) (history : List Event) → IsFair setting → IsClean setting (event.Seal r d ∷ history)
+pub closing_begins : (setting : Setting) (r d : ℕ) (history : List Event) → AreGuarded setting → IsSteady setting (event.Seal r d ∷ history)
     → just_closed (chronicle setting (event.Seal r d ∷ history)) ≡ true → HasEntered setting (chronicle setting history) r
     → IsClosed setting (chronicle setting (event.Seal r d ∷ history))
 closing_begins setting r d history fair clean closed has =

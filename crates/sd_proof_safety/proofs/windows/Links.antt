@@ -13,13 +13,14 @@ use Rattle.sd_history.specs.Sched.Events.{is_stage, is_commit}
 use Rattle.sd_history.specs.Things.{failure_of, mended}
 use Rattle.sd_history.specs.World.{Setting, Seen, fails, is_thing, link_has_failed, window, has_commit, plan_numbered}
 use Rattle.sd_history.specs.Steps.{Step, seen_of}
-use Rattle.sd_history.specs.Chronicle.{next_step, chronicle, IsHistory}
-use Rattle.sd_history.specs.Refusals.{causes, unknown_link}
+use Rattle.sd_history.specs.Chronicle.{next_step, chronicle}
+use Rattle.sd_history.specs.Admitted.{IsAdmitted}
+use Rattle.sd_history.specs.Refusals.{unknown_link}
 use Rattle.sd_history.specs.Premises.{has_mend}
 use Rattle.sd_history.proofs.Among.{first, later, passes}
-use Rattle.sd_history.proofs.Contained.{none_holds}
+use Rattle.sd_history.proofs.Admitted.{rule_holds}
 use Rattle.sd_history.proofs.Shared.{among_below}
-use Rattle.sd_proof_safety.specs.invariant.Coming.{IsFair, IsClean}
+use Rattle.sd_proof_safety.specs.invariant.Guarded.{AreGuarded, IsSteady}
 use Rattle.sd_proof_safety.proofs.invariant.Orders.{renews}
 use Rattle.sd_proof_safety.proofs.invariant.Prefix.{clean_before}
 use Rattle.sd_proof_safety.proofs.invariant.Sides.{implied, not_both}
@@ -34,7 +35,7 @@ fails_known setting (event.FailDevice r k) l known same = cc
 fails_known setting _ l known same = cc
 
 -- a failed link is one of the network
-pub failed_link_known : (setting : Setting) (history : List Event) (l : ℕ) → IsHistory setting history
+pub failed_link_known : (setting : Setting) (history : List Event) (l : ℕ) → IsAdmitted setting history
     → link_has_failed (seen_of (chronicle setting history)) l ≡ true → l < length setting.net.links
 failed_link_known setting [] l is failed = cc
 failed_link_known setting (e ∷ history) l is failed =
@@ -43,7 +44,7 @@ failed_link_known setting (e ∷ history) l is failed =
     go : (f : Bool) → fails (thing.Link l) e ≡ f → (m : Bool) → (link_has_failed (seen_of (chronicle setting history)) l ≡ true → l < length setting.net.links)
         → map_or (if f then Some true else if m then Some false else None) (link_has_failed (seen_of (chronicle setting history)) l) (λ told. told) ≡ true
         → l < length setting.net.links
-    go true here m rest failed' = fails_known setting e l (none_holds (causes setting (chronicle setting history) e) _ is.1 (later first)) here
+    go true here m rest failed' = fails_known setting e l (rule_holds setting (chronicle setting history) e _ is.1 (later first) refl) here
     go false here true rest failed' = cc
     go false here false rest failed' = rest failed'
 
@@ -72,8 +73,8 @@ fails_none true true orderly = cc
 fails_none true false orderly = cc
 fails_none false mend orderly = refl
 
-module _ (setting : Setting) (fair : IsFair setting) where
-  at_commit : (e : Event) (history : List Event) → IsClean setting (e ∷ history) → is_commit e ≡ true → (l : ℕ)
+module _ (setting : Setting) (fair : AreGuarded setting) where
+  at_commit : (e : Event) (history : List Event) → IsSteady setting (e ∷ history) → is_commit e ≡ true → (l : ℕ)
       → is_present (staged_plan setting (chronicle setting history)) l ≡ true
       → link_has_failed (seen_of (chronicle setting (e ∷ history))) l ≡ false
   at_commit (event.Commit r d c) history clean commit l present =
@@ -89,7 +90,7 @@ module _ (setting : Setting) (fair : IsFair setting) where
   at_commit _ history clean commit l present = cc
 
   -- C10's links, from the commit on
-  pub staged_links : (history : List Event) → IsClean setting history → has_commit (seen_of (chronicle setting history)) ≡ true → (l : ℕ)
+  pub staged_links : (history : List Event) → IsSteady setting history → has_commit (seen_of (chronicle setting history)) ≡ true → (l : ℕ)
       → is_present (staged_plan setting (chronicle setting history)) l ≡ true
       → link_has_failed (seen_of (chronicle setting history)) l ≡ false
   staged_links [] clean commit l present = cc

@@ -13,7 +13,7 @@ use Rattle.sd_history.specs.Chronicle.{next_step, chronicle}
 use Rattle.sd_history.specs.Premises.{was_given}
 use Rattle.sd_proof_safety.specs.invariant.Eras.{era, plan_now, will_belong, is_old, is_new, is_blank}
 use Rattle.sd_proof_safety.specs.invariant.Clauses.{member_enters, counted_is_current}
-use Rattle.sd_proof_safety.specs.invariant.Coming.{IsFair, IsClean}
+use Rattle.sd_proof_safety.specs.invariant.Guarded.{AreGuarded, IsSteady}
 use Rattle.sd_proof_safety.proofs.invariant.Prefix.{clean_before}
 use Rattle.sd_proof_safety.proofs.windows.Eras.{era_kept}
 use Rattle.sd_proof_safety.proofs.windows.Frames.{staged_on, staged_epoch_on, epoch_on, given_on}
@@ -40,7 +40,7 @@ prepared_parts true true false false is = cc
 prepared_parts true false member joined_ is = cc
 prepared_parts false given member joined_ is = cc
 
-module _ (setting : Setting) (r d c : ℕ) (history : List Event) (fair : IsFair setting) (clean : IsClean setting (event.Commit r d c ∷ history))
+module _ (setting : Setting) (r d c : ℕ) (history : List Event) (fair : AreGuarded setting) (clean : IsSteady setting (event.Commit r d c ∷ history))
     (current : (x : ℕ) → is_up (seen_of (chronicle setting history)) x ≡ true → counted_is_current setting (chronicle setting history) x ≡ true) where
   asks : AtCommit setting (chronicle setting history) d
   asks = commit_asks setting r d c history fair clean

@@ -17,7 +17,8 @@ use Rattle.sd_history.specs.Sched.declared.Event.TheVariants as event
 use Rattle.sd_history.specs.Sched.Events.{is_commit}
 use Rattle.sd_history.specs.World.{Setting, Seen, is_up, window, has_commit, staged_epoch, plan_numbered}
 use Rattle.sd_history.specs.Steps.{Act, Makes, Calls, Asks, Passes, Answers, Step, seen_of, act_by, first_step, flight_numbered, live_answers, has_settled}
-use Rattle.sd_history.specs.Chronicle.{answers_by, past_in, past_after, told_by, chronicle, IsHistory}
+use Rattle.sd_history.specs.Chronicle.{answers_by, past_in, past_after, told_by, chronicle}
+use Rattle.sd_history.specs.Admitted.{IsAdmitted}
 use Rattle.sd_history.proofs.Among.{Among, first, passes}
 use Rattle.sd_proof_safety.specs.invariant.Eras.{is_new, live_past}
 use Rattle.sd_proof_safety.specs.invariant.Clauses.{just_closed}
@@ -167,7 +168,7 @@ some_first [] long = cc
 some_first (x ∷ xs) long = (x, first)
 
 module _ (setting : Setting) (history : List Event) where
-  settled_is_new : (x : ℕ) → IsHistory setting history → has_commit (seen_of (chronicle setting history)) ≡ false
+  settled_is_new : (x : ℕ) → IsAdmitted setting history → has_commit (seen_of (chronicle setting history)) ≡ false
       → has_settled (chronicle setting history) (staged_epoch (seen_of (chronicle setting history))) x ≡ true → ⊥
   settled_is_new x is none settled =
       let new : is_new (chronicle setting history) x ≡ true = epoch_of (live_answers (chronicle setting history) x) settled in
@@ -191,7 +192,7 @@ module _ (setting : Setting) (history : List Event) where
       let one = some_first (filter up (members setting.net (plan_numbered setting n))) rest.0 in
       never one.0 (passes now one.1 rest.1)
 
-  pub commit_closes_none : (r d c : ℕ) → IsHistory setting (event.Commit r d c ∷ history)
+  pub commit_closes_none : (r d c : ℕ) → IsAdmitted setting (event.Commit r d c ∷ history)
       → just_closed (chronicle setting (event.Commit r d c ∷ history)) ≡ false
   commit_closes_none r d c is =
       let e : Event = event.Commit r d c in

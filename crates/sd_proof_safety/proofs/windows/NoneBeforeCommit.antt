@@ -19,7 +19,8 @@ use Rattle.sd_history.specs.Sched.declared.Event.TheVariants as event
 use Rattle.sd_history.specs.Sched.Events.{reference_of, is_stage, is_commit}
 use Rattle.sd_history.specs.World.{Setting, Seen, is_up, window, has_commit, staged, staged_epoch}
 use Rattle.sd_history.specs.Steps.{Act, Makes, Calls, Asks, Passes, Answers, Step, seen_of, act_by, flights, flight_numbered, answers_in, given_in, epoch_in}
-use Rattle.sd_history.specs.Chronicle.{answers_by, new_past, past_in, past_after, next_step, chronicle, IsHistory}
+use Rattle.sd_history.specs.Chronicle.{answers_by, new_past, past_in, past_after, next_step, chronicle}
+use Rattle.sd_history.specs.Admitted.{IsAdmitted}
 use Rattle.sd_history.proofs.Among.{either_side, found, all_pass}
 use Rattle.sd_history.proofs.Bridges.{answers_by_words}
 use Rattle.sd_history.proofs.Given.{some_is, takes_given, tick_takes_none}
@@ -57,7 +58,7 @@ rises s n false false (Some v) shut = more (is_commit s.event) (list_any (λ x. 
     more false false = omega arith
 
 -- the reach never falls
-pub reach_rises : (setting : Setting) (e : Event) (history : List Event) → IsHistory setting (e ∷ history)
+pub reach_rises : (setting : Setting) (e : Event) (history : List Event) → IsAdmitted setting (e ∷ history)
     → reach (chronicle setting history) ≤ reach (chronicle setting (e ∷ history))
 reach_rises setting e history is =
     let steps = chronicle setting history in
@@ -214,7 +215,7 @@ module _ (setting : Setting) where
           by (Some a) is given'' = at (Some a) is given''
       go false given' = cc
 
-  brings : (e : Event) (history : List Event) → IsHistory setting (e ∷ history) → IsWithin (chronicle setting history)
+  brings : (e : Event) (history : List Event) → IsAdmitted setting (e ∷ history) → IsWithin (chronicle setting history)
       → BringsWithin (chronicle setting history) (reach (chronicle setting (e ∷ history))) (act_by setting (chronicle setting history) e)
   brings (event.Start r d c clock eps) history is old =
       let low = era_within (chronicle setting history) in
@@ -252,7 +253,7 @@ module _ (setting : Setting) where
   brings _ history is old = tt
 
   -- devices and messages stay within
-  pub within : (history : List Event) → IsHistory setting history → IsWithin (chronicle setting history)
+  pub within : (history : List Event) → IsAdmitted setting history → IsWithin (chronicle setting history)
   within [] is = record { epochs = λ d past there. cc; messages = λ f among. elim among [ ] }
   within (e ∷ history) is =
       let steps : List Step = chronicle setting history in
@@ -298,7 +299,7 @@ module _ (setting : Setting) where
   live_is_past false p past is = cc
 
   -- each device that is up is of an epoch within the reach
-  pub epoch_within : (history : List Event) → IsHistory setting history → (d n : ℕ) → same_number (epoch_in (chronicle setting history) d) n ≡ true
+  pub epoch_within : (history : List Event) → IsAdmitted setting history → (d n : ℕ) → same_number (epoch_in (chronicle setting history) d) n ≡ true
       → n ≤ reach (chronicle setting history)
   epoch_within history is d n same =
       let steps : List Step = chronicle setting history in
@@ -306,7 +307,7 @@ module _ (setting : Setting) where
       (λ past live. (within history is).epochs d past (live_is_past (is_up (seen_of steps) d) (past_in steps d) past live))
 
   -- C8
-  pub uncommitted : (history : List Event) → IsHistory setting history → IsUncommitted setting (chronicle setting history)
+  pub uncommitted : (history : List Event) → IsAdmitted setting history → IsUncommitted setting (chronicle setting history)
   uncommitted history is = record { devices = none_new; messages = none_ahead }
     where
       steps : List Step

@@ -20,7 +20,7 @@ use Rattle.sd_history.specs.Chronicle.{answers_by, past_in, past_after, next_ste
 use Rattle.sd_history.proofs.Given.{takes_given}
 use Rattle.sd_proof_safety.specs.invariant.Eras.{era, will_belong, is_old, is_new, is_blank}
 use Rattle.sd_proof_safety.specs.invariant.Clauses.{member_enters}
-use Rattle.sd_proof_safety.specs.invariant.Coming.{IsClean}
+use Rattle.sd_proof_safety.specs.invariant.Guarded.{IsSteady}
 use Rattle.sd_proof_safety.proofs.invariant.Parents.{live_is}
 use Rattle.sd_proof_safety.proofs.invariant.Sides.{implied}
 use Rattle.sd_proof_safety.proofs.windows.Eras.{era_kept}
@@ -80,7 +80,7 @@ step_enters n d x c true (Some q) (Some f) was = go (nat_eq d x)
     go false = or_right (entered_as n (Some (answers_by q))) _ was
 
 -- C9 b at a receipt
-pub receipt_keeps_entering : (setting : Setting) (r d c k : ℕ) (history : List Event) → IsClean setting (event.Recv r d c k ∷ history) → (x : ℕ)
+pub receipt_keeps_entering : (setting : Setting) (r d c k : ℕ) (history : List Event) → IsSteady setting (event.Recv r d c k ∷ history) → (x : ℕ)
     → member_enters setting (chronicle setting history) x ≡ true
     → member_enters setting (chronicle setting (event.Recv r d c k ∷ history)) x ≡ true
 receipt_keeps_entering setting r d c k history clean x before =

@@ -7,7 +7,7 @@ use Rattle.sd_checker.specs.Plan.declared.Duty.{Duty}
 use Rattle.sd_checker.specs.Plan.declared.Edge.{Edge}
 use Rattle.sd_checker.specs.Plan.Plans.{is_root}
 use Rattle.sd_checker.proofs.Plan.Rules.{KeepsRules, keeps_rules}
-use Rattle.sd_checker.specs.Verdicts.{IsAccepted}
+use Rattle.sd_proof_safety.specs.invariant.Guarded.{IsGuarded, AreGuarded, IsSteady}
 use Rattle.sd_history.specs.Msg.declared.Flight.{Flight}
 use Rattle.sd_history.specs.Core.Calls as calls
 use Rattle.sd_history.specs.Core.Calls.{Call, Past}
@@ -17,9 +17,8 @@ use Rattle.sd_history.specs.Sched.declared.Event.TheVariants as event
 use Rattle.sd_history.specs.World.{Setting, is_up, has_commit, staged_epoch, plan_numbered}
 use Rattle.sd_history.specs.Steps.{Calls, Passes, Step, seen_of, changed, act_by, flights, flight_numbered, epoch_in}
 use Rattle.sd_history.specs.Chronicle.{past_in, past_after, next_step, chronicle}
-use Rattle.sd_history.specs.Refusals.{causes}
 use Rattle.sd_history.proofs.Among.{first, later, found}
-use Rattle.sd_history.proofs.Contained.{none_holds}
+use Rattle.sd_history.proofs.Admitted.{rule_holds}
 use Rattle.sd_history.proofs.Given.{some_is, takes_given}
 use Rattle.sd_proof_safety.specs.messages.Moments.{Accepts, entering, following}
 use Rattle.sd_proof_safety.proofs.messages.Tails.{history_chronicle}
@@ -27,10 +26,9 @@ use Rattle.sd_proof_safety.proofs.messages.Sending.{passes_on, accepted_why}
 use Rattle.sd_proof_safety.specs.messages.Hops.{Leads}
 use Rattle.sd_proof_safety.proofs.messages.Parents.{planned, accepted_leads}
 use Rattle.sd_proof_safety.specs.invariant.Eras.{era, is_new, live_past}
-use Rattle.sd_proof_safety.specs.invariant.Coming.{IsFair, IsClean}
 use Rattle.sd_proof_safety.proofs.invariant.Prefix.{clean_before}
 use Rattle.sd_proof_safety.proofs.invariant.Sides.{not_both}
-use Rattle.sd_history.proofs.Known.{named_is_known}
+use Rattle.sd_history.proofs.Known.{admitted_named_is_known}
 use Rattle.sd_proof_safety.proofs.timers.Turns.{after_entering}
 use Rattle.sd_proof_safety.specs.windows.Reaching.{reach}
 use Rattle.sd_proof_safety.proofs.windows.NoneBeforeCommit.{within}
@@ -43,7 +41,7 @@ use Rattle.sd_proof_safety.proofs.windows.Senders.{NewPast, new_past_of, new_by_
 use Rattle.sd_proof_safety.proofs.windows.Leading.{IsLinked}
 use Rattle.sd_proof_safety.proofs.windows.Entering.{flights_lead, one_parent, enters_so, TurnsNone, turns_none, linked_by, stands_of, parent_of}
 
-module _ (setting : Setting) (r d c n : ℕ) (history : List Event) (fair : IsFair setting) (clean : IsClean setting (event.Recv r d c n ∷ history))
+module _ (setting : Setting) (r d c n : ℕ) (history : List Event) (fair : AreGuarded setting) (clean : IsSteady setting (event.Recv r d c n ∷ history))
     (before : (x : ℕ) → is_new (chronicle setting history) x ≡ true → is_root (staged_plan setting (chronicle setting history)) x ≡ false
     → IsLinked (chronicle setting history) x) where
   abbrev e : Event
@@ -146,7 +144,7 @@ module _ (setting : Setting) (r d c n : ℕ) (history : List Event) (fair : IsFa
       receiver_is : f.receiver ≡ d
       receiver_is =
           by (flight_numbered (chronicle setting history) n) is
-          (none_holds (causes setting (chronicle setting history) (event.Recv r d c n)) _ clean.is.1 (later (later (later (later (later (later first)))))))
+          (rule_holds setting (chronicle setting history) (event.Recv r d c n) _ clean.is.1 (later (later (later (later (later (later first)))))) refl)
         where
           by : (o : Option Flight) → o ≡ Some f → map_or o false (λ g. not (same_number (Some d) g.receiver)) ≡ false → f.receiver ≡ d
           by None same right = cc
@@ -181,12 +179,12 @@ module _ (setting : Setting) (r d c n : ℕ) (history : List Event) (fair : IsFa
               reached (has_commit (seen_of (chronicle setting history))) (era (chronicle setting history))
               (subst (λ k. k ≤ reach (chronicle setting history)) epoch
               ((within setting history clean.is.0).messages f (found (λ g. nat_eq g.number n) f (flights (chronicle setting history)) is))) in
-              let accepted : IsAccepted setting.net (staged_plan setting (chronicle setting history)) =
-              staged_too (IsAccepted setting.net) setting history fair.accepted clean.is.0 (commit_is_open (seen_of (chronicle setting history)) commit) in
+              let guarded : IsGuarded setting.net (staged_plan setting (chronicle setting history)) =
+              staged_too (IsGuarded setting.net) setting history fair.guarded clean.is.0 (commit_is_open (seen_of (chronicle setting history)) commit) in
               let rules : KeepsRules setting.net (plan_numbered setting f.message.epoch) =
               subst (λ k. KeepsRules setting.net (plan_numbered setting k)) (sym epoch)
-              (keeps_rules setting.net (staged_plan setting (chronicle setting history)) accepted.structure) in
-              let known : d < length setting.net.devices = named_is_known setting (chronicle setting history) (event.Recv r d c n) d clean.is.1 refl in
+              (keeps_rules setting.net (staged_plan setting (chronicle setting history)) guarded.structure) in
+              let known : d < length setting.net.devices = admitted_named_is_known setting (chronicle setting history) (event.Recv r d c n) d clean.is.1 refl in
               let same_parent : edge.parent ≡ f.sender =
               one_parent setting.net (plan_numbered setting f.message.epoch) d edge.parent f.sender f.link rules known
               (subst (λ l. Leads (plan_numbered setting f.message.epoch) d edge.parent l) link one)

@@ -16,7 +16,7 @@ use Rattle.sd_history.specs.Chronicle.{next_step, chronicle}
 use Rattle.sd_proof_safety.specs.invariant.Bounds.{depth, delay, rounds_gap}
 use Rattle.sd_proof_safety.specs.invariant.Eras.{plan_now, will_belong, failed_now, is_new, root_failed}
 use Rattle.sd_proof_safety.specs.invariant.Clauses.{committer_is_root, member_entered, commit_at, staged_root}
-use Rattle.sd_proof_safety.specs.invariant.Coming.{IsClean}
+use Rattle.sd_proof_safety.specs.invariant.Guarded.{IsSteady}
 use Rattle.sd_proof_safety.proofs.invariant.Sides.{implied}
 use Rattle.sd_proof_safety.proofs.windows.Eras.{committing, plan_kept}
 use Rattle.sd_proof_safety.proofs.windows.NoClosing.{receipt_closes_none, commit_closes_none}
@@ -25,7 +25,7 @@ use Rattle.sd_proof_safety.proofs.windows.Senders.{new_stays}
 use Rattle.sd_proof_safety.proofs.invariant.Opening.{gives}
 
 -- C9 c at a receipt: the staged root
-pub receipt_keeps_committer : (setting : Setting) (r d c k : ℕ) (history : List Event) → IsClean setting (event.Recv r d c k ∷ history)
+pub receipt_keeps_committer : (setting : Setting) (r d c k : ℕ) (history : List Event) → IsSteady setting (event.Recv r d c k ∷ history)
     → committer_is_root setting (chronicle setting history) ≡ true
     → committer_is_root setting (chronicle setting (event.Recv r d c k ∷ history)) ≡ true
 receipt_keeps_committer setting r d c k history clean before = gives (has_commit (seen_of (chronicle setting (event.Recv r d c k ∷ history)))) _ shown
@@ -88,7 +88,7 @@ commit_now s r (Some v) some is at =
     (λ told. told)) is ∙ at
 
 -- C9 b at a commit: it is not yet late
-pub commit_is_in_time : (setting : Setting) (r d c : ℕ) (history : List Event) → IsClean setting (event.Commit r d c ∷ history) → (x : ℕ)
+pub commit_is_in_time : (setting : Setting) (r d c : ℕ) (history : List Event) → IsSteady setting (event.Commit r d c ∷ history) → (x : ℕ)
     → member_entered setting (chronicle setting (event.Commit r d c ∷ history)) x ≡ true
 commit_is_in_time setting r d c history clean x =
     late_by (has_commit (seen_of (chronicle setting (event.Commit r d c ∷ history))))

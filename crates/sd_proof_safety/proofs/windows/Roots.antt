@@ -1,4 +1,4 @@
--- Of an accepted plan: the backup root is a member, and is not the root.
+-- Of a guarded plan: the backup root is a member, and is not the root.
 use Rattle.std.specs.Prelude.{◌≡◌, Bool, true, false, ◌||◌, not, nat_eq, Some, None, option_map, refl, if◌then◌else◌}
 use Rattle.sd_checker.specs.Topo.Network.{Network}
 use Rattle.sd_checker.specs.Plan.declared.Plan.{Plan}

@@ -8,6 +8,7 @@ use Rattle.sd_checker.specs.Topo.declared.Thing.TheVariants as thing
 use Rattle.sd_checker.specs.Plan.declared.Duty.{Duty}
 use Rattle.sd_checker.specs.Plan.declared.Plan.{Plan}
 use Rattle.sd_checker.specs.Plan.Duties.{duty_of}
+use Rattle.sd_history.specs.Admitted.{Admits}
 use Rattle.sd_history.specs.Msg.declared.Flight.{Flight}
 use Rattle.sd_history.specs.Core.Calls as calls
 use Rattle.sd_history.specs.Core.Calls.{Making, Call, Past}
@@ -19,14 +20,14 @@ use Rattle.sd_history.specs.Things.{failure_of}
 use Rattle.sd_history.specs.World.{Setting, is_thing, up_after, is_up, has_commit, staged, staged_epoch}
 use Rattle.sd_history.specs.Steps.{Act, Makes, Calls, Asks, Passes, Step, seen_of, act_by, flights, flight_numbered}
 use Rattle.sd_history.specs.Chronicle.{answers_by, past_in, past_after, next_step, chronicle}
-use Rattle.sd_history.specs.Refusals.{causes, refusal, not_started}
+use Rattle.sd_history.specs.Refusals.{not_started}
 use Rattle.sd_history.proofs.Among.{Among, first, later, either_side}
-use Rattle.sd_history.proofs.Contained.{none_holds}
+use Rattle.sd_history.proofs.Admitted.{rule_holds}
 use Rattle.sd_history.proofs.Given.{takes_given}
 use Rattle.sd_proof_safety.proofs.messages.Sending.{sends_own}
 use Rattle.sd_proof_safety.proofs.messages.Flights.{IsSentBy, sent_by}
 use Rattle.sd_proof_safety.specs.invariant.Eras.{era, is_new, live_past}
-use Rattle.sd_proof_safety.specs.invariant.Coming.{IsClean}
+use Rattle.sd_proof_safety.specs.invariant.Guarded.{IsSteady}
 use Rattle.sd_proof_safety.proofs.invariant.Parents.{live_is}
 use Rattle.sd_proof_safety.proofs.invariant.Prefix.{clean_before}
 use Rattle.sd_proof_safety.proofs.invariant.Sides.{not_both}
@@ -72,7 +73,7 @@ unmoved x (Some y) p f a b c = cc
 unmoved x None (Some y) f a b c = cc
 unmoved x None None (Some y) a b c = cc
 
-module _ (setting : Setting) (e : Event) (history : List Event) (clean : IsClean setting (e ∷ history))
+module _ (setting : Setting) (e : Event) (history : List Event) (clean : IsSteady setting (e ∷ history))
     (open_ : (next_step setting (chronicle setting history) e).seen.closed ≡ false) where
   pub new_stays : (x : ℕ) → is_new (chronicle setting history) x ≡ true → is_new (chronicle setting (e ∷ history)) x ≡ true
   new_stays x new = new_by_past setting (e ∷ history) x (by (act_by setting (chronicle setting history) e) refl)
@@ -154,9 +155,9 @@ module _ (setting : Setting) (steps : List Step) (d : ℕ) (call : Call) where
   by_give e v None duty stays started_ same = cc
   by_give e v (Some plan) duty stays started_ same = by_name e v (device_is same) stays started_
 
-  pub called_is_up : (e : Event) → refusal setting steps e ≡ None → act_by setting steps e ≡ Calls d call → IsCalled steps e d
+  pub called_is_up : (e : Event) → Admits setting steps e → act_by setting steps e ≡ Calls d call → IsCalled steps e d
   called_is_up e none same =
-      go e (none_holds (causes setting steps e) _ none (later (later (later (later (later (later (later (later (later first)))))))))) same
+      go e (rule_holds setting steps e _ none (later (later (later (later (later (later (later (later (later first))))))))) refl) same
     where
       go : (x : Event) → not_started (seen_of steps) x ≡ false → act_by setting steps x ≡ Calls d call → IsCalled steps x d
       go (event.Tick r v c) started_ is = by_name (event.Tick r v c) v (device_is is) refl started_
@@ -174,7 +175,7 @@ too_far : (n m : ℕ) → m ≡ n → n + 1 ≤ m → ⊥
 too_far n m same le = omega (arith, same, le)
 
 -- who sent a message of the staged epoch is new
-pub senders_new : (setting : Setting) (history : List Event) → IsClean setting history → (f : Flight) → Among f (flights (chronicle setting history))
+pub senders_new : (setting : Setting) (history : List Event) → IsSteady setting history → (f : Flight) → Among f (flights (chronicle setting history))
     → f.message.epoch ≡ staged_epoch (seen_of (chronicle setting history))
     → is_new (chronicle setting history) f.sender ≡ true
 senders_new setting [] clean f among epoch = elim among [ ]

@@ -17,11 +17,12 @@ use Rattle.sd_history.specs.Sched.Events.{started, joined, given, is_stage, is_c
 use Rattle.sd_history.specs.Things.{failure_of, mended}
 use Rattle.sd_history.specs.World.{Setting, window, window_is_open, has_commit, staged, staged_epoch}
 use Rattle.sd_history.specs.Steps.{Act, Makes, Calls, Asks, Passes, Step, seen_of, act_by, flight_numbered}
-use Rattle.sd_history.specs.Chronicle.{new_past, past_in, past_after, next_step, chronicle, IsHistory}
+use Rattle.sd_history.specs.Chronicle.{new_past, past_in, past_after, next_step, chronicle}
+use Rattle.sd_history.specs.Admitted.{IsAdmitted}
 use Rattle.sd_history.specs.Premises.{has_mend}
 use Rattle.sd_history.proofs.Given.{some_is, given_stays_or_goes}
 use Rattle.sd_proof_safety.specs.invariant.Eras.{era}
-use Rattle.sd_proof_safety.specs.invariant.Coming.{IsClean}
+use Rattle.sd_proof_safety.specs.invariant.Guarded.{IsSteady}
 use Rattle.sd_proof_safety.proofs.invariant.Orders.{renews, orderly, staged_before}
 use Rattle.sd_proof_safety.proofs.invariant.Sides.{not_both}
 use Rattle.sd_proof_safety.specs.windows.Reaching.{reach_of, reach}
@@ -61,7 +62,7 @@ stages_none true true h is = cc
 stages_none true false h is = cc
 stages_none false opened h is = refl
 
-pub rests_at : (setting : Setting) (e : Event) (history : List Event) → IsClean setting (e ∷ history) → has_commit (seen_of (chronicle setting history)) ≡ true
+pub rests_at : (setting : Setting) (e : Event) (history : List Event) → IsSteady setting (e ∷ history) → has_commit (seen_of (chronicle setting history)) ≡ true
     → RestsAt e
 rests_at setting e history clean commit =
     let seen = seen_of (chronicle setting history) in
@@ -168,7 +169,7 @@ module _ (setting : Setting) where
   abbrev NewHasNone : List Step → Type 0
   NewHasNone steps = (x : ℕ) (past : Past) → past_in steps x ≡ Some past → epoch_now past ≡ staged_epoch (seen_of steps) → given_now past ≡ None
 
-  none_after : (e : Event) (history : List Event) → IsHistory setting (e ∷ history) → NewHasNone (chronicle setting history) → (act : Act)
+  none_after : (e : Event) (history : List Event) → IsAdmitted setting (e ∷ history) → NewHasNone (chronicle setting history) → (act : Act)
       → act_by setting (chronicle setting history) e ≡ act
       → (x : ℕ) (past : Past) → past_after act x (past_in (chronicle setting history) x) ≡ Some past
       → epoch_now past ≡ staged_epoch (seen_of (chronicle setting history)) → given_now past ≡ None
@@ -216,7 +217,7 @@ module _ (setting : Setting) where
       (list_any (λ x. is_commit x.event))) (era (s ∷ steps))) closed
 
   -- a device of the staged epoch has no given duty
-  pub new_has_none : (history : List Event) → IsHistory setting history → NewHasNone (chronicle setting history)
+  pub new_has_none : (history : List Event) → IsAdmitted setting history → NewHasNone (chronicle setting history)
   new_has_none [] is = λ x past there epoch. cc
   new_has_none (e ∷ history) is =
       by (next_step setting (chronicle setting history) e).seen.closed refl

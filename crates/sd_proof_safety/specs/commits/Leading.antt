@@ -1,6 +1,5 @@
 -- After a commit of the backup root: an event that comes in the era of that commit, and a reference later than which the backup root acted throughout.
 use Rattle.std.specs.Prelude.{◌≡◌, ℕ, ◌<◌, ◌≤◌, true, false, List, ◌∷◌}
-use Rattle.sd_checker.specs.Plan.declared.Plan.{Plan}
 use Rattle.sd_history.specs.Sched.declared.Event.{Event}
 use Rattle.sd_history.specs.World.{Setting, has_commit, staged_epoch, plan_numbered}
 use Rattle.sd_history.specs.Steps.{seen_of, acts_in}

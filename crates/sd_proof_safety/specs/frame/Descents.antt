@@ -18,7 +18,8 @@ use Rattle.sd_history.specs.Steps.{Step, flight_numbered}
 use Rattle.sd_history.specs.Chronicle.{past_in, chronicle}
 use Rattle.sd_proof_safety.specs.invariant.Eras.{era, plan_now}
 use Rattle.sd_proof_safety.specs.invariant.Clauses.{above_backup_root, backup_root_stays}
-use Rattle.sd_proof_safety.specs.invariant.Coming.{IsFair, IsClean, IsNextEvent}
+use Rattle.sd_proof_safety.specs.invariant.Guarded.{AreGuarded, IsSteady}
+use Rattle.sd_proof_safety.specs.invariant.Coming.{IsNextEvent}
 use Rattle.sd_proof_safety.specs.invariant.Invariant.{Invariant, AtEach}
 use Rattle.sd_proof_safety.specs.messages.Moments.{Tail, Moment, IsIn, Emits}
 use Rattle.sd_proof_safety.specs.messages.Traces.{Hop}
@@ -47,7 +48,7 @@ ComesDown setting =
 -- while an old backup root is on its primary, no device of its path but the root has moved or acted in the plan in force, at any event so far
 abbrev pub StoodThen : Setting → Type 0
 StoodThen setting =
-    (history : List Event) → IsFair setting → IsClean setting history → AtEach (Invariant setting) (chronicle setting history)
+    (history : List Event) → AreGuarded setting → IsSteady setting history → AtEach (Invariant setting) (chronicle setting history)
     → backup_root_stays setting (chronicle setting history) ≡ true
     → (y : ℕ) → (nat_eq y (plan_now setting (chronicle setting history)).backup_root || has (above_backup_root setting (chronicle setting history)) y) ≡ true
     → is_root (plan_now setting (chronicle setting history)) y ≡ false

@@ -1,7 +1,7 @@
 -- The clauses of the invariant, each a test of the state after steps, most of them of one device or link: so they compute on a given history.
 use Rattle.std.specs.Prelude.{ℕ, ◌+◌, ◌*◌, Bool, false, ◌&&◌, ◌||◌, not, List, [], ◌∷◌, map, max, nat_eq, nat_le, nat_lt, Some, None, is_some, if◌then◌else◌}
 use Rattle.std.specs.List.{list_any, list_all}
-use Rattle.sd_checker.specs.Num.Lists.{below, has, map_or, same_number, find_map_or}
+use Rattle.sd_checker.specs.Num.Lists.{below, has, map_or, same_number, find_map_or, follow}
 use Rattle.sd_checker.specs.Plan.Plans.{is_member, is_present, is_root}
 use Rattle.sd_checker.specs.Plan.Walks.{walk}
 use Rattle.sd_checker.specs.CheckRoot.Timing.{round_gap, silence}
@@ -10,7 +10,6 @@ use Rattle.sd_history.specs.Sched.Events.{reference_of, started, joined, is_stag
 use Rattle.sd_history.specs.Things.{failure_of, mended}
 use Rattle.sd_history.specs.World.{Setting, Seen, is_up, link_has_failed, is_untouched, latest_reference, window, in_window, has_commit, staged_epoch, staged, is_counted, is_staged_member, joined_in_window, plan_numbered}
 use Rattle.sd_history.specs.Steps.{Step, seen_of, parent_in, acts_in, given_in, has_settled, flights}
-use Rattle.sd_history.specs.Lines.{follow}
 use Rattle.sd_proof_safety.specs.invariant.Bounds.{depth, delay, tick_gap, rounds_gap}
 use Rattle.sd_proof_safety.specs.invariant.Eras.{era, plan_now, device_failed_now, link_failed_now, all_started, is_old, is_new, is_blank, is_past, moved, on_primary, belongs, will_belong, is_ordinary, hit, hit_otherwise, path_hit, root_failed, root_lives, heard_at, sent_at, has_emission, none_after, none_after_in_window}
 

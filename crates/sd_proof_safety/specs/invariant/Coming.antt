@@ -1,5 +1,5 @@
--- What each step of the proof is given: a history over accepted plans, with an event more, in which no premise is broken, and the invariant
--- after each event before that one.
+-- What each step of the proof is given: a steady history over guarded plans, with an event more, and the invariant after each event before that one.
+-- And what the theorem on replayed histories is given: accepted plans, and a history in which no premise is broken.
 use Rattle.std.specs.Prelude.{◌≤◌, List, ◌∷◌, length, IsTrue, ℕ}
 use Rattle.sd_checker.specs.Topo.Network.{Each}
 use Rattle.sd_checker.specs.Topo.Limits.{IsNetwork}
@@ -11,6 +11,7 @@ use Rattle.sd_history.specs.World.{Setting}
 use Rattle.sd_history.specs.Steps.{Step, seen_of}
 use Rattle.sd_history.specs.Chronicle.{chronicle, IsHistory}
 use Rattle.sd_history.specs.Premises.{all_hold}
+use Rattle.sd_proof_safety.specs.invariant.Guarded.{AreGuarded, IsSteady}
 use Rattle.sd_proof_safety.specs.invariant.Invariant.{Invariant, AtEach}
 
 -- a topology as a text can say it, and at least one plan, each of which fits it and is accepted
@@ -27,8 +28,8 @@ pub record IsClean (setting : Setting) (history : List Event) : Type 0 where
 
 -- the event comes after the history, and the invariant holds after each event before
 pub record IsNextEvent (setting : Setting) (history : List Event) (e : Event) : Type 0 where
-  pub fair : IsFair setting
-  pub clean : IsClean setting (e ∷ history)
+  pub fair : AreGuarded setting
+  pub clean : IsSteady setting (e ∷ history)
   pub before : AtEach (Invariant setting) (chronicle setting history)
 
 -- what is said of the state before an event and the event's reference, at each event that comes so

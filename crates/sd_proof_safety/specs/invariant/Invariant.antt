@@ -1,4 +1,4 @@
--- The invariant of histories whose plans are accepted and in which no premise is broken: what holds of the state after each event. A record for
+-- The invariant of histories whose plans are guarded and in which all premises but start hold: what holds of the state after each event. A record for
 -- each of its parts; their fields are tests, of all devices or links. Then the same as one test, which computes on a given history.
 use Rattle.std.specs.Prelude.{ℕ, Bool, true, ◌&&◌, ◌||◌, List, [], ◌∷◌, IsTrue}
 use Rattle.std.specs.List.{list_any, list_all}

@@ -1,4 +1,4 @@
--- The induction: each kind of event keeps the invariant, so it holds after each event of a clean history, and from it follow no loop and at
+-- The induction: each kind of event keeps the invariant, so it holds after each event of a steady history, and from it follow no loop and at
 -- most one root.
 use Rattle.std.specs.Prelude.{◌≡◌, ℕ, ◌≤◌, Bool, true, false, List, ◌∷◌, length, None}
 use Rattle.sd_checker.specs.Num.Lists.{map_or}
@@ -13,6 +13,7 @@ use Rattle.sd_history.specs.Chronicle.{past_in, chronicle}
 use Rattle.sd_history.specs.Lines.{first_on_loop, roots}
 use Rattle.sd_proof_safety.specs.invariant.Invariant.{Core, Invariant, AtEach}
 use Rattle.sd_proof_safety.specs.invariant.Clauses.{just_closed}
+use Rattle.sd_proof_safety.specs.invariant.Guarded.{AreGuarded, IsSteady}
 use Rattle.sd_proof_safety.specs.invariant.Coming.{IsFair, IsClean, IsNextEvent}
 
 -- the core of the invariant holds after the event, wherever it comes
@@ -60,27 +61,31 @@ pub record EachKeeps (setting : Setting) : Type 0 where
   pub mend_link : (reference l : ℕ) → Keeps setting (event.MendLink reference l)
   pub ends : (reference : ℕ) → Keeps setting (event.End reference)
 
--- the invariant holds after each event of a clean history
+-- the invariant holds after each event of a steady history
 abbrev pub StaysInvariant : Setting → Type 0
-StaysInvariant setting = (history : List Event) → IsFair setting → IsClean setting history → AtEach (Invariant setting) (chronicle setting history)
+StaysInvariant setting = (history : List Event) → AreGuarded setting → IsSteady setting history → AtEach (Invariant setting) (chronicle setting history)
 
 -- no loop of live devices, and at most one acts
 pub record IsSafe (setting : Setting) (steps : List Step) : Type 0 where
   pub loop : first_on_loop setting steps ≡ None
   pub root : length (roots setting steps) ≤ 1
 
--- the invariant gives it, in a clean history
+-- the invariant gives it, in a steady history
 abbrev pub InvariantIsSafe : Setting → Type 0
 InvariantIsSafe setting =
-    (e : Event) (history : List Event) → IsFair setting → IsClean setting (e ∷ history) → Invariant setting (chronicle setting (e ∷ history))
+    (e : Event) (history : List Event) → AreGuarded setting → IsSteady setting (e ∷ history) → Invariant setting (chronicle setting (e ∷ history))
     → IsSafe setting (chronicle setting (e ∷ history))
 
 -- Safe phase: no window was opened, or none since a closing.
 abbrev pub SafePhase : Setting → Type 0
 SafePhase setting =
-    (history : List Event) → IsFair setting → IsClean setting history → window_is_open (seen_of (chronicle setting history)) ≡ false
+    (history : List Event) → AreGuarded setting → IsSteady setting history → window_is_open (seen_of (chronicle setting history)) ≡ false
     → IsSafe setting (chronicle setting history)
 
--- at all times, renewals among them
+-- at all times, renewals among them, in a history of any length: under plans that meet five conditions, while the premises but start hold
+abbrev pub AlwaysSafe : Setting → Type 0
+AlwaysSafe setting = (history : List Event) → AreGuarded setting → IsSteady setting history → IsSafe setting (chronicle setting history)
+
+-- so under accepted plans, while no premise is broken
 abbrev pub StaysSafe : Setting → Type 0
 StaysSafe setting = (history : List Event) → IsFair setting → IsClean setting history → IsSafe setting (chronicle setting history)

@@ -1,8 +1,9 @@
 -- Moments of a chronicle: an event with the steps before it. A moment lies in a list of steps where its steps are what is left of the
 -- list behind its newest ones. What a device sends, emits and accepts at a moment is told from its past before it.
-use Rattle.std.specs.Prelude.{◌≡◌, ℕ, Bool, true, false, List, [], ◌∷◌, Some, None}
+use Rattle.std.specs.Prelude.{◌≡◌, ℕ, Bool, true, false, List, [], ◌∷◌, Some}
 use Rattle.sd_checker.specs.Plan.declared.Duty.{Duty}
 use Rattle.sd_checker.specs.Plan.declared.Edge.{Edge}
+use Rattle.sd_history.specs.Admitted.{Admits}
 use Rattle.sd_history.specs.Msg.declared.Message.{Message}
 use Rattle.sd_history.specs.Msg.declared.Flight.{Flight}
 use Rattle.sd_history.specs.Msg.Stamps.{is_newer}
@@ -12,7 +13,6 @@ use Rattle.sd_history.specs.Core.Words.{transition_of, effect_of, accepted_over,
 use Rattle.sd_history.specs.Sched.Events.{reference_of}
 use Rattle.sd_history.specs.World.{Setting}
 use Rattle.sd_history.specs.Steps.{Step, Calls}
-use Rattle.sd_history.specs.Refusals.{refusal}
 use Rattle.sd_history.specs.Chronicle.{past_in, next_step}
 
 -- what is left of a list behind its newest elements
@@ -24,7 +24,7 @@ pub data Tail {A : Type 0} (older : List A) : List A → Type 0 where
 abbrev pub IsChronicle : Setting → List Step → Type 0
 IsChronicle setting [] = Unit {0}
 IsChronicle setting (s ∷ earlier) =
-    IsChronicle setting earlier × (s ≡ next_step setting earlier s.seen.event) × (refusal setting earlier s.seen.event ≡ None)
+    IsChronicle setting earlier × (s ≡ next_step setting earlier s.seen.event) × (Admits setting earlier s.seen.event)
 
 -- an event with the steps before it
 pub record Moment : Type 0 where

@@ -1,6 +1,5 @@
 -- Rounds that everyone hears: a way that is open to a round, and that the round went along it.
 use Rattle.std.specs.Prelude.{◌≡◌, ℕ, ◌+◌, ◌<◌, ◌≤◌, Bool, true, false, List, [], ◌∷◌, length, Some, ◌⊎◌}
-use Rattle.std.specs.List.{list_any}
 use Rattle.sd_checker.specs.Topo.declared.Thing.TheVariants as thing
 use Rattle.sd_checker.specs.Topo.Network.{least_low}
 use Rattle.sd_checker.specs.Plan.declared.Edge.{Edge}
@@ -14,14 +13,9 @@ use Rattle.sd_history.specs.Core.Words.{transition_of, accepted_over, epoch_now,
 use Rattle.sd_history.specs.World.{Setting, Seen, fails, is_up, link_has_failed, latest_reference, epoch_in_force, staged_epoch, window_is_open, plan_numbered}
 use Rattle.sd_history.specs.Steps.{Step, Calls, seen_of, ends_at}
 use Rattle.sd_history.specs.Chronicle.{past_in}
-use Rattle.sd_history.specs.Premises.{spoiled_rounds, is_round}
 use Rattle.sd_history.proofs.Among.{Among}
 use Rattle.sd_proof_safety.specs.messages.Moments.{Moment, upto, when, IsIn, IsBefore, Sends, Emits}
 use Rattle.sd_proof_safety.specs.messages.Stamping.{IsUpTo, EntersNot, remakes}
-
--- some message of the round is spoiled
-abbrev pub is_spoiled : List Seen → ℕ → ℕ → Bool
-is_spoiled seen term round = list_any (λ other. is_round other term round) (spoiled_rounds seen)
 
 -- the device accepts this message over this link at the moment
 pub record Takes (p : Moment) (d l : ℕ) (m : Message) (c : ℕ) : Type 0 where

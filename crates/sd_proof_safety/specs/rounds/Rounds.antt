@@ -10,8 +10,9 @@ use Rattle.sd_history.specs.World.{Setting, fails, is_up, link_has_failed, epoch
 use Rattle.sd_history.specs.Steps.{seen_of}
 use Rattle.sd_history.specs.Chronicle.{past_in}
 use Rattle.sd_history.specs.Premises.{delay_holds, renew_holds}
+use Rattle.sd_history.specs.Rounds.{is_spoiled}
 use Rattle.sd_proof_safety.specs.messages.Moments.{IsChronicle, Moment, upto, when, IsIn, IsBefore, Emits}
-use Rattle.sd_proof_safety.specs.messages.Rounds.{is_spoiled, IsReady, IsOneLife, AreApart}
+use Rattle.sd_proof_safety.specs.messages.Rounds.{IsReady, IsOneLife, AreApart}
 
 -- the source emits a clean round of the epoch at the first moment, and no newer term is emitted in that epoch
 pub record IsRound (setting : Setting) (top : Moment) (source epoch : ℕ) (start : Moment) (limit : ℕ) : Type 0 where
