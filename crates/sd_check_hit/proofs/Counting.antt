@@ -9,12 +9,9 @@ use Rattle.std.proofs.lemmas.List.Sums.{sum_by-cons, sum_by-append}
 use Rattle.std.proofs.lemmas.List.Sorted.{IsNonDecreasingBy-drop, IsNonDecreasingBy-push}
 use Rattle.std.proofs.lemmas.List.Kept.{IsNonDecreasingBy-filter}
 use Rattle.sd_num.specs.Lists.{below}
+use Rattle.sd_num.specs.Counts.{one_if}
 use Rattle.sd_check_hit.specs.Spans.{picked}
 use Rattle.sd_check_hit.proofs.Picked.{picked_more}
-
--- 1 for what is so
-abbrev pub one_if : Bool → ℕ
-one_if t = cond t 1 0
 
 -- how often a number comes in a list
 abbrev pub times : ℕ → List ℕ → ℕ

@@ -8,6 +8,7 @@ use Rattle.std.proofs.lemmas.List.Folds.{list_any-append}
 use Rattle.std.proofs.lemmas.List.Sorted.{sum_by-IsPermutation, list_any-IsPermutation}
 use Rattle.std.proofs.lemmas.Option.{slice_get-get_or, slice_get_within}
 use Rattle.sd_num.specs.Lists.{below, has, map_or}
+use Rattle.sd_num.specs.Counts.{one_if}
 use Rattle.sd_topo.specs.Network.{Network}
 use Rattle.sd_topo.specs.Limits.{IsNetwork}
 use Rattle.sd_topo.specs.Places.{domain_of}
@@ -24,7 +25,7 @@ use Rattle.sd_plan.proofs.Shared.{carried_length}
 use Rattle.sd_check_hit.specs.Hit.{hit_by}
 use Rattle.sd_check_hit.specs.Spans.{non_empty, outside, behind_first, below_device, below_child, below_link, below_domain, is_covered, picked}
 use Rattle.sd_check_hit.proofs.Bounds.{devices_within, links_within}
-use Rattle.sd_check_hit.proofs.Counting.{one_if, times, times_filtered, times_picked, times_absent, same_sorted, filtered_rises}
+use Rattle.sd_check_hit.proofs.Counting.{times, times_filtered, times_picked, times_absent, same_sorted, filtered_rises}
 use Rattle.sd_check_hit.proofs.Covered.{covered-non_empty, covered-outside, within-behind_first, covered-flat_map}
 use Rattle.sd_check_hit.proofs.Cut.{above_member, epath_device, epath_link, child_member, on_root, no_root_path, no_path}
 use Rattle.sd_check_hit.proofs.Picked.{picked_agree}

@@ -13,12 +13,9 @@ use Rattle.sd_plan.specs.declared.Plan.{Plan}
 use Rattle.sd_plan.specs.declared.PlanRow.{PlanRow}
 use Rattle.sd_plan.specs.Plans.{is_member, row_of, has_row, primary_of, backup_of}
 use Rattle.sd_plan.specs.Walks.{ends_walks, is_hit}
+use Rattle.sd_plan.proofs.Forest.{IsParent, one_parent}
 use Rattle.sd_check_loop.specs.Loops.{same_hop, LeadsTo}
 use Rattle.sd_check_loop.proofs.Shared.{primary_row}
-
--- the hop is there, and leads to the device
-abbrev pub IsParent : Option Hop → ℕ → Type 0
-IsParent o e = (hop : Hop) × (o ≡ Some hop) × (hop.parent ≡ e)
 
 -- of hops, one that leads to the device
 pub any_parent : (hs : List Hop) (e : ℕ) → list_any (λ hop. nat_eq hop.parent e) hs ≡ true
@@ -32,15 +29,6 @@ any_parent (hop ∷ hs) e some =
   where
     itself : (h : Hop) → same_hop h h ≡ true
     itself h = rw (eq-eqb h.parent h.parent refl, eq-eqb h.link h.link refl) refl
-
--- a list of the one hop that is there
-one_parent : (o : Option Hop) (e : ℕ) → list_any (λ hop. nat_eq hop.parent e) (option_to_list o) ≡ true → IsParent o e
-one_parent None e some = cc
-one_parent (Some hop) e some =
-    elim (or_cases (nat_eq hop.parent e) false some) [ inl here ↦ (hop, refl, eqb-true hop.parent e here) | inr none ↦ absurd (wrong none) ]
-  where
-    wrong : false ≡ true → ⊥
-    wrong same = cc
 
 parent_one : (o : Option Hop) (e : ℕ) → IsParent o e → list_any (λ hop. nat_eq hop.parent e) (option_to_list o) ≡ true
 parent_one o e parent =

@@ -15,6 +15,7 @@ use Rattle.sd_plan.specs.Plans.{Fits, is_member, is_root, has_row, primary_of, b
 use Rattle.sd_plan.specs.Structure.{structure_breach}
 use Rattle.sd_plan.specs.Walks.{ends_walks, is_hit, short_walk}
 use Rattle.sd_plan.proofs.Rules.{keeps_rules, other_member}
+use Rattle.sd_plan.proofs.Forest.{IsParent}
 use Rattle.sd_check_hit.specs.Hit.{hit_by}
 use Rattle.sd_check_loop.specs.Graphs.{place_in, parent_place, no_successors, successors_of, graph_of, successors_at, leads, IsGraph, BothAre}
 use Rattle.sd_check_loop.specs.Loops.{hops_of, same_hop, is_walk, HasNoCycle, IsEndless, IsLeast, LeadsTo, IsNextShown}
@@ -23,7 +24,7 @@ use Rattle.sd_check_loop.specs.Shown.{next_endless}
 use Rattle.sd_check_loop.specs.declared.graph.Successors.{Successors}
 use Rattle.sd_check_loop.specs.declared.marking.Mark.{Mark}
 use Rattle.sd_check_loop.specs.declared.marking.Mark.TheVariants as mark
-use Rattle.sd_check_loop.proofs.Hops.{IsParent, any_parent, IsLed, OneLeads, led, leads_to, row_within, led_row, has_primary_row, has_backup_row}
+use Rattle.sd_check_loop.proofs.Hops.{any_parent, IsLed, OneLeads, led, leads_to, row_within, led_row, has_primary_row, has_backup_row}
 use Rattle.sd_check_loop.proofs.Least.{next_parts, next_least}
 use Rattle.sd_check_loop.proofs.Listed.{hit_ascends}
 use Rattle.sd_check_loop.proofs.Markers.{both_at, place_of}

@@ -11,7 +11,7 @@ use Rattle.sd_plan.specs.Plans.{is_member, is_root, is_backup_root, primary_of}
 use Rattle.sd_plan.specs.Walks.{hops, walk, ends_walks, things_of, end_of, is_hit, short_path, short_walk}
 use Rattle.sd_plan.specs.Structure.{structure_breach}
 use Rattle.sd_plan.proofs.Rules.{keeps_rules}
-use Rattle.sd_plan.proofs.Forest.{until, most_hops}
+use Rattle.sd_plan.proofs.Forest.{until, most_hops, Comes}
 use Rattle.sd_check_loop.proofs.Shared.{not_root}
 
 -- what follows a first hop
@@ -21,10 +21,6 @@ after ends more e = until (ends e) (more e)
 -- the hops from a first one on
 abbrev onward : (ℕ → Bool) → (ℕ → List Hop) → Option Hop → List Hop
 onward ends more found = elim found [ None ↦ [] | Some hop ↦ hop ∷ after ends more hop.parent ]
-
--- the walk from d comes to the root within n hops
-abbrev Comes : Plan → ℕ → ℕ → Type 0
-Comes plan n d = is_root plan (end_of d (hops (is_root plan) plan n d)) ≡ true
 
 -- a walk that comes to the root in time is not until by the count
 stable : (plan : Plan) (n e : ℕ) → is_root plan e ≡ false → Comes plan n e → hops (ends_walks plan) plan (suc n) e ≡ hops (ends_walks plan) plan n e

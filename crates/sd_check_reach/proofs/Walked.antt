@@ -17,6 +17,7 @@ use Rattle.sd_plan.specs.Walks.{hops, ends_walks, things_of, end_of, is_hit}
 use Rattle.sd_plan.specs.Structure.{structure_breach, first_failing, roots_breach, row_is_right, hop_is_right, hops_are_right, links_differ, reaches_root, falls_back}
 use Rattle.sd_plan.proofs.Numbered.{both_none, none_found}
 use Rattle.sd_plan.proofs.Rules.{KeepsRules, hops_within, member_is, none_mapped}
+use Rattle.sd_plan.proofs.Forest.{Comes, onward}
 use Rattle.sd_check_reach.specs.Reach.{is_sound, is_sound_link}
 use Rattle.sd_check_reach.proofs.Shared.{end_ends}
 
@@ -36,10 +37,6 @@ reach_rule net plan d structured within =
     not-false (reaches_root net plan d)
     (none_found (λ x. not (reaches_root net plan x)) (length net.devices) d
     (none_mapped (λ x. (5, x)) (find (λ x. not (reaches_root net plan x)) (device_numbers net)) here_none) within)
-
--- the hops from a first one on
-abbrev next : (ℕ → Bool) → (ℕ → List Hop) → Option Hop → List Hop
-next ends more found = elim found [ None ↦ [] | Some hop ↦ hop ∷ (elim (ends hop.parent) [ true ↦ [] | false ↦ more hop.parent ]) ]
 
 -- k primary hops lead from d to e, none of them to the root
 Leads : Plan → ℕ → ℕ → ℕ → Type 0
@@ -66,7 +63,7 @@ unfolding Leads
 leads_back plan zero d other ends = (0, ends)
 leads_back plan (suc n) d other ends = by (primary_of plan d) refl ends (leads_back plan n)
   where
-    by : (found : Option Hop) → primary_of plan d ≡ found → end_of d (next (ends_walks plan) (hops (ends_walks plan) plan n) found) ≡ plan.backup_root
+    by : (found : Option Hop) → primary_of plan d ≡ found → end_of d (onward (ends_walks plan) (hops (ends_walks plan) plan n) found) ≡ plan.backup_root
         → ((e : ℕ) → is_root plan plan.backup_root ≡ false → end_of e (hops (ends_walks plan) plan n e) ≡ plan.backup_root
         → (k : ℕ) × Leads plan k e plan.backup_root)
         → (k : ℕ) × Leads plan k d plan.backup_root
@@ -76,10 +73,6 @@ leads_back plan (suc n) d other ends = by (primary_of plan d) refl ends (leads_b
         leads_to_backup_root plan n hop.parent (is_root plan hop.parent) (is_backup_root plan hop.parent) other refl refl ends (rest hop.parent other) in
         (suc more.1.0, (hop, is, more.0, more.1.1))
 
--- the primary walk from d comes to the root within n hops
-abbrev Comes : Plan → ℕ → ℕ → Type 0
-Comes plan n d = is_root plan (end_of d (hops (is_root plan) plan n d)) ≡ true
-
 -- what a walk to the root leads over comes to the root in fewer hops
 fewer : (plan : Plan) (k n d e : ℕ) → Leads plan k d e → is_root plan d ≡ false → Comes plan n d → (m : ℕ) × (m + k ≡ n) × Comes plan m e
 unfolding Leads
@@ -87,8 +80,8 @@ fewer plan zero n d e leads other comes = (n, omega arith, subst (λ x. Comes pl
 fewer plan (suc k) zero d e leads other comes = cc
 fewer plan (suc k) (suc n) d e leads other comes =
     let hop : Hop = leads.0 in
-    let start : is_root plan (end_of d (next (is_root plan) (hops (is_root plan) plan n) (Some hop))) ≡ true =
-    subst (λ (found : Option Hop). is_root plan (end_of d (next (is_root plan) (hops (is_root plan) plan n) found)) ≡ true) leads.1 comes in
+    let start : is_root plan (end_of d (onward (is_root plan) (hops (is_root plan) plan n) (Some hop))) ≡ true =
+    subst (λ (found : Option Hop). is_root plan (end_of d (onward (is_root plan) (hops (is_root plan) plan n) found)) ≡ true) leads.1 comes in
     let on : Comes plan n hop.parent =
     subst (λ (b : Bool). is_root plan (end_of hop.parent (elim b [ true ↦ [] | false ↦ hops (is_root plan) plan n hop.parent ])) ≡ true) leads.2 start in
     let rest : (m : ℕ) × (m + k ≡ n) × Comes plan m e = fewer plan k n hop.parent e leads.3 leads.2 on in
@@ -110,8 +103,8 @@ comes_back plan zero other ends comes = both_ways (is_root plan plan.backup_root
 comes_back plan (suc n) other ends comes = by (primary_of plan plan.backup_root) refl ends comes
   where
     by : (found : Option Hop) → primary_of plan plan.backup_root ≡ found
-        → end_of plan.backup_root (next (ends_walks plan) (hops (ends_walks plan) plan n) found) ≡ plan.backup_root
-        → is_root plan (end_of plan.backup_root (next (is_root plan) (hops (is_root plan) plan n) found)) ≡ true → ⊥
+        → end_of plan.backup_root (onward (ends_walks plan) (hops (ends_walks plan) plan n) found) ≡ plan.backup_root
+        → is_root plan (end_of plan.backup_root (onward (is_root plan) (hops (is_root plan) plan n) found)) ≡ true → ⊥
     by None is ends root = both_ways (is_root plan plan.backup_root) other root
     by (Some hop) is ends root =
         let more : (is_root plan hop.parent ≡ false) × ((k : ℕ) × Leads plan k hop.parent plan.backup_root) =
@@ -139,17 +132,17 @@ arrives net plan domain ends (suc n) d fits rules within free =
     after e false none rest = rest none
 
     by : (found : Option Hop) → IfSome found (IsHop net) → hop_is_right net plan d found ≡ true
-        → hits net domain (things_of (next ends (hops ends plan n) found)) ≡ false
+        → hits net domain (things_of (onward ends (hops ends plan n) found)) ≡ false
         → ((e : ℕ) → e < length net.devices → hits net domain (things_of (hops ends plan n e)) ≡ false
         → Arrives net plan domain e (end_of e (hops ends plan n e)))
-        → Arrives net plan domain d (end_of d (next ends (hops ends plan n) found))
+        → Arrives net plan domain d (end_of d (onward ends (hops ends plan n) found))
     by None known right none rest = record { way = here; sound = λ s. s }
     by (Some hop) known right none rest =
-        let onward : List Hop = elim (ends hop.parent) [ true ↦ [] | false ↦ hops ends plan n hop.parent ] in
-        let first : (holds_link net domain hop.link ≡ false) × ((holds_device net domain hop.parent || hits net domain (things_of onward)) ≡ false) =
-        or_parts (holds_link net domain hop.link) (holds_device net domain hop.parent || hits net domain (things_of onward)) none in
-        let second : (holds_device net domain hop.parent ≡ false) × (hits net domain (things_of onward) ≡ false) =
-        or_parts (holds_device net domain hop.parent) (hits net domain (things_of onward)) first.1 in
+        let others : List Hop = elim (ends hop.parent) [ true ↦ [] | false ↦ hops ends plan n hop.parent ] in
+        let first : (holds_link net domain hop.link ≡ false) × ((holds_device net domain hop.parent || hits net domain (things_of others)) ≡ false) =
+        or_parts (holds_link net domain hop.link) (holds_device net domain hop.parent || hits net domain (things_of others)) none in
+        let second : (holds_device net domain hop.parent ≡ false) × (hits net domain (things_of others) ≡ false) =
+        or_parts (holds_device net domain hop.parent) (hits net domain (things_of others)) first.1 in
         let rule : ((is_member plan hop.parent && is_present plan hop.link) ≡ true) × (joins net hop.link d hop.parent ≡ true) =
         and_parts (is_member plan hop.parent && is_present plan hop.link) (joins net hop.link d hop.parent) right in
         let usable : (is_member plan hop.parent ≡ true) × (is_present plan hop.link ≡ true) =
@@ -159,7 +152,7 @@ arrives net plan domain ends (suc n) d fits rules within free =
         let parent : is_sound net plan domain hop.parent ≡ true =
         and_from (is_member plan hop.parent) (not (holds_device net domain hop.parent)) usable.0
         (not_from_false (holds_device net domain hop.parent) second.0) in
-        let more : Arrives net plan domain hop.parent (end_of hop.parent onward) = after hop.parent (ends hop.parent) second.1 (rest hop.parent known.0) in
+        let more : Arrives net plan domain hop.parent (end_of hop.parent others) = after hop.parent (ends hop.parent) second.1 (rest hop.parent known.0) in
         record { way = over hop.link known.1 link rule.1 parent more.way; sound = λ s. more.sound parent }
 
 -- a device that is not hit arrives at the root or the backup root
@@ -219,7 +212,7 @@ pub hit_device : (net : Network) (plan : Plan) (domain : DomainId) (d : ℕ) →
 hit_device net plan domain d fits rules hit = by_root (is_root plan d) refl hit
   where
     by_length : (n : ℕ) (found : Option Hop)
-        → hits net domain (things_of (elim n [ zero ↦ [] | suc m ↦ next (ends_walks plan) (hops (ends_walks plan) plan m) found ])) ≡ true
+        → hits net domain (things_of (elim n [ zero ↦ [] | suc m ↦ onward (ends_walks plan) (hops (ends_walks plan) plan m) found ])) ≡ true
         → (hop : Hop) × (found ≡ Some hop)
     by_length zero found hit = cc
     by_length (suc n) None hit = cc

@@ -1,7 +1,7 @@
 pub mod Versions
 mod Above
 mod Breaches
-mod DomainOrder
+pub mod DomainOrder
 mod Lines
 mod Outages
 pub mod Exclusive

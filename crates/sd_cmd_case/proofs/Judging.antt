@@ -1,16 +1,18 @@
 -- The plans of a case are judged, and lead to what comes after them.
 use Rattle.std.specs.Prelude.{◌≡◌, ℕ, List, [], ◌∷◌, Result, Ok}
 use Rattle.std.proofs.Common.{subst}
+use Rattle.sd_replay.specs.History.World.{setting_over}
 use Rattle.sd_topo.specs.Network.{Network}
 use Rattle.sd_plan.specs.declared.Absent.{Absent}
 use Rattle.sd_plan.specs.declared.Plan.{Plan}
+use Rattle.sd_plan.specs.Plans.{nothing_absent}
 use Rattle.sd_planner.specs.Checker.Text.{refused_line}
 use Rattle.sd_planner.specs.Checker.declared.Breach.{Breach}
 use Rattle.sd_planner.specs.Checker.declared.Verdict.TheVariants.{Accepted, Refused}
 use Rattle.sd_planner.specs.Planning.{IsPlanned}
 use Rattle.sd_planner.specs.declared.Planned.{Planned}
 use Rattle.sd_planner.specs.declared.Planned.TheVariants as planned
-use Rattle.sd_gen.specs.fabric.Fabrics.{first_absent, second_absent}
+use Rattle.sd_gen.specs.fabric.Fabrics.{second_absent}
 use Rattle.sd_cmd_files.specs.Answering.{Allowed}
 use Rattle.sd_cmd_files.specs.Writes.{IsAllowed}
 use Rattle.sd_cmd_files.specs.declared.Status.{Status}
@@ -22,7 +24,6 @@ use Rattle.sd_cmd_files.specs.planfiles.SetupError.{made_of}
 use Rattle.sd_cmd_files.specs.planfiles.Refusing.{Nothing}
 use Rattle.sd_cmd_files.specs.declared.planfiles.setup_error.SetupError.{SetupError}
 use Rattle.sd_cmd_case.specs.Cases.{AfterBoth, AfterGreedy, IsCaseOver, IsTallied, case_tally}
-use Rattle.sd_replay.specs.Settings.{setting_over}
 use Rattle.sd_cmd_files.proofs.Shared.{makes_more, verdict_more}
 use Rattle.sd_cmd_case.specs.Planned.{AreMade, IsMade}
 
@@ -47,26 +48,26 @@ module _ (net : Network) where
       (plan, greedy, fits, (Refused breach, says, (printed, answered)))
 
   -- the line of the first plan, or of the second behind the first
-  pub first_refused : (early : SetupError) → IsAllowed (AfterGreedy net 1 0 first_absent Nothing) (made_of early)
+  pub first_refused : (early : SetupError) → IsAllowed (AfterGreedy net 1 0 nothing_absent Nothing) (made_of early)
       → IsAllowed (AfterBoth net Nothing) (made_of early)
   first_refused early =
-      makes_more (AfterGreedy net 1 0 first_absent Nothing) (AfterBoth net Nothing) (made_of early) (λ bytes status.
-      greedy_more 1 0 first_absent Nothing (λ first. AfterGreedy net 2 1 second_absent (λ second. Nothing (first ∷ second ∷ []))) bytes status
+      makes_more (AfterGreedy net 1 0 nothing_absent Nothing) (AfterBoth net Nothing) (made_of early) (λ bytes status.
+      greedy_more 1 0 nothing_absent Nothing (λ first. AfterGreedy net 2 1 second_absent (λ second. Nothing (first ∷ second ∷ []))) bytes status
       (λ plan none. absurd none))
 
-  pub second_refused : (first : Plan) (early : SetupError) → IsMade net 0 first_absent first
+  pub second_refused : (first : Plan) (early : SetupError) → IsMade net 0 nothing_absent first
       → IsAllowed (AfterGreedy net 2 1 second_absent Nothing) (made_of early)
       → IsAllowed (AfterBoth net Nothing) (made_of early)
   second_refused first early made =
       makes_more (AfterGreedy net 2 1 second_absent Nothing) (AfterBoth net Nothing) (made_of early) (λ bytes status written.
-      goes_on 1 0 first_absent (λ one. AfterGreedy net 2 1 second_absent (λ second. Nothing (one ∷ second ∷ []))) first bytes status made
+      goes_on 1 0 nothing_absent (λ one. AfterGreedy net 2 1 second_absent (λ second. Nothing (one ∷ second ∷ []))) first bytes status made
       (greedy_more 2 1 second_absent Nothing (λ second. Nothing (first ∷ second ∷ [])) bytes status (λ plan none. absurd none) written))
 
   -- a case whose plans are not both accepted ends before its schedule
   pub case_early : (number : ℕ) (early : SetupError) → IsAllowed (AfterBoth net Nothing) (made_of early) → IsAllowed (IsCaseOver net number) (made_of early)
   case_early number early =
       makes_more (AfterBoth net Nothing) (IsCaseOver net number) (made_of early) (λ bytes status.
-      greedy_more 1 0 first_absent (λ first. AfterGreedy net 2 1 second_absent (λ second. Nothing (first ∷ second ∷ [])))
+      greedy_more 1 0 nothing_absent (λ first. AfterGreedy net 2 1 second_absent (λ second. Nothing (first ∷ second ∷ [])))
       (λ first. AfterGreedy net 2 1 second_absent (λ second. IsTallied (case_tally (setting_over net (first ∷ second ∷ [])) number))) bytes status (λ first.
       greedy_more 2 1 second_absent (λ second. Nothing (first ∷ second ∷ []))
       (λ second. IsTallied (case_tally (setting_over net (first ∷ second ∷ [])) number)) bytes status (λ second none. absurd none)))
@@ -78,7 +79,7 @@ module _ (net : Network) where
       makes_more (IsTallied (case_tally (setting_over net plans) number)) (IsCaseOver net number) made (λ bytes status written.
       let of_both : IsTallied (case_tally (setting_over net (both.first ∷ both.second ∷ [])) number) bytes status =
       subst (λ (ps : List Plan). IsTallied (case_tally (setting_over net ps) number) bytes status) both.are written in
-      goes_on 1 0 first_absent (λ first. AfterGreedy net 2 1 second_absent (λ second. IsTallied (case_tally (setting_over net (first ∷ second ∷ [])) number)))
+      goes_on 1 0 nothing_absent (λ first. AfterGreedy net 2 1 second_absent (λ second. IsTallied (case_tally (setting_over net (first ∷ second ∷ [])) number)))
       both.first bytes status both.first_made
       (goes_on 2 1 second_absent
       (λ second. IsTallied (case_tally (setting_over net (both.first ∷ second ∷ [])) number)) both.second bytes status both.second_made

@@ -4,6 +4,7 @@ use Rattle.std.proofs.Common.{sym, ◌∙◌, subst, inl, inr}
 use Rattle.sd_topo.specs.Network.{Network}
 use Rattle.sd_plan.specs.declared.Absent.{Absent}
 use Rattle.sd_plan.specs.declared.Plan.{Plan}
+use Rattle.sd_plan.specs.Plans.{nothing_absent}
 use Rattle.sd_planner.specs.Checker.Verdicts.{IsAccepted, IsVerdict}
 use Rattle.sd_planner.specs.Checker.declared.Verdict.{Verdict}
 use Rattle.sd_planner.specs.Checker.declared.Verdict.TheVariants.{Accepted, Refused}
@@ -11,31 +12,20 @@ use Rattle.sd_planner.proofs.Checker.Exclusive.{accepted_unbroken}
 use Rattle.sd_planner.proofs.Checker.Unique.{one_verdict}
 use Rattle.sd_planner.specs.Greedy.{IsGreedy}
 use Rattle.sd_planner.proofs.Single.{same_greedy}
-use Rattle.sd_gen.specs.fabric.Fabrics.{fabric, first_absent, second_absent}
+use Rattle.sd_gen.specs.fabric.Fabrics.{fabric, second_absent}
 use Rattle.sd_replay.specs.Tallies.{shows_trouble}
+use Rattle.sd_replay.specs.History.World.{setting_over}
 use Rattle.sd_cmd_files.specs.Answering.{Allowed}
 use Rattle.sd_cmd_files.specs.declared.Status.{Status}
 use Rattle.sd_cmd_files.specs.declared.Status.TheVariants.{Broken, Done}
 use Rattle.sd_cmd_files.specs.planfiles.PlanFiles.{AfterJudged, AfterVerdict}
+use Rattle.sd_cmd_files.specs.Single.{IsOne}
+use Rattle.sd_cmd_files.proofs.Single.{judged_one}
 use Rattle.sd_cmd_case.specs.Cases.{AfterGreedy, IsTallied, case_tally}
-use Rattle.sd_replay.specs.Settings.{setting_over}
 use Rattle.sd_cmd_case.specs.Laws.{CaseCompletes}
 use Rattle.sd_cmd_case.specs.OneCase.{HasOneCase}
 
 -- One answer
-
-abbrev IsOne : Allowed → Type 0
-IsOne Writes = (bytes other : List ℕ) (status also : Status) → Writes bytes status → Writes other also → (status ≡ also) × (bytes ≡ other)
-
-verdict_one : (net : Network) (place : ℕ) (verdict : Verdict) (Then : Allowed) → IsOne Then → IsOne (AfterVerdict net place verdict Then)
-verdict_one net place Accepted Then one bytes other status also is too = one bytes other status also is too
-verdict_one net place (Refused breach) Then one bytes other status also (printed, answered) (printed', answered') =
-    (answered ∙ sym answered', printed ∙ sym printed')
-
-judged_one : (net : Network) (place : ℕ) (plan : Plan) (Then : Allowed) → IsOne Then → IsOne (AfterJudged net place plan Then)
-judged_one net place plan Then one bytes other status also (verdict, says, first) (verdict', says', second) =
-    verdict_one net place verdict Then one bytes other status also first
-    (subst (λ (v : Verdict). AfterVerdict net place v Then other also) (sym (one_verdict net plan verdict verdict' says says')) second)
 
 greedy_one : (net : Network) (place root : ℕ) (absent : Absent) (Then : Plan → Allowed) → ((plan : Plan) → IsOne (Then plan))
     → IsOne (AfterGreedy net place root absent Then)
@@ -46,7 +36,7 @@ greedy_one net place root absent Then one bytes other status also (plan, greedy,
 pub one_case : HasOneCase
 one_case number leaves spines =
     let net = fabric leaves spines in
-    greedy_one net 1 0 first_absent
+    greedy_one net 1 0 nothing_absent
     (λ first. AfterGreedy net 2 1 second_absent (λ second. IsTallied (case_tally (setting_over net (first ∷ second ∷ [])) number)))
     (λ first.
     greedy_one net 2 1 second_absent (λ second. IsTallied (case_tally (setting_over net (first ∷ second ∷ [])) number))
@@ -76,7 +66,7 @@ pub case_completes : CaseCompletes
 case_completes number leaves spines right bytes status written =
     let net = fabric leaves spines in
     let behind =
-    greedy_passed net 1 0 first_absent
+    greedy_passed net 1 0 nothing_absent
     (λ first. AfterGreedy net 2 1 second_absent (λ second. IsTallied (case_tally (setting_over net (first ∷ second ∷ [])) number)))
     right.first bytes status right.first_greedy right.first_accepted written in
     let tally = case_tally (setting_over net (right.first ∷ right.second ∷ [])) number in

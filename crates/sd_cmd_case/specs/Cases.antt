@@ -2,14 +2,13 @@
 use Rattle.std.specs.Prelude.{◌≡◌, ℕ, List, [], ◌∷◌, codes, decimal, if◌then◌else◌}
 use Rattle.sd_num.specs.Texts.{text_of}
 use Rattle.sd_topo.specs.Network.{Network}
-use Rattle.sd_plan.specs.Plans.{Fits}
+use Rattle.sd_plan.specs.Plans.{Fits, nothing_absent}
 use Rattle.sd_plan.specs.declared.Absent.{Absent}
 use Rattle.sd_plan.specs.declared.Plan.{Plan}
 use Rattle.sd_planner.specs.Greedy.{IsGreedy}
-use Rattle.sd_replay.specs.History.World.{Setting}
-use Rattle.sd_replay.specs.Settings.{setting_over}
+use Rattle.sd_replay.specs.History.World.{Setting, setting_over}
 use Rattle.sd_replay.specs.History.Chronicle.{chronicle}
-use Rattle.sd_gen.specs.fabric.Fabrics.{fabric, first_absent, second_absent}
+use Rattle.sd_gen.specs.fabric.Fabrics.{fabric, second_absent}
 use Rattle.sd_gen.specs.Drafts.{history_of}
 use Rattle.sd_replay.specs.Tallies.{tally_of, shows_trouble}
 use Rattle.sd_replay.specs.declared.Tally.{Tally}
@@ -46,7 +45,7 @@ AfterGreedy net place root absent Then bytes status =
 -- both plans of a case: from the first root with all that there is, and from the second without the first device
 abbrev pub AfterBoth : Network → (List Plan → Allowed) → Allowed
 AfterBoth net Then bytes status =
-    AfterGreedy net 1 0 first_absent (λ first. AfterGreedy net 2 1 second_absent (λ second. Then (first ∷ second ∷ []))) bytes status
+    AfterGreedy net 1 0 nothing_absent (λ first. AfterGreedy net 2 1 second_absent (λ second. Then (first ∷ second ∷ []))) bytes status
 
 -- what is written over a network: the line of the first plan that is refused, or that of the tally
 abbrev pub IsCaseOver : Network → (number : ℕ) → Allowed

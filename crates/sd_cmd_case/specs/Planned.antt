@@ -1,12 +1,12 @@
 -- The plans of a case that were made, and why there are none.
 use Rattle.std.specs.Prelude.{◌≡◌, ℕ, List, [], ◌∷◌}
 use Rattle.sd_topo.specs.Network.{Network}
-use Rattle.sd_plan.specs.Plans.{Fits}
+use Rattle.sd_plan.specs.Plans.{Fits, nothing_absent}
 use Rattle.sd_plan.specs.declared.Absent.{Absent}
 use Rattle.sd_plan.specs.declared.Plan.{Plan}
 use Rattle.sd_planner.specs.Checker.Verdicts.{IsAccepted}
 use Rattle.sd_planner.specs.Greedy.{IsGreedy}
-use Rattle.sd_gen.specs.fabric.Fabrics.{first_absent, second_absent}
+use Rattle.sd_gen.specs.fabric.Fabrics.{second_absent}
 use Rattle.sd_cmd_files.specs.declared.Status.TheVariants.{PlanRefused}
 use Rattle.sd_cmd_files.specs.declared.command_error.CommandError.TheVariants.{Memory}
 use Rattle.sd_cmd_files.specs.declared.planfiles.setup_error.SetupError.{SetupError}
@@ -23,7 +23,7 @@ pub record AreMade (net : Network) (plans : List Plan) : Type 0 where
   pub first : Plan
   pub second : Plan
   pub are : plans ≡ first ∷ second ∷ []
-  pub first_made : IsMade net 0 first_absent first
+  pub first_made : IsMade net 0 nothing_absent first
   pub second_made : IsMade net 1 second_absent second
 
 -- a plan is refused, or memory was wanting

@@ -1,8 +1,9 @@
 //! The two plans of a case, each judged before the next is made.
 ghost use Rattle.std.specs.Prelude.{◌≡◌, ◌≤◌, ◌<◌, length, IfErr, IfOk};
+ghost use Rattle.sd_plan.specs.Plans.{nothing_absent};
 ghost use Rattle.sd_topo.specs.Topologies.{network};
 ghost use Rattle.sd_planner.specs.Absences.{IsAbsentOf};
-ghost use Rattle.sd_gen.specs.fabric.Fabrics.{first_absent, second_absent};
+ghost use Rattle.sd_gen.specs.fabric.Fabrics.{second_absent};
 ghost use Rattle.sd_cmd_files.specs.Writes.{IsAllowed};
 ghost use Rattle.sd_cmd_files.specs.planfiles.SetupError.{made_of};
 ghost use Rattle.sd_cmd_files.specs.planfiles.Refusing.{Nothing};
@@ -45,7 +46,7 @@ fn accepted_plan(
 
 /// What the first plan leaves out: nothing.
 fn nothing(alloc: Global) -> Absent
-    ensures { result ≡ first_absent }
+    ensures { result ≡ nothing_absent }
 {
     Absent {
         devices: DeviceList::new(alloc),
@@ -56,9 +57,9 @@ fn nothing(alloc: Global) -> Absent
 /// The plan from the first root, with nothing absent.
 fn first_plan(alloc: Global, topo: &Topology) -> Result<Plan, SetupError>
     requires { 2 ≤ length (network topo.now).devices }
-    ensures made { IfOk result (IsMade (network topo.now) 0 first_absent) }
+    ensures made { IfOk result (IsMade (network topo.now) 0 nothing_absent) }
     ensures makes { IfErr result
-        (λ early. IsAllowed (AfterGreedy (network topo.now) 1 0 first_absent Nothing)
+        (λ early. IsAllowed (AfterGreedy (network topo.now) 1 0 nothing_absent Nothing)
         (made_of early)) }
     ensures early { IfErr result IsSetupError }
 {

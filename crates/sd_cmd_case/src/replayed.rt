@@ -1,10 +1,10 @@
 //! The replay of a case, which is driven through the schedule of its number.
 ghost use Rattle.std.specs.Prelude.{◌≡◌, ◌∷◌, [], IsTrue, IfErr, IfOk};
+ghost use Rattle.sd_replay.specs.History.World.{setting_over};
 ghost use Rattle.sd_topo.specs.Topologies.{network};
 ghost use Rattle.sd_cmd_files.specs.Statuses.{is_among};
 ghost use Rattle.sd_cmd_files.specs.Writes.{IsAllowed};
 ghost use Rattle.sd_cmd_case.specs.Cases.{IsTallied, case_tally};
-ghost use Rattle.sd_replay.specs.Settings.{setting_over};
 ghost use Rattle.sd_cmd_case.specs.Planned.{AreMade};
 ghost use Rattle.sd_cmd_case.specs.Replayed.{StandsFor};
 

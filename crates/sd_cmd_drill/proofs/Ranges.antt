@@ -21,7 +21,6 @@ use Rattle.sd_cmd_drill.specs.declared.kinds.Kind.{Kind}
 use Rattle.sd_cmd_drill.specs.declared.kinds.Kind.TheVariants as kind
 use Rattle.sd_outside.specs.Pieces.{Pieces, piece_of}
 use Rattle.sd_cmd_files.specs.declared.command_error.IoError.{IoError}
-use Rattle.sd_plan.proofs.Numbered.{length-numbered}
 use Rattle.sd_cmd_drill.specs.Adding.{Added, AddsLines}
 use Rattle.sd_cmd_drill.proofs.Prefixes.{HasLines, adds_on, adds_stopped, lines_both}
 
@@ -141,18 +140,3 @@ module _ (net : Network) (plan : Plan) (budget : Budget) (law : IsNetwork net) (
   pub has_all : HasLines net plan budget (domains net)
   has_all = let l = has_kind kind.Listed in let d = has_kind kind.Device in let k = has_kind kind.Link in
       ((l.0 ++ d.0) ++ k.0, lines_both net plan budget (L ++ D) K (l.0 ++ d.0) k.0 (lines_both net plan budget L D l.0 d.0 l.1 d.1) k.1)
-
-pub domains_length : (net : Network) → length (domains net) ≡ length net.domains + length net.devices + length net.links
-domains_length net =
-    let l = all_of net kind.Listed in
-    let d = all_of net kind.Device in
-    let k = all_of net kind.Link in
-    omega (
-      arith,
-      length-append (l ++ d) k,
-      length-append l d,
-      length-numbered (domain_at kind.Listed) (length net.domains),
-      length-numbered (domain_at kind.Device)
-          (length net.devices),
-      length-numbered (domain_at kind.Link) (length net.links),
-    )

@@ -1,6 +1,7 @@
 pub mod Loading
 pub mod Keeping
 pub mod Shared
+pub mod Single
 -- Handed on: what crates above name of those below.
 pub use Rattle.sd_outside.proofs as Outside
 pub use Rattle.sd_stream.proofs as Stream

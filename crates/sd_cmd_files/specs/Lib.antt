@@ -4,6 +4,7 @@ pub mod Reasons
 pub mod Statuses
 pub mod Stops
 pub mod Answering
+pub mod Single
 pub mod Loads
 pub mod Writes
 pub mod planfiles

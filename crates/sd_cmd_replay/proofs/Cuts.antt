@@ -3,7 +3,7 @@ use Rattle.std.proofs.Common.{◌≡◌, ℕ, ◌+◌, List, [], ◌∷◌, Resu
 use Rattle.sd_msg.specs.Topo.Network.{Network}
 use Rattle.sd_core.specs.Plan.declared.Plan.{Plan}
 use Rattle.sd_sched.specs.declared.Event.{Event}
-use Rattle.sd_replay.specs.History.World.{Setting}
+use Rattle.sd_replay.specs.History.World.{Setting, setting_over}
 use Rattle.sd_outside.specs.Pieces.{Pieces}
 use Rattle.std.specs.List.{concat}
 use Rattle.sd_cmd_files.specs.Answering.{AtOnce, InWrites, After}
@@ -13,7 +13,6 @@ use Rattle.sd_cmd_files.specs.declared.command_error.Refusal.{Refusal}
 use Rattle.sd_cmd_files.specs.planfiles.PlanFiles.{AfterAllPlans, AreRead}
 use Rattle.sd_cmd_files.specs.planfiles.Refusing.{Nothing}
 use Rattle.sd_cmd_files.specs.work.Works.{Work, InSteps}
-use Rattle.sd_replay.specs.Settings.{setting_over}
 use Rattle.sd_cmd_replay.specs.Loaded.{AreLoaded, RunsInSteps}
 use Rattle.sd_cmd_replay.specs.Early.{EndsBefore}
 use Rattle.sd_cmd_replay.proofs.Lawful.{behind_plans}

@@ -9,7 +9,7 @@ use Rattle.sd_cmd_files.specs.Checker.declared.Verdict.TheVariants.{Accepted, Re
 use Rattle.sd_cmd_files.proofs.Checker.Exclusive.{accepted_unbroken}
 use Rattle.sd_cmd_files.proofs.Checker.Unique.{one_verdict}
 use Rattle.sd_sched.specs.declared.Event.{Event}
-use Rattle.sd_replay.specs.History.World.{Setting}
+use Rattle.sd_replay.specs.History.World.{Setting, setting_over}
 use Rattle.sd_replay.specs.History.Chronicle.{chronicle}
 use Rattle.sd_replay.specs.Tallies.{shows_trouble, tally_of}
 use Rattle.sd_cmd_files.specs.Answering.{Allowed, After}
@@ -19,10 +19,10 @@ use Rattle.sd_cmd_files.specs.declared.Status.TheVariants.{Done, Broken}
 use Rattle.sd_cmd_files.specs.declared.command_error.Refusal.{Refusal}
 use Rattle.sd_cmd_files.specs.planfiles.PlanFiles.{AfterAllPlans, AfterJudged, AfterPlans, AfterVerdict, AreRead}
 use Rattle.sd_cmd_files.specs.work.Works.{Reading, Work, IsOutcome, reading, status_for}
+use Rattle.sd_cmd_files.specs.Single.{IsOne}
+use Rattle.sd_cmd_files.proofs.Single.{judged_one}
 use Rattle.sd_cmd_replay.specs.Promises.{Completes, ReportsTruly}
-use Rattle.sd_cmd_replay.specs.Single.{IsOne}
 use Rattle.sd_cmd_replay.specs.Replays.{IsOrder, IsReplay, IsRun, order_work, replay_work, shows_disorder, status_if}
-use Rattle.sd_replay.specs.Settings.{setting_over}
 use Rattle.sd_cmd_replay.specs.Loaded.{AreLoaded}
 use Rattle.sd_cmd_replay.proofs.Reading.{history_tells, read_as_replay, reading_is_history}
 
@@ -31,16 +31,6 @@ use Rattle.sd_cmd_replay.proofs.Reading.{history_tells, read_as_replay, reading_
 after_one : {X : Type 0} (says : Result X Refusal) (Then : X → Allowed) → ((x : X) → IsOne (Then x)) → IsOne (After says Then)
 after_one (Ok x) Then one bytes other status also is too = one x bytes other status also is too
 after_one (Err why) Then one bytes other status also (printed, answered) (printed', answered') = (answered ∙ sym answered', printed ∙ sym printed')
-
-verdict_one : (net : Network) (place : ℕ) (verdict : Verdict) (Then : Allowed) → IsOne Then → IsOne (AfterVerdict net place verdict Then)
-verdict_one net place Accepted Then one bytes other status also is too = one bytes other status also is too
-verdict_one net place (Refused breach) Then one bytes other status also (printed, answered) (printed', answered') =
-    (answered ∙ sym answered', printed ∙ sym printed')
-
-judged_one : (net : Network) (place : ℕ) (plan : Plan) (Then : Allowed) → IsOne Then → IsOne (AfterJudged net place plan Then)
-judged_one net place plan Then one bytes other status also (verdict, says, first) (verdict', says', second) =
-    verdict_one net place verdict Then one bytes other status also first
-    (subst (λ (v : Verdict). AfterVerdict net place v Then other also) (sym (one_verdict net plan verdict verdict' says says')) second)
 
 plans_one : (net : Network) (place : ℕ) (front : List Plan) (texts : List (List ℕ)) (Then : List Plan → Allowed) → ((plans : List Plan) → IsOne (Then plans))
     → IsOne (AfterPlans net place front texts Then)

@@ -13,7 +13,7 @@ use Rattle.sd_core.specs.declared.registers.Registers.{Registers}
 use Rattle.sd_core.specs.contracts.device.DeviceNode.TheImpl.{ghosts}
 use Rattle.sd_msg.specs.declared.observer.Observer as observers
 use Rattle.sd_sched.specs.declared.Event.{Event}
-use Rattle.sd_replay.specs.History.World.{Setting}
+use Rattle.sd_replay.specs.History.World.{Setting, setting_over}
 use Rattle.sd_cmd_files.specs.Answering.{AtOnce, InWrites, Allowed, MayWrite, After}
 use Rattle.sd_cmd_files.specs.Inputs.{topology_of, plan_in_file}
 use Rattle.sd_cmd_files.specs.Loads.{Loads}
@@ -40,7 +40,6 @@ use Rattle.sd_cmd_files.specs.work.Ending.{LeavesAt}
 use Rattle.sd_cmd_files.proofs.work.Leaving.{leaves_more, leaves_once, once_in_steps, told}
 use Rattle.sd_cmd_files.specs.work.Works.{Work, InSteps, IsOutcome, refused_part}
 use Rattle.sd_cmd_replay.specs.Replays.{IsRun, refused_over, replay_work}
-use Rattle.sd_replay.specs.Settings.{setting_over}
 use Rattle.sd_cmd_files.proofs.Shared.{makes_more, verdict_more}
 use Rattle.sd_cmd_replay.specs.Loaded.{AreLoaded}
 use Rattle.sd_cmd_replay.specs.Writes.{RunsIn}

@@ -18,7 +18,7 @@ use Rattle.sd_sched.specs.declared.Event.{Event}
 use Rattle.sd_sched.specs.declared.LineFault.{LineFault}
 use Rattle.sd_sched.specs.Lines.{event_of_line}
 use Rattle.sd_replay.specs.History.declared.ApplyFault.{ApplyFault}
-use Rattle.sd_replay.specs.History.World.{Setting}
+use Rattle.sd_replay.specs.History.World.{Setting, setting_over}
 use Rattle.sd_replay.specs.History.Steps.{Step}
 use Rattle.sd_replay.specs.History.Chronicle.{chronicle}
 use Rattle.sd_replay.specs.History.Refusals.{refusal}
@@ -36,7 +36,6 @@ use Rattle.sd_cmd_files.specs.declared.command_error.Refusal.{Refusal}
 use Rattle.sd_cmd_files.specs.planfiles.PlanFiles.{AfterAllPlans, AfterJudged, AfterPlans, AfterVerdict}
 use Rattle.sd_cmd_files.specs.work.Works.{Reading, Work, IsOutcome, all_bytes, judged, last_bytes, length_fault, read_on, reading, reading_from, status_for, unless_too_long, written_for}
 use Rattle.sd_cmd_replay.specs.Replays.{IsOrder, IsReplay, IsRun, accepted, order_work, replay_work, shows_disorder, status_if, unless_refused, waits_after, with_waits}
-use Rattle.sd_replay.specs.Settings.{setting_over}
 use Rattle.std.specs.List.{concat}
 use Rattle.sd_outside.specs.Pieces.{piece_of}
 use Rattle.sd_cmd_replay.proofs.Versions.{bytes_alike, chronicle_alike, lines_alike, refusal_alike}

@@ -8,6 +8,5 @@ pub mod Starting
 pub mod Doing
 pub mod Telling
 pub mod Promises
-pub mod Single
 -- Handed on: what crates above name of those below.
 pub use Rattle.sd_replay.specs as Replay

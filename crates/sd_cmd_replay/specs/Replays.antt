@@ -6,8 +6,7 @@ use Rattle.sd_sched.specs.declared.Event.{Event}
 use Rattle.sd_sched.specs.declared.LineFault.{LineFault}
 use Rattle.sd_sched.specs.Lines.{event_of_line}
 use Rattle.sd_sched.specs.Events.{is_end_event}
-use Rattle.sd_replay.specs.History.World.{Setting}
-use Rattle.sd_replay.specs.Settings.{setting_over}
+use Rattle.sd_replay.specs.History.World.{Setting, setting_over}
 use Rattle.sd_replay.specs.History.Steps.{Step}
 use Rattle.sd_replay.specs.History.Chronicle.{chronicle}
 use Rattle.sd_replay.specs.History.Refusals.{refusal}

@@ -7,7 +7,7 @@ use Rattle.std.proofs.lemmas.List.Elements.{Contains-append_left, Contains-appen
 use Rattle.std.proofs.lemmas.Option.{slice_get-get_or}
 use Rattle.sd_num.specs.Lists.{below}
 use Rattle.sd_topo.specs.Network.{Network, Each, device_numbers, link_numbers}
-use Rattle.sd_domain.specs.Domains.{domains}
+use Rattle.sd_domain.specs.Domains.{domains, listed_domains}
 use Rattle.sd_domain.specs.Lone.{IsDomain}
 use Rattle.sd_domain.specs.declared.DomainId.{DomainId}
 use Rattle.sd_domain.specs.declared.DomainId.TheVariants as domain
@@ -21,9 +21,6 @@ pub named : {X : Type 0} (g : ℕ → X) (n k : ℕ) → k < n → Contains (map
 named g n k within =
     (k, rw (length-map (below n) g, length-below n) within, get_or-map g (below n) k 0 (g k) (rw (length-below n) within) ∙ ap g (get_or-below n k 0 within))
 
-abbrev listed : Network → List DomainId
-listed net = map domain.Listed (below (length net.domains))
-
 abbrev devices : Network → List DomainId
 devices net = map domain.Device (device_numbers net)
 
@@ -33,12 +30,12 @@ links net = map domain.Link (link_numbers net)
 -- each domain is among the domains
 has_domain : (net : Network) (f : DomainId) → IsDomain net f → Contains (domains net) f
 has_domain net (domain.Listed k) is =
-    Contains-append_left (listed net ++ devices net) (links net) (domain.Listed k)
-    (Contains-append_left (listed net) (devices net) (domain.Listed k) (named domain.Listed (length net.domains) k is))
+    Contains-append_left (listed_domains net ++ devices net) (links net) (domain.Listed k)
+    (Contains-append_left (listed_domains net) (devices net) (domain.Listed k) (named domain.Listed (length net.domains) k is))
 has_domain net (domain.Device d) is =
-    Contains-append_left (listed net ++ devices net) (links net) (domain.Device d)
-    (Contains-append_right (listed net) (devices net) (domain.Device d) (named domain.Device (length net.devices) d is))
-has_domain net (domain.Link l) is = Contains-append_right (listed net ++ devices net) (links net) (domain.Link l) (named domain.Link (length net.links) l is)
+    Contains-append_left (listed_domains net ++ devices net) (links net) (domain.Device d)
+    (Contains-append_right (listed_domains net) (devices net) (domain.Device d) (named domain.Device (length net.devices) d is))
+has_domain net (domain.Link l) is = Contains-append_right (listed_domains net ++ devices net) (links net) (domain.Link l) (named domain.Link (length net.links) l is)
 
 -- so what holds of each of them holds of it
 each_domain : (net : Network) (P : DomainId → Type 0) (f : DomainId) → Each P (domains net) → IsDomain net f → P f

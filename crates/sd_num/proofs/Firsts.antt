@@ -4,7 +4,21 @@ use Rattle.std.specs.Option.{option_map, option_or}
 use Rattle.std.proofs.lemmas.List.{take_all, take_more, take-append-drop, drop_more}
 use Rattle.std.proofs.lemmas.List.Folds.{find-append}
 use Rattle.std.proofs.lemmas.Bool.{cases_lt}
+use Rattle.std.proofs.lemmas.Option.{same_Some}
 use Rattle.sd_num.specs.Lists.{below}
+
+-- no number below n passes the test
+abbrev pub NonePasses : (ℕ → Bool) → ℕ → Type 0
+NonePasses test n = (k : ℕ) → k < n → test k ≡ false
+
+-- what is found passes the test
+pub find_passes : {X : Type 0} (test : X → Bool) (xs : List X) (x : X) → find test xs ≡ Some x → test x ≡ true
+find_passes test [] x found = cc
+find_passes test (y ∷ ys) x found = by (test y) refl found (find_passes test ys x)
+  where
+    by : (b : Bool) → test y ≡ b → cond b (Some y) (find test ys) ≡ Some x → (find test ys ≡ Some x → test x ≡ true) → test x ≡ true
+    by true is found rest = ap test (sym (same_Some y x found)) ∙ is
+    by false is found rest = rest found
 
 -- where no element passes there is none
 pub find_none : {X : Type 0} (test : X → Bool) (xs : List X) → ((x : X) → test x ≡ false) → find test xs ≡ None

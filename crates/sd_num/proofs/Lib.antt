@@ -6,3 +6,4 @@ pub mod Ascending
 pub mod Firsts
 pub mod Runs
 pub mod Shared
+pub mod Distinct

@@ -4,11 +4,11 @@ use Rattle.std.proofs.lemmas.Bool.{cases_eq, eq-eqb, ne_eqb, eqb-true, or_cases,
 use Rattle.std.specs.List.{list_any, slice_range, list_all, AllByRecursion}
 use Rattle.std.proofs.lemmas.List.Elements.{All-head, All-tail}
 use Rattle.std.specs.Option.{option_or}
-use Rattle.std.specs.Prelude.{is_some, ◌&&◌, ◌+◌, ◌/◌, replicate}
+use Rattle.std.specs.Prelude.{is_some, option_and_then, ◌&&◌, ◌+◌, ◌/◌, replicate}
 use Rattle.std.proofs.lemmas.List.{length-take, length-drop}
 use Rattle.std.proofs.lemmas.Slice.{between_is}
 use Rattle.std.proofs.lemmas.List.Folds.{list_all-append, list_any-append}
-use Rattle.sd_num.specs.Lists.{same_number, has, below, at_place}
+use Rattle.sd_num.specs.Lists.{same_number, has, below, at_place, follow}
 
 pub equal_swap : (a b : ℕ) → nat_eq a b ≡ nat_eq b a
 equal_swap a b =
@@ -131,3 +131,8 @@ range_split bytes from mid end before behind =
     let all : end - from ≡ (mid - from) + (end - mid) = omega arith in
     let back : from + (mid - from) ≡ mid = omega arith in
     rw (all, take-add (mid - from) (end - mid) (drop from bytes), drop-drop (mid - from) from bytes, back) refl
+
+-- the first step, and those after it
+pub follow_first : (f : ℕ → Option ℕ) (n x y : ℕ) → f x ≡ Some y → follow f (suc n) x ≡ follow f n y
+follow_first f zero x y is = is
+follow_first f (suc n) x y is = ap (option_and_then f) (follow_first f n x y is)

@@ -2,4 +2,5 @@ pub mod Numbers
 pub mod Decimals
 pub mod Digits
 pub mod Lists
+pub mod Counts
 pub mod Texts

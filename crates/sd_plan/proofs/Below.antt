@@ -3,6 +3,7 @@ use Rattle.std.proofs.Common.{◌≡◌, ◌≢◌, ℕ, zero, suc, ◌+◌, ◌
 use Rattle.std.proofs.lemmas.Bool.{cases_Bool, cases_eq, or_cases, or_right, eq-eqb, ne_eqb, eqb-true, false_from_ne_true}
 use Rattle.std.proofs.lemmas.List.Elements.{All-filter, filter_passes}
 use Rattle.sd_num.specs.Lists.{below, map_or}
+use Rattle.sd_num.specs.Counts.{one_if}
 use Rattle.sd_topo.specs.Network.{Network, device_numbers}
 use Rattle.sd_plan.specs.Plans.{primary_of}
 use Rattle.sd_plan.specs.Walks.{on_walk}
@@ -11,7 +12,7 @@ use Rattle.sd_plan.specs.declared.Hop.{Hop}
 use Rattle.sd_plan.specs.declared.Plan.{Plan}
 use Rattle.sd_plan.proofs.Forest.{IsForest, by_option, climb, height, height_most, on_top, on_up, on_itself, on_inside, on_level, on_through, nearer}
 use Rattle.sd_plan.proofs.Numbered.{get_or-numbered, length-numbered, get_or-below, length-below}
-use Rattle.sd_plan.proofs.Times.{one_if, times, total, times-flat, total_none, total_one, has-filter, of_all}
+use Rattle.sd_plan.proofs.Times.{times, total, times-flat, total_none, total_one, has-filter, of_all}
 
 -- a child has a hop to its parent
 child_hop : (plan : Plan) (d c : ℕ) → is_child plan d c ≡ true → (hop : Hop) × (primary_of plan c ≡ Some hop) × (hop.parent ≡ d)

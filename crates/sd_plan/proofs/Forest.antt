@@ -1,5 +1,5 @@
 -- The walks of a well formed plan, a hop at a time: the devices are a forest.
-use Rattle.std.proofs.Common.{◌≡◌, ℕ, zero, suc, ◌<◌, ◌≤◌, ◌⊎◌, inl, inr, Bool, true, false, ◌&&◌, ◌||◌, not, if◌then◌else◌, List, [], ◌∷◌, length, map, Option, Some, None, option_map, nat_eq, refl, sym, ap, ◌∙◌, subst, arith}
+use Rattle.std.proofs.Common.{◌≡◌, ℕ, zero, suc, ◌<◌, ◌≤◌, ◌⊎◌, inl, inr, Bool, true, false, ◌&&◌, ◌||◌, not, if◌then◌else◌, List, [], ◌∷◌, length, map, Option, Some, None, option_map, option_to_list, nat_eq, refl, sym, ap, ◌∙◌, subst, arith}
 use Rattle.std.specs.List.{list_any}
 use Rattle.std.proofs.lemmas.Bool.{and_parts, or_cases, or_right, eqb-true, eq-eqb, cases_Bool, cases_lt, false_from_ne_true, not-true}
 use Rattle.std.proofs.lemmas.Option.{slice_get_past}
@@ -15,6 +15,27 @@ use Rattle.sd_plan.specs.declared.PlanRow.{PlanRow}
 use Rattle.sd_plan.proofs.Rules.{KeepsRules, keeps_rules}
 use Rattle.sd_plan.proofs.Over.{ends_are}
 use Rattle.sd_plan.proofs.Steps.{primary_within}
+
+-- the hops from a first one on
+abbrev pub onward : (ℕ → Bool) → (ℕ → List Hop) → Option Hop → List Hop
+onward ends more found = elim found [ None ↦ [] | Some hop ↦ hop ∷ (elim (ends hop.parent) [ true ↦ [] | false ↦ more hop.parent ]) ]
+
+-- the walk from d comes to the root within n hops
+abbrev pub Comes : Plan → ℕ → ℕ → Type 0
+Comes plan n d = is_root plan (end_of d (hops (is_root plan) plan n d)) ≡ true
+
+-- the hop is there, and leads to the device
+abbrev pub IsParent : Option Hop → ℕ → Type 0
+IsParent o e = (hop : Hop) × (o ≡ Some hop) × (hop.parent ≡ e)
+
+-- a list of the one hop that is there
+pub one_parent : (o : Option Hop) (e : ℕ) → list_any (λ hop. nat_eq hop.parent e) (option_to_list o) ≡ true → IsParent o e
+one_parent None e some = cc
+one_parent (Some hop) e some =
+    elim (or_cases (nat_eq hop.parent e) false some) [ inl here ↦ (hop, refl, eqb-true hop.parent e here) | inr none ↦ absurd (wrong none) ]
+  where
+    wrong : false ≡ true → ⊥
+    wrong same = cc
 
 -- how far a device lies below the root
 abbrev pub height : Network → Plan → ℕ → ℕ

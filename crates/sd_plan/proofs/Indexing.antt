@@ -6,6 +6,7 @@ use Rattle.std.proofs.lemmas.List.{length-replicate, get_or-replicate}
 use Rattle.std.proofs.lemmas.Option.{slice_get_within, slice_get-get_or, get_or_from_slice_get}
 use Rattle.sd_num.specs.Lists.{below, has}
 use Rattle.sd_num.proofs.Shared.{part_length}
+use Rattle.sd_num.specs.Counts.{one_if}
 use Rattle.sd_topo.specs.Network.{Network, device_numbers, link_numbers, Each}
 use Rattle.sd_plan.specs.Plans.{Fits, is_member}
 use Rattle.sd_plan.specs.Structure.{structure_breach}
@@ -20,7 +21,7 @@ use Rattle.sd_plan.specs.declared.index.Span.{Span}
 use Rattle.sd_plan.proofs.Numbered.{numbered_is, get_or-numbered, length-numbered, found_passes}
 use Rattle.sd_plan.proofs.Forest.{IsForest, forest_of, on_inside, on_member, on_root, rooted_member}
 use Rattle.sd_plan.proofs.Subtrees.{subtree_is}
-use Rattle.sd_plan.proofs.Times.{one_if, times, has_times, times_has, times_place, place_times, one_place, few, part_at}
+use Rattle.sd_plan.proofs.Times.{times, has_times, times_has, times_place, place_times, one_place, few, part_at}
 use Rattle.sd_plan.proofs.Below.{AreChildren, times_below, within_depth}
 
 -- the subtree of the root is as deep as the network allows

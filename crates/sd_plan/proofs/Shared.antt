@@ -1,12 +1,14 @@
 -- Lemmas that several crates above share.
 use Rattle.std.proofs.Common.{◌≡◌, length, ap, ◌∙◌, subst, Bool, true, false, [], find, cond, Some, refl}
 use Rattle.std.proofs.lemmas.List.{length-map}
-use Rattle.std.specs.Prelude.{zero, suc, List, ◌∷◌}
+use Rattle.std.specs.Prelude.{ℕ, zero, suc, List, ◌∷◌, Option}
 use Rattle.std.proofs.lemmas.Option.{same_Some}
 use Rattle.sd_topo.specs.Network.{Network, link_numbers, Each}
 use Rattle.sd_plan.specs.IndexedPlan.{IndexedPlan, IsIndexOf, carried_over}
 use Rattle.sd_plan.specs.declared.Plan.{Plan}
 use Rattle.sd_plan.proofs.Numbered.{length-below}
+use Rattle.sd_plan.specs.declared.Absent.{Absent}
+use Rattle.sd_plan.specs.declared.PlanRow.{PlanRow}
 
 -- one entry for each link
 pub carried_length : (net : Network) (plan : Plan) (index : IndexedPlan) → IsIndexOf net plan index → length index.carried ≡ length net.links
@@ -24,3 +26,8 @@ found_passes P p (x ∷ xs) b each found = by_test (λ later. found_passes P p x
     by_test : (find p xs ≡ Some b → P b) → (t : Bool) → cond t (Some x) (find p xs) ≡ Some b → P b
     by_test rest true found = subst P (same_Some x b found) (each 0 x refl)
     by_test rest false found = rest found
+
+-- a plan of its parts
+abbrev pub plan_of : ℕ → ℕ → ℕ → ℕ → ℕ → Absent → List (Option PlanRow) → Plan
+plan_of root backup_root first second ordinary absent rows =
+    record { root = root; backup_root = backup_root; wait_first = first; wait_second = second; wait = ordinary; absent = absent; rows = rows }

@@ -9,10 +9,7 @@ use Rattle.std.proofs.lemmas.Map.Steps.{length-le_from_distinct_below}
 use Rattle.std.proofs.lemmas.Option.{slice_get_within, slice_get-get_or, get_or_from_slice_get}
 use Rattle.std.proofs.lemmas.Slice.{between_is}
 use Rattle.sd_num.specs.Lists.{below, has}
-
--- 1 or 0
-abbrev pub one_if : Bool → ℕ
-one_if b = cond b 1 0
+use Rattle.sd_num.specs.Counts.{one_if}
 
 counted : (x y : ℕ) → y ≡ x → one_if (nat_eq x y) ≡ 1
 counted x y same = ap one_if (eq-eqb x y (sym same))

@@ -1,15 +1,14 @@
 -- Lists of numbers: which they have, and that none stands twice.
-use Rattle.std.specs.Prelude.{◌≡◌, ℕ, zero, suc, ◌<◌, ◌≤◌, Bool, true, false, List, [], ◌∷◌, ◌++◌, length, find, filter, flat_map, nat_eq, Option, Some, None, is_some, slice_get, ◌⊎◌}
-use Rattle.std.specs.List.{list_any, AllByRecursion, IsDistinct}
+use Rattle.std.specs.Prelude.{◌≡◌, ℕ, zero, suc, ◌<◌, ◌≤◌, Bool, true, false, List, [], ◌∷◌, ◌++◌, find, filter, flat_map, nat_eq, Option, Some, None, is_some, slice_get, ◌⊎◌}
+use Rattle.std.specs.List.{list_any}
 use Rattle.std.specs.Option.{option_or}
 use Rattle.std.proofs.Common.{refl, sym, ap, ◌∙◌, subst, arith, inl, inr, cond}
-use Rattle.std.proofs.lemmas.Bool.{or_cases, or_parts, or_left, or_right, both_ways, false_from_ne_true, cases_lt, eqb-true, eq-eqb}
+use Rattle.std.proofs.lemmas.Bool.{or_cases, or_left, or_right, both_ways, false_from_ne_true, cases_lt, eqb-true, eq-eqb}
 use Rattle.std.proofs.lemmas.List.Folds.{list_any-append, find-append}
-use Rattle.std.proofs.lemmas.Map.Keys.{IsDistinct-cons}
-use Rattle.std.proofs.lemmas.Map.Steps.{length-le_from_distinct_below}
 use Rattle.std.proofs.lemmas.Option.{same_Some}
 use Rattle.sd_num.specs.Lists.{has, below}
 use Rattle.sd_num.proofs.Places.{has_at, at_has, kept_parts, kept_from, has_below, below_has}
+use Rattle.sd_num.proofs.Distinct.{AreDistinct}
 use Rattle.sd_plan.proofs.Numbered.{none_found}
 use Rattle.sd_planner.proofs.Elements.{any_found}
 
@@ -86,19 +85,15 @@ flat_has f (z ∷ zs) y x at there =
 
 -- None twice
 
-abbrev pub AreApart : List ℕ → Type 0
-AreApart [] = Unit {0}
-AreApart (x ∷ xs) = (has xs x ≡ false) × AreApart xs
-
-pub apart_filter : (p : ℕ → Bool) (xs : List ℕ) → AreApart xs → AreApart (filter p xs)
+pub apart_filter : (p : ℕ → Bool) (xs : List ℕ) → AreDistinct xs → AreDistinct (filter p xs)
 apart_filter p [] apart = tt
 apart_filter p (y ∷ ys) apart = by (p y) (apart_filter p ys apart.1)
   where
-    by : (b : Bool) → AreApart (filter p ys) → AreApart (cond b (y ∷ filter p ys) (filter p ys))
+    by : (b : Bool) → AreDistinct (filter p ys) → AreDistinct (cond b (y ∷ filter p ys) (filter p ys))
     by true rest = (false_from_ne_true (has (filter p ys) y) (λ there. both_ways (has ys y) apart.0 (kept_parts p ys y there).1), rest)
     by false rest = rest
 
-pub apart_append : (xs ys : List ℕ) → AreApart xs → AreApart ys → ((x : ℕ) → has xs x ≡ true → has ys x ≡ true → ⊥) → AreApart (xs ++ ys)
+pub apart_append : (xs ys : List ℕ) → AreDistinct xs → AreDistinct ys → ((x : ℕ) → has xs x ≡ true → has ys x ≡ true → ⊥) → AreDistinct (xs ++ ys)
 apart_append [] ys first second none = second
 apart_append (x ∷ xs) ys first second none = (
   false_from_ne_true (has (xs ++ ys) x) (λ there. elim (has_both xs ys x there) [
@@ -109,8 +104,8 @@ apart_append (x ∷ xs) ys first second none = (
 )
 
 -- lists of which each element names its own
-pub apart_flat : (f : ℕ → List ℕ) (key : ℕ → Option ℕ) (xs : List ℕ) → AreApart xs → ((y : ℕ) → has xs y ≡ true → AreApart (f y))
-    → ((y x : ℕ) → has xs y ≡ true → has (f y) x ≡ true → key x ≡ Some y) → AreApart (flat_map f xs)
+pub apart_flat : (f : ℕ → List ℕ) (key : ℕ → Option ℕ) (xs : List ℕ) → AreDistinct xs → ((y : ℕ) → has xs y ≡ true → AreDistinct (f y))
+    → ((y x : ℕ) → has xs y ≡ true → has (f y) x ≡ true → key x ≡ Some y) → AreDistinct (flat_map f xs)
 apart_flat f key [] apart each keys = tt
 apart_flat f key (y ∷ ys) apart each keys =
     apart_append (f y) (flat_map f ys) (each y here)
@@ -126,7 +121,7 @@ apart_flat f key (y ∷ ys) apart each keys =
     later : (z : ℕ) → has ys z ≡ true → has (y ∷ ys) z ≡ true
     later z there = or_right (nat_eq z y) (has ys z) there
 
-pub apart_below : (n : ℕ) → AreApart (below n)
+pub apart_below : (n : ℕ) → AreDistinct (below n)
 apart_below zero = tt
 apart_below (suc n) =
     apart_append (below n) (n ∷ []) (apart_below n) (refl, tt)
@@ -135,7 +130,7 @@ apart_below (suc n) =
     elim (or_cases (nat_eq x n) false second) [ inl same ↦ (let is : x ≡ n = eqb-true x n same in omega arith) | inr none ↦ both_ways false refl none ])
 
 -- at two places stand two numbers
-pub apart_places : (xs : List ℕ) (i j x y : ℕ) → AreApart xs → i < j → slice_get xs i ≡ Some x → slice_get xs j ≡ Some y → x ≡ y → ⊥
+pub apart_places : (xs : List ℕ) (i j x y : ℕ) → AreDistinct xs → i < j → slice_get xs i ≡ Some x → slice_get xs j ≡ Some y → x ≡ y → ⊥
 apart_places [] i j x y apart less first second same = cc
 apart_places (z ∷ zs) i zero x y apart less first second same = absurd (omega arith)
 apart_places (z ∷ zs) zero (suc j) x y apart less first second same =
@@ -143,7 +138,7 @@ apart_places (z ∷ zs) zero (suc j) x y apart less first second same =
 apart_places (z ∷ zs) (suc i) (suc j) x y apart less first second same = apart_places zs i j x y apart.1 (omega arith) first second same
 
 -- numbers of which each stands at one place
-pub apart_from_places : (xs : List ℕ) → ((i j x : ℕ) → slice_get xs i ≡ Some x → slice_get xs j ≡ Some x → i ≡ j) → AreApart xs
+pub apart_from_places : (xs : List ℕ) → ((i j x : ℕ) → slice_get xs i ≡ Some x → slice_get xs j ≡ Some x → i ≡ j) → AreDistinct xs
 apart_from_places [] one = tt
 apart_from_places (x ∷ xs) one = (
   false_from_ne_true (has xs x) (λ there.
@@ -152,19 +147,6 @@ apart_from_places (x ∷ xs) one = (
       omega arith),
   apart_from_places xs (λ i j y first second. let same : suc i ≡ suc j = one (suc i) (suc j) y first second in omega arith),
 )
-
--- numbers below a bound, none twice, are as many at most
-pub few : (xs : List ℕ) (n : ℕ) → AreApart xs → ((x : ℕ) → has xs x ≡ true → x < n) → length xs ≤ n
-unfolding IsDistinct
-few xs n apart within = length-le_from_distinct_below xs n (distinct xs apart) within
-  where
-    none : (x : ℕ) (ys : List ℕ) → has ys x ≡ false → AllByRecursion (λ y. nat_eq x y ≡ false) ys
-    none x [] out = tt
-    none x (y ∷ ys) out = let parts : (nat_eq x y ≡ false) × (has ys x ≡ false) = or_parts (nat_eq x y) (has ys x) out in (parts.0, none x ys parts.1)
-
-    distinct : (xs : List ℕ) → AreApart xs → IsDistinct nat_eq xs
-    distinct [] apart = tt
-    distinct (x ∷ xs) apart = IsDistinct-cons nat_eq x xs (none x xs apart.0) (distinct xs apart.1)
 
 -- a list with no element
 pub none_nil : (xs : List ℕ) → ((x : ℕ) → has xs x ≡ true → ⊥) → xs ≡ []

@@ -10,7 +10,8 @@ use Rattle.sd_topo.proofs.Laws.{link_law}
 use Rattle.sd_plan.specs.IndexedPlan.{other_end}
 use Rattle.sd_planner.specs.declared.present.Neighbour.{Neighbour}
 use Rattle.sd_plan.proofs.Numbered.{filtered_more}
-use Rattle.sd_planner.specs.Gathered.{is_flagged, neighbour_by, over_before, neighbour_below}
+use Rattle.sd_planner.specs.Gathered.{neighbour_by, over_before, neighbour_below}
+use Rattle.sd_planner.specs.Flags.{is_set}
 use Rattle.sd_plan.proofs.Listing.{rows_grown}
 
 -- a neighbour over a link
@@ -18,7 +19,7 @@ abbrev pub neighbour_to : ℕ → ℕ → Neighbour
 neighbour_to l c = record { device = c; link = l }
 
 -- the neighbours over a link that may be used
-link_over : (net : Network) (flags : List Bool) (l d : ℕ) → (link_of net l).end_a ≢ (link_of net l).end_b → is_flagged flags l ≡ true
+link_over : (net : Network) (flags : List Bool) (l d : ℕ) → (link_of net l).end_a ≢ (link_of net l).end_b → is_set flags l ≡ true
     → filter_map (neighbour_by net flags d) (l ∷ []) ≡ neighbour_below l (link_of net l).end_a (link_of net l).end_b d
     ++ neighbour_below l (link_of net l).end_b (link_of net l).end_a d
 link_over net flags l d apart flagged =
@@ -40,7 +41,7 @@ link_over net flags l d apart flagged =
     by_ends a b false false both = refl
 
 -- one more link that may be used
-over_grown : (net : Network) (flags : List Bool) (l d : ℕ) → IsNetwork net → l < length net.links → is_flagged flags l ≡ true
+over_grown : (net : Network) (flags : List Bool) (l d : ℕ) → IsNetwork net → l < length net.links → is_set flags l ≡ true
     → over_before net flags (l + 1) d ≡ (over_before net flags l d ++ neighbour_below l (link_of net l).end_a (link_of net l).end_b d)
     ++ neighbour_below l (link_of net l).end_b (link_of net l).end_a d
 over_grown net flags l d law within flagged =
@@ -50,7 +51,7 @@ over_grown net flags l d law within flagged =
     (neighbour_below l (link_of net l).end_b (link_of net l).end_a d))
 
 -- a link that may not
-over_same : (net : Network) (flags : List Bool) (l d : ℕ) → is_flagged flags l ≡ false → over_before net flags (l + 1) d ≡ over_before net flags l d ++ []
+over_same : (net : Network) (flags : List Bool) (l d : ℕ) → is_set flags l ≡ false → over_before net flags (l + 1) d ≡ over_before net flags l d ++ []
 over_same net flags l d not_flagged =
     filtered_more (neighbour_by net flags d) l
     ∙ ap (λ more. over_before net flags l d ++ more)
@@ -59,7 +60,7 @@ over_same net flags l d not_flagged =
 
 -- the rows after both ends of a link
 pub rows_over : (net : Network) (flags : List Bool) (l : ℕ) (link : LinkEntry) (rows some all : List (List Neighbour)) → IsNetwork net → l < length net.links
-    → is_flagged flags l ≡ true → link ≡ link_of net l
+    → is_set flags l ≡ true → link ≡ link_of net l
     → rows ≡ map (over_before net flags l) (device_numbers net) → length some ≡ length rows → length all ≡ length some
     → ((d : ℕ) → d < length rows → get_or some d [] ≡ get_or rows d [] ++ neighbour_below l link.end_a link.end_b d)
     → ((d : ℕ) → d < length some → get_or all d [] ≡ get_or some d [] ++ neighbour_below l link.end_b link.end_a d)
@@ -75,7 +76,7 @@ rows_over net flags l link rows some all law within flagged is before first_size
     (over_grown net flags l d law within flagged))
 
 -- the rows after a link that may not be used
-pub rows_same : (net : Network) (flags : List Bool) (l : ℕ) (rows : List (List Neighbour)) → is_flagged flags l ≡ false
+pub rows_same : (net : Network) (flags : List Bool) (l : ℕ) (rows : List (List Neighbour)) → is_set flags l ≡ false
     → rows ≡ map (over_before net flags l) (device_numbers net) → rows ≡ map (over_before net flags (l + 1)) (device_numbers net)
 rows_same net flags l rows not_flagged are =
     rows_grown (over_before net flags l) (over_before net flags (l + 1)) (λ d. []) (length net.devices) rows rows refl are

@@ -11,9 +11,10 @@ use Rattle.sd_planner.specs.declared.placement.Placed.{Placed}
 use Rattle.sd_planner.specs.Spreading.{is_placed, placed_at}
 use Rattle.sd_planner.specs.PlacementView.{AreTied}
 use Rattle.sd_planner.proofs.Elements.{any_found, found_at_place}
-use Rattle.sd_planner.proofs.Lists.{apart_from_places, few}
+use Rattle.sd_planner.proofs.Lists.{apart_from_places}
 use Rattle.sd_num.specs.Lists.{has}
 use Rattle.sd_num.proofs.Places.{at_has, at_cases, at_last as at_end, at_written}
+use Rattle.sd_num.proofs.Distinct.{few}
 
 -- places of a longer list
 pub at_before : {X : Type 0} (xs ys : List X) (i : ℕ) (x : X) → slice_get xs i ≡ Some x → slice_get (xs ++ ys) i ≡ Some x

@@ -6,11 +6,12 @@ use Rattle.std.proofs.lemmas.Option.{same_Some}
 use Rattle.sd_num.specs.Lists.{has, same_number}
 use Rattle.sd_num.proofs.Places.{has_below, below_has, kept_parts, kept_from}
 use Rattle.sd_num.proofs.Shared.{same_number-some, some-same_number}
+use Rattle.sd_num.proofs.Distinct.{AreDistinct, few}
 use Rattle.sd_topo.specs.Network.{Network, device_numbers}
 use Rattle.sd_plan.specs.declared.Absent.{Absent}
 use Rattle.sd_planner.specs.Usable.{are_neighbours}
 use Rattle.sd_planner.specs.Spreading.{ring}
-use Rattle.sd_planner.proofs.Lists.{has_flat, flat_has, AreApart, apart_filter, apart_flat, apart_below, few, none_nil, found_has, has_found}
+use Rattle.sd_planner.proofs.Lists.{has_flat, flat_has, apart_filter, apart_flat, apart_below, none_nil, found_has, has_found}
 use Rattle.sd_planner.proofs.Walks.{linked, steps, steps_some, no_steps, at_home, Nearer, nearer}
 
 module _ (net : Network) (absent : Absent) (source : ℕ) (through : ℕ → Bool) where
@@ -95,7 +96,7 @@ module _ (net : Network) (absent : Absent) (source : ℕ) (through : ℕ → Boo
           omega (arith, found.1)
 
   -- none stands in a ring twice
-  pub ring_apart : (n : ℕ) → AreApart (ring net absent source through n)
+  pub ring_apart : (n : ℕ) → AreDistinct (ring net absent source through n)
   ring_apart zero = (refl, tt)
   ring_apart (suc n) =
       apart_flat (part_of n) (λ d. find (are_neighbours net absent d) (ring net absent source through n)) (ring net absent source through n) (ring_apart n)
@@ -108,7 +109,7 @@ module _ (net : Network) (absent : Absent) (source : ℕ) (through : ℕ → Boo
   record OneOfEach (n : ℕ) : Type 0 where
     devices : List ℕ
     count : length devices ≡ suc n
-    apart : AreApart devices
+    apart : AreDistinct devices
     within : (x : ℕ) → has devices x ≡ true → x < length net.devices
     near : (x : ℕ) → has devices x ≡ true → (j : ℕ) × (j ≤ n) × (steps net absent through source x ≡ Some j)
 

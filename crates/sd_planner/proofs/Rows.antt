@@ -4,13 +4,11 @@ use Rattle.sd_topo.specs.Network.{least_low, greatest_up}
 use Rattle.sd_plan.specs.declared.Absent.{Absent}
 use Rattle.sd_check_root.specs.Timing.{silence}
 use Rattle.sd_plan.specs.Examples.{fabric, fabric_rows, hop}
+use Rattle.sd_plan.specs.Plans.{nothing_absent}
 use Rattle.sd_planner.specs.Placing.{backup_root_of, placed}
 use Rattle.sd_planner.specs.Serving.{greedy_rows, primaries, walk_up}
 
-abbrev nothing : Absent
-nothing = record { devices = []; links = [] }
-
-fabric_greedy : greedy_rows fabric 0 nothing ≡ fabric_rows (Some (hop 1 5))
+fabric_greedy : greedy_rows fabric 0 nothing_absent ≡ fabric_rows (Some (hop 1 5))
 unfolding greedy_rows primaries walk_up placed
 fabric_greedy = refl
 

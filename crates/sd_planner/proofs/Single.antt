@@ -3,7 +3,7 @@ use Rattle.std.proofs.Common.{◌≡◌, ℕ, ◌+◌, ◌*◌, ◌≤◌, List,
 use Rattle.sd_topo.specs.Network.{Network, greatest_up}
 use Rattle.sd_plan.specs.declared.Absent.{Absent}
 use Rattle.sd_plan.specs.declared.Plan.{Plan}
-use Rattle.sd_plan.specs.declared.PlanRow.{PlanRow}
+use Rattle.sd_plan.proofs.Shared.{plan_of}
 use Rattle.sd_check_root.specs.Timing.{silence}
 use Rattle.sd_planner.specs.Greedy.{IsGreedy, IsLeastWait}
 
@@ -11,21 +11,17 @@ use Rattle.sd_planner.specs.Greedy.{IsGreedy, IsLeastWait}
 same_wait : (net : Network) (long x y : ℕ) → IsLeastWait net long x → IsLeastWait net long y → x ≡ y
 same_wait net long x y a b = let below : x ≤ y = a.least y b.enough in let above : y ≤ x = b.least x a.enough in omega arith
 
-abbrev plan_with : ℕ → ℕ → ℕ → ℕ → ℕ → Absent → List (Option PlanRow) → Plan
-plan_with root backup_root first second ordinary absent rows =
-    record { root = root; backup_root = backup_root; wait_first = first; wait_second = second; wait = ordinary; absent = absent; rows = rows }
-
 -- plans with the same parts
 same_parts : (p q : Plan) → p.root ≡ q.root → p.backup_root ≡ q.backup_root → p.wait_first ≡ q.wait_first → p.wait_second ≡ q.wait_second → p.wait ≡ q.wait
     → p.absent ≡ q.absent → p.rows ≡ q.rows → p ≡ q
 same_parts p q root backup_root first second ordinary absent rows =
-    ap (λ r. plan_with r p.backup_root p.wait_first p.wait_second p.wait p.absent p.rows) root
-    ∙ ap (λ b. plan_with q.root b p.wait_first p.wait_second p.wait p.absent p.rows) backup_root
-    ∙ ap (λ x. plan_with q.root q.backup_root x p.wait_second p.wait p.absent p.rows) first
-    ∙ ap (λ x. plan_with q.root q.backup_root q.wait_first x p.wait p.absent p.rows) second
-    ∙ ap (λ x. plan_with q.root q.backup_root q.wait_first q.wait_second x p.absent p.rows) ordinary
-    ∙ ap (λ a. plan_with q.root q.backup_root q.wait_first q.wait_second q.wait a p.rows) absent
-    ∙ ap (λ r. plan_with q.root q.backup_root q.wait_first q.wait_second q.wait q.absent r) rows
+    ap (λ r. plan_of r p.backup_root p.wait_first p.wait_second p.wait p.absent p.rows) root
+    ∙ ap (λ b. plan_of q.root b p.wait_first p.wait_second p.wait p.absent p.rows) backup_root
+    ∙ ap (λ x. plan_of q.root q.backup_root x p.wait_second p.wait p.absent p.rows) first
+    ∙ ap (λ x. plan_of q.root q.backup_root q.wait_first x p.wait p.absent p.rows) second
+    ∙ ap (λ x. plan_of q.root q.backup_root q.wait_first q.wait_second x p.absent p.rows) ordinary
+    ∙ ap (λ a. plan_of q.root q.backup_root q.wait_first q.wait_second q.wait a p.rows) absent
+    ∙ ap (λ r. plan_of q.root q.backup_root q.wait_first q.wait_second q.wait q.absent r) rows
 
 pub same_greedy : (net : Network) (root : ℕ) (absent : Absent) (p q : Plan) → IsGreedy net root absent p → IsGreedy net root absent q → p ≡ q
 same_greedy net root absent p q a b =

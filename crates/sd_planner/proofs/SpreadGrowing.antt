@@ -6,6 +6,7 @@ use Rattle.std.proofs.lemmas.List.{append-nil}
 use Rattle.std.proofs.lemmas.Option.{same_Some, slice_get-map}
 use Rattle.sd_num.specs.Lists.{has, below, map_or}
 use Rattle.sd_num.proofs.Places.{below_has, at_has, has_at}
+use Rattle.sd_num.proofs.Distinct.{AreDistinct}
 use Rattle.sd_topo.specs.Network.{Network, joins, link_numbers}
 use Rattle.sd_plan.specs.declared.Hop.{Hop}
 use Rattle.sd_plan.specs.declared.Absent.{Absent}
@@ -13,7 +14,7 @@ use Rattle.sd_planner.specs.Usable.{is_usable, link_between, are_neighbours}
 use Rattle.sd_planner.specs.declared.placement.Placed.{Placed}
 use Rattle.sd_planner.specs.Spreading.{below_device, ring, placed_ring, spread}
 use Rattle.sd_planner.specs.Grown.{IsBelow, SpreadGrows}
-use Rattle.sd_planner.proofs.Lists.{has_flat, found_has, AreApart, apart_flat, apart_below, apart_places}
+use Rattle.sd_planner.proofs.Lists.{has_flat, found_has, apart_flat, apart_below, apart_places}
 use Rattle.sd_planner.proofs.Places.{at_before}
 use Rattle.sd_planner.proofs.Walks.{steps}
 use Rattle.sd_planner.proofs.Rings.{IsInRing, in_ring, ring_apart}
@@ -164,7 +165,7 @@ module _ (net : Network) (absent : Absent) where
         ap (λ ds. slice_get ds i) (sym (rings_devices net absent source through depth (below (length net.devices))))
         ∙ slice_get-map (λ p. p.device) (spread net absent source through depth) i ∙ ap (λ (o : Option Placed). option_map (λ p. p.device) o) at
 
-    all_apart : AreApart (flat_map (next_ring net absent source through depth) (below (length net.devices)))
+    all_apart : AreDistinct (flat_map (next_ring net absent source through depth) (below (length net.devices)))
     all_apart =
         apart_flat (next_ring net absent source through depth) (λ x. option_map (λ k. k - 1) (steps net absent through source x)) (below (length net.devices))
         (apart_below (length net.devices))

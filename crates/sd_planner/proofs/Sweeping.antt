@@ -6,13 +6,14 @@ use Rattle.std.proofs.lemmas.List.{append-nil}
 use Rattle.sd_num.specs.Lists.{has, same_number}
 use Rattle.sd_num.proofs.Places.{below_has}
 use Rattle.sd_num.proofs.Shared.{same_number-some}
+use Rattle.sd_num.proofs.Distinct.{AreDistinct}
 use Rattle.sd_topo.specs.Network.{Network, device_numbers}
 use Rattle.sd_plan.specs.declared.Absent.{Absent}
 use Rattle.sd_planner.specs.Usable.{are_neighbours, neighbours_of}
 use Rattle.sd_planner.specs.declared.placement.Placed.{Placed}
 use Rattle.sd_planner.specs.Spreading.{is_placed, below_device}
 use Rattle.sd_planner.specs.Sweeps.{is_new, children, Sweeps, turn}
-use Rattle.sd_planner.proofs.Lists.{has-filter_below, filter_same, flat_same, AreApart, found_has}
+use Rattle.sd_planner.proofs.Lists.{has-filter_below, filter_same, flat_same, found_has}
 use Rattle.sd_planner.proofs.Turning.{placed-devices, placed-append, new_among, placed_below}
 
 module _ (may_pass : List Bool) (net : Network) (absent : Absent) where
@@ -98,7 +99,7 @@ module _ (may_pass : List Bool) (net : Network) (absent : Absent) where
 
   -- all that they place
   pub placed_by : (f : ℕ → Placed) (depth : ℕ) → ((d : ℕ) → (f d).device ≡ d) → ((d : ℕ) → (f d).depth ≡ depth)
-      → (ds : List ℕ) → AreApart ds → (order : List Placed) → all_children order (map f ds) ≡ flat_map (children_of order ds depth) ds
+      → (ds : List ℕ) → AreDistinct ds → (order : List Placed) → all_children order (map f ds) ≡ flat_map (children_of order ds depth) ds
   placed_by f depth device deep [] apart order = refl
   placed_by f depth device deep (d ∷ ds) apart order =
       let new : List Placed = map (below_device net absent d depth) (new_among net absent may_pass d depth order (device_numbers net)) in

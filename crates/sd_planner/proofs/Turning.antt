@@ -5,6 +5,7 @@ use Rattle.std.proofs.lemmas.Bool.{both_ways, eq-eqb, ne_eqb, not_from_true, and
 use Rattle.std.proofs.lemmas.List.Folds.{list_any-append}
 use Rattle.sd_num.specs.Lists.{has}
 use Rattle.sd_num.proofs.Shared.{equal_swap, find_same}
+use Rattle.sd_num.proofs.Distinct.{AreDistinct}
 use Rattle.sd_topo.specs.Network.{Network, joins, device_numbers, link_numbers}
 use Rattle.sd_planner.specs.declared.present.Neighbour.{Neighbour}
 use Rattle.sd_plan.specs.declared.Absent.{Absent}
@@ -12,7 +13,7 @@ use Rattle.sd_planner.specs.Usable.{is_usable, links_between, link_between, are_
 use Rattle.sd_planner.specs.declared.placement.Placed.{Placed}
 use Rattle.sd_planner.specs.Spreading.{is_placed, below_device}
 use Rattle.sd_planner.specs.Sweeps.{child, is_new, children}
-use Rattle.sd_planner.proofs.Lists.{filter_same, AreApart, apart_below, find_first, find_none}
+use Rattle.sd_planner.proofs.Lists.{filter_same, apart_below, find_first, find_none}
 use Rattle.sd_planner.proofs.Turned.{neighbour_over}
 use Rattle.sd_planner.proofs.Walks.{joins_swap}
 
@@ -73,7 +74,7 @@ module _ (net : Network) (absent : Absent) where
     new_among order ys = filter (λ y. is_new may_pass order y && are_neighbours net absent y parent) ys
 
     -- the neighbours to some devices place the neighbours among them that are new
-    pub placed_among : (order : List Placed) (ys : List ℕ) → AreApart ys
+    pub placed_among : (order : List Placed) (ys : List ℕ) → AreDistinct ys
         → children may_pass parent depth order (flat_map (λ y. map (neighbour_over y) (links_between net absent parent y)) ys)
         ≡ map (below_device net absent parent depth) (new_among order ys)
     placed_among order [] apart = refl

@@ -3,9 +3,8 @@ use Rattle.std.specs.Prelude.{ℕ, Bool, ◌&&◌, ◌||◌, not, List, [], leng
 use Rattle.std.specs.List.{list_any}
 use Rattle.sd_num.specs.Lists.{below, has}
 use Rattle.sd_topo.specs.Network.{Network, device_numbers}
-use Rattle.sd_plan.specs.Domain.Domains.{domains, holds_device, holds_link, hits}
+use Rattle.sd_plan.specs.Domain.Domains.{domains, holds_device, holds_link, hits, listed_domains}
 use Rattle.sd_plan.specs.Domain.declared.DomainId.{DomainId}
-use Rattle.sd_plan.specs.Domain.declared.DomainId.TheVariants.{Listed}
 use Rattle.sd_plan.specs.declared.Hop.{Hop}
 use Rattle.sd_plan.specs.declared.PlanRow.{PlanRow}
 use Rattle.sd_plan.specs.declared.Plan.{Plan}
@@ -19,10 +18,6 @@ use Rattle.sd_planner.specs.Placing.{backup_root_of, placed}
 -- the domain has the hop's link or parent
 abbrev pub hits_hop : Network → DomainId → Hop → Bool
 hits_hop net domain hop = holds_link net domain hop.link || holds_device net domain hop.parent
-
--- the listed domains, in their order
-abbrev pub listed_domains : Network → List DomainId
-listed_domains net = map Listed (below (length net.domains))
 
 -- the two sides differ
 abbrev pub differ : Bool → Bool → Bool

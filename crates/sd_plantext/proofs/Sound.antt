@@ -16,6 +16,7 @@ use Rattle.sd_plan.specs.declared.PlanRow.{PlanRow}
 use Rattle.sd_plan.specs.declared.Absent.{Absent as Left}
 use Rattle.sd_plan.specs.declared.Plan.{Plan}
 use Rattle.sd_plan.specs.Plans.{Fits, IsHop, IsRow}
+use Rattle.sd_plan.proofs.Shared.{plan_of}
 use Rattle.sd_plantext.specs.declared.fault.PlanPlace.{PlanPlace}
 use Rattle.sd_plantext.specs.declared.fault.PlanKey.{PlanKey}
 use Rattle.sd_plantext.specs.declared.fault.PlanKey.TheVariants as keys
@@ -230,14 +231,9 @@ rows_ok net d rows h =
     rows_from_ok net 1 (no_rows net) rows ds
     (record { long = length-replicate (length net.devices) none; good = All-replicate (IsRow net) (length net.devices) none tt }) last
 
--- a plan of its parts
-abbrev made : ℕ → ℕ → ℕ → ℕ → ℕ → Left → List (Option PlanRow) → Plan
-made root backup_root first second ordinary absent rows =
-    record { root = root; backup_root = backup_root; wait_first = first; wait_second = second; wait = ordinary; absent = absent; rows = rows }
-
 -- what is read after the parts that are there
 abbrev after_absent : Network → Data → ℕ → ℕ → ℕ → ℕ → ℕ → Left → Result Plan PlanFault
-after_absent net d r b f s w absent = rows_in net d >>= (λ rows. Ok (made r b f s w absent rows))
+after_absent net d r b f s w absent = rows_in net d >>= (λ rows. Ok (plan_of r b f s w absent rows))
 
 abbrev after_waits : Network → Data → ℕ → ℕ → ℕ → ℕ → ℕ → Result Plan PlanFault
 after_waits net d r b f s w = absent_in net d >>= after_absent net d r b f s w
@@ -265,7 +261,7 @@ record AreNumbers (net : Network) (r b f s w : ℕ) : Type 0 where
 
 -- such numbers with what is left out and rows fit
 fits_of : (net : Network) (d : Data) (r b f s w : ℕ) (absent : Left) (rows : List (Option PlanRow)) → AreNumbers net r b f s w → absent_in net d ≡ Ok absent
-    → AreRows net rows → Fits net (made r b f s w absent rows)
+    → AreRows net rows → Fits net (plan_of r b f s w absent rows)
 fits_of net d r b f s w absent rows numbers left good =
     let rise = absent_ok net d absent left in
     record {
@@ -282,8 +278,8 @@ fits_of net d r b f s w absent rows numbers left good =
 lists_ok : (net : Network) (d : Data) (r b f s w : ℕ) (plan : Plan) → AreNumbers net r b f s w → after_waits net d r b f s w ≡ Ok plan → Fits net plan
 lists_ok net d r b f s w plan numbers h =
     let (absent, left, h1) = bind_ok (absent_in net d) (after_absent net d r b f s w) plan h in
-    let (rows, read, h2) = bind_ok (rows_in net d) (λ rows. Ok (made r b f s w absent rows)) plan h1 in
-    subst (Fits net) (ok_inside (made r b f s w absent rows) plan h2) (fits_of net d r b f s w absent rows numbers left (rows_ok net d rows read))
+    let (rows, read, h2) = bind_ok (rows_in net d) (λ rows. Ok (plan_of r b f s w absent rows)) plan h1 in
+    subst (Fits net) (ok_inside (plan_of r b f s w absent rows) plan h2) (fits_of net d r b f s w absent rows numbers left (rows_ok net d rows read))
 
 -- what is read after the roots fits
 waits_ok : (net : Network) (d : Data) (r b : ℕ) (plan : Plan) → r < length net.devices → b < length net.devices → after_roots net d r b ≡ Ok plan

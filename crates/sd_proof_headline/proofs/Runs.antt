@@ -29,7 +29,7 @@ use Rattle.sd_cmd_files.specs.declared.command_error.Refusal.{Refusal}
 use Rattle.sd_cmd_files.specs.planfiles.PlanFiles.{AfterVerdict, AfterJudged, AfterPlans, AfterAllPlans}
 use Rattle.sd_cmd_files.proofs.planfiles.Reading.{each_more}
 use Rattle.sd_replay.specs.Sched.declared.Event.{Event}
-use Rattle.sd_replay.specs.History.World.{Setting}
+use Rattle.sd_replay.specs.History.World.{Setting, setting_over}
 use Rattle.sd_cmd_files.specs.work.Works.{Work, IsOutcome}
 use Rattle.sd_proof_headline.specs.Headlines.{whole_lines, none_before, is_alarm, is_broken, is_interval_alarm, is_disorder, is_dishonest, no_early_alarm, no_early_interval, no_early_disorder}
 use Rattle.sd_proof_headline.specs.Runs.{IsRunOf}
@@ -95,25 +95,21 @@ module _ (Says : List ℕ → Type 0) (bytes : List ℕ) (status : Status) (refu
 
 -- Runs
 
--- plans that were accepted over a network
-abbrev over : Network → List Plan → Setting
-over net plans = record { net = net; plans = plans }
-
 -- what is said of lines of refusals, and of the reading of a schedule over each fair setting, is said of all that a run may write
 run_says : (Says : List ℕ → Type 0) (work : Setting → Work Event) (topology : List ℕ) (plans : List (List ℕ)) (schedule : List ℕ) (bytes : List ℕ)
     (status : Status)
     → ((text : List ℕ) → IsQuiet text → Says text)
     → ((net : Network) (accepted : List Plan) → IsNetwork net → length plans ≡ length accepted → Each (Fits net) accepted → Each (IsAccepted net) accepted
-    → IsOutcome (work (over net accepted)) schedule bytes status → Says bytes)
+    → IsOutcome (work (setting_over net accepted)) schedule bytes status → Says bytes)
     → IsRunOf work topology plans schedule bytes status → Says bytes
 run_says Says work topology plans schedule bytes status quiet outcome written =
     after_file Says bytes status (λ why. quiet (refusal_line why) (refusal_quiet why)) (topology_of topology)
-    (λ net. AfterAllPlans net plans (λ accepted. IsOutcome (work (over net accepted)) schedule))
+    (λ net. AfterAllPlans net plans (λ accepted. IsOutcome (work (setting_over net accepted)) schedule))
     (λ net same.
     let is : IsNetwork net = text_is_network topology net same in
     after_plans Says bytes status (λ why. quiet (refusal_line why) (refusal_quiet why)) net
     (λ place breach. quiet (refused_line net place breach) (breach_quiet net is place breach)) 1 [] plans
-    (λ accepted. IsOutcome (work (over net accepted)) schedule) (λ i x none. cc) (λ i x none. cc)
+    (λ accepted. IsOutcome (work (setting_over net accepted)) schedule) (λ i x none. cc) (λ i x none. cc)
     (λ accepted count fit accept. outcome net accepted is (omega (arith, count)) fit accept)) written
 
 passes_quietly : (bad first : List ℕ → Bool) (text : List ℕ) (quiet : IsQuiet text) → count_by bad quiet.ls ≡ 0
@@ -130,7 +126,7 @@ module _ (work : Setting → Work Event) (topology : List ℕ) (plans : List (Li
       run_says (λ text. no_early_interval text ≡ true) work topology plans schedule bytes status
       (λ text quiet. passes_quietly is_interval_alarm is_dishonest text quiet quiet.intervals)
       (λ net accepted is count fit accept outcome. ap no_early_interval outcome.0
-      ∙ events_keep_interval (over net accepted) is (work (over net accepted)) (prints (over net accepted)) schedule) written
+      ∙ events_keep_interval (setting_over net accepted) is (work (setting_over net accepted)) (prints (setting_over net accepted)) schedule) written
 
   -- no alarm stands before the first line of a premise
   pub run_keeps_alarm : ((setting : Setting) → PrintsEvents setting (work setting)) → 1 ≤ length plans → no_early_alarm bytes ≡ true
@@ -139,7 +135,7 @@ module _ (work : Setting → Work Event) (topology : List ℕ) (plans : List (Li
       (λ text quiet. passes_quietly is_alarm is_broken text quiet quiet.alarms)
       (λ net accepted is count fit accept outcome.
       ap no_early_alarm outcome.0
-      ∙ events_keep_alarm (over net accepted) is (work (over net accepted)) (prints (over net accepted))
+      ∙ events_keep_alarm (setting_over net accepted) is (work (setting_over net accepted)) (prints (setting_over net accepted))
       (record { network = is; some_plan = omega (arith, count, some); fit = fit; accepted = accept }) schedule) written
 
   -- Runs that print the lines of commit wait behind those
@@ -149,7 +145,7 @@ module _ (work : Setting → Work Event) (topology : List ℕ) (plans : List (Li
       run_says (λ text. no_early_interval text ≡ true) work topology plans schedule bytes status
       (λ text quiet. passes_quietly is_interval_alarm is_dishonest text quiet quiet.intervals)
       (λ net accepted is count fit accept outcome. ap no_early_interval outcome.0
-      ∙ waits_keep_interval (over net accepted) is (work (over net accepted)) (prints (over net accepted)) schedule) written
+      ∙ waits_keep_interval (setting_over net accepted) is (work (setting_over net accepted)) (prints (setting_over net accepted)) schedule) written
 
   pub order_keeps_alarm : ((setting : Setting) → PrintsWaits setting (work setting)) → 1 ≤ length plans → no_early_alarm bytes ≡ true
   order_keeps_alarm prints some =
@@ -157,7 +153,7 @@ module _ (work : Setting → Work Event) (topology : List ℕ) (plans : List (Li
       (λ text quiet. passes_quietly is_alarm is_broken text quiet quiet.alarms)
       (λ net accepted is count fit accept outcome.
       ap no_early_alarm outcome.0
-      ∙ waits_keep_alarm (over net accepted) is (work (over net accepted)) (prints (over net accepted))
+      ∙ waits_keep_alarm (setting_over net accepted) is (work (setting_over net accepted)) (prints (setting_over net accepted))
       (record { network = is; some_plan = omega (arith, count, some); fit = fit; accepted = accept }) schedule) written
 
   -- nor does a disorder stand before the first line that names starts, drifts or delays as broken
@@ -166,4 +162,4 @@ module _ (work : Setting → Work Event) (topology : List ℕ) (plans : List (Li
       run_says (λ text. no_early_disorder text ≡ true) work topology plans schedule bytes status
       (λ text quiet. passes_quietly is_disorder is_dishonest text quiet quiet.disorders)
       (λ net accepted is count fit accept outcome. ap no_early_disorder outcome.0
-      ∙ waits_keep_order (over net accepted) is (work (over net accepted)) (prints (over net accepted)) schedule) written
+      ∙ waits_keep_order (setting_over net accepted) is (work (setting_over net accepted)) (prints (setting_over net accepted)) schedule) written

@@ -104,3 +104,8 @@ is_seal _ = false
 abbrev pub is_end_event : Event → Bool
 is_end_event (End reference) = true
 is_end_event _ = false
+
+-- the event asks the device
+abbrev pub is_ask : Event → Bool
+is_ask (Ask reference device counter) = true
+is_ask _ = false

@@ -4,8 +4,8 @@ use Rattle.std.proofs.lemmas.List.Sums.{sum_by-cons}
 use Rattle.std.specs.Prelude.{count_by, cond}
 use Rattle.sd_num.specs.Lists.{map_or}
 use Rattle.sd_sched.specs.declared.Event.{Event}
-use Rattle.sd_sched.specs.Events.{reference_of, counter_of, is_end_event}
-use Rattle.sd_solo.specs.Histories.{Situation, situation, refusal_in, is_start, is_ask, is_known, estimate_set, IsHistory, refusal}
+use Rattle.sd_sched.specs.Events.{reference_of, counter_of, is_end_event, is_ask}
+use Rattle.sd_solo.specs.Histories.{Situation, situation, refusal_in, is_start, is_known, estimate_set, IsHistory, refusal}
 use Rattle.sd_solo.specs.Registers.{StandsFor, situation_of}
 use Rattle.sd_solo.specs.declared.Solo.{Solo}
 

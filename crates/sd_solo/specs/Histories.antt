@@ -9,7 +9,7 @@ use Rattle.sd_clock.specs.declared.Report.{Report}
 use Rattle.sd_clock.specs.Estimates.{estimate_at, report_of}
 use Rattle.sd_sched.specs.declared.Event.{Event}
 use Rattle.sd_sched.specs.declared.Event.TheVariants as event
-use Rattle.sd_sched.specs.Events.{reference_of, device_of, counter_of, started, is_end_event}
+use Rattle.sd_sched.specs.Events.{reference_of, device_of, counter_of, started, is_end_event, is_ask}
 use Rattle.sd_solo.specs.declared.SoloFault.{SoloFault}
 use Rattle.sd_solo.specs.declared.SoloFault.TheVariants as fault
 
@@ -32,11 +32,6 @@ was_started events = list_any (λ e. is_some (started e)) events
 -- the event starts the device
 abbrev pub is_start : Event → Bool
 is_start e = is_some (started e)
-
--- the event asks the device
-abbrev pub is_ask : Event → Bool
-is_ask (event.Ask reference device counter) = true
-is_ask _ = false
 
 -- what a refusal turns on of the past: the reference and the counter of the latest event and reading, whether the device was started and the schedule has
 -- ended, and the number of events

@@ -1,7 +1,8 @@
 -- How the registers of a device stand for its history.
 use Rattle.std.specs.Prelude.{◌≡◌, List, count_by}
 use Rattle.sd_sched.specs.declared.Event.{Event}
-use Rattle.sd_solo.specs.Histories.{Situation, situation, estimate_now, is_ask, IsHistory}
+use Rattle.sd_sched.specs.Events.{is_ask}
+use Rattle.sd_solo.specs.Histories.{Situation, situation, estimate_now, IsHistory}
 use Rattle.sd_solo.specs.declared.Solo.{Solo}
 
 -- what the registers tell of the past

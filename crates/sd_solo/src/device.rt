@@ -18,9 +18,9 @@ const MOST_EVENTS: u32 = 1 << 26;
 
 impl Solo {
     ghost use Rattle.sd_sched.specs.declared.Event.{Event};
-    ghost use Rattle.sd_solo.specs.Histories.{refusal_in, refusal, report_by, is_known, is_ask};
+    ghost use Rattle.sd_solo.specs.Histories.{refusal_in, refusal, report_by, is_known};
     ghost use Rattle.sd_solo.specs.Registers.{StandsFor, situation_of};
-    ghost use Rattle.sd_sched.specs.Events.{is_end_event, reference_of};
+    ghost use Rattle.sd_sched.specs.Events.{is_ask, is_end_event, reference_of};
     ghost use Rattle.sd_clock.specs.Estimates.{contains};
     ghost use Rattle.sd_solo.specs.Promises.{start_holds, drift_holds};
 

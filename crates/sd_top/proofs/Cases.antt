@@ -1,9 +1,10 @@
 -- The line of a case has no alarm where it has no broken line.
 use Rattle.std.specs.Prelude.{◌≡◌, ℕ, zero, suc, true, List, [], ◌∷◌}
 use Rattle.std.proofs.Common.{ap, ◌∙◌, arith, subst}
+use Rattle.sd_cmd_replay.specs.Replay.History.World.{setting_over}
 use Rattle.sd_topo.specs.Network.{Network, Each}
 use Rattle.sd_topo.specs.Limits.{IsNetwork}
-use Rattle.sd_plan.specs.Plans.{Fits}
+use Rattle.sd_plan.specs.Plans.{Fits, nothing_absent}
 use Rattle.sd_plan.specs.declared.Absent.{Absent}
 use Rattle.sd_plan.specs.declared.Plan.{Plan}
 use Rattle.sd_cmd_files.specs.Checker.Verdicts.{IsAccepted, IsVerdict}
@@ -11,13 +12,12 @@ use Rattle.sd_cmd_files.specs.Checker.declared.Verdict.{Verdict}
 use Rattle.sd_cmd_files.specs.Checker.declared.Verdict.TheVariants.{Accepted, Refused}
 use Rattle.sd_proof_bound.specs.History.World.{Setting}
 use Rattle.sd_proof_bound.specs.ProofSafety.invariant.Coming.{IsFair}
-use Rattle.sd_cmd_case.specs.Gen.fabric.Fabrics.{fabric, first_absent, second_absent}
+use Rattle.sd_cmd_case.specs.Gen.fabric.Fabrics.{fabric, second_absent}
 use Rattle.sd_cmd_case.specs.Gen.Drafts.{history_of}
 use Rattle.sd_cmd_files.specs.Answering.{Allowed}
 use Rattle.sd_cmd_files.specs.declared.Status.{Status}
 use Rattle.sd_cmd_files.specs.planfiles.PlanFiles.{AfterVerdict}
 use Rattle.sd_cmd_case.specs.Cases.{AfterGreedy, IsTallied, case_tally}
-use Rattle.sd_cmd_replay.specs.Replay.Settings.{setting_over}
 use Rattle.sd_cmd_case.specs.declared.Fabric.{Fabric}
 use Rattle.sd_cmd_case.proofs.Histories.{case_is_history}
 use Rattle.sd_cmd_case.proofs.Sized.{fabric_is_network}
@@ -61,7 +61,7 @@ pub case_keeps_alarms : (number : ℕ) (sizes : Fabric) → CaseKeepsAlarms numb
 case_keeps_alarms number sizes within bytes status written =
     let net = fabric sizes.leaves sizes.spines in
     let is : IsNetwork net = fabric_is_network sizes within in
-    after_greedy net is bytes status 1 0 first_absent
+    after_greedy net is bytes status 1 0 nothing_absent
     (λ first. AfterGreedy net 2 1 second_absent (λ second. IsTallied (case_tally (setting_over net (first ∷ second ∷ [])) number))) (λ first fits accepted.
     after_greedy net is bytes status 2 1 second_absent (λ second. IsTallied (case_tally (setting_over net (first ∷ second ∷ [])) number))
     (λ second fits' accepted'. tallied net is bytes status number first second fits accepted fits' accepted')) written

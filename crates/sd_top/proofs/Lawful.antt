@@ -4,6 +4,7 @@ use Rattle.sd_solo.proofs.Contained.{reports_contain}
 use Rattle.sd_topo.specs.Network.{Network}
 use Rattle.sd_plan.specs.declared.Absent.{Absent}
 use Rattle.sd_plan.specs.declared.Plan.{Plan}
+use Rattle.sd_plan.specs.Plans.{nothing_absent}
 use Rattle.sd_cmd_files.specs.Checker.Verdicts.{IsAccepted, IsVerdict}
 use Rattle.sd_cmd_files.specs.Checker.declared.Verdict.{Verdict}
 use Rattle.sd_cmd_files.specs.Checker.declared.Verdict.TheVariants.{Accepted, Refused}
@@ -20,7 +21,7 @@ use Rattle.sd_top.specs.Checks.{CheckCompletes, IsJudged, verdict_status}
 use Rattle.sd_top.specs.Drills.{DrillCompletes, IsDrilled}
 use Rattle.sd_top.specs.Laws.{Laws}
 use Rattle.sd_top.specs.Migration.{IsMigrated, MigrationCompletes}
-use Rattle.sd_top.specs.Plannings.{IsPlanning, IsPlannable, PlanCompletes, RenewalCompletes, first_root, nothing, renewed_root}
+use Rattle.sd_top.specs.Plannings.{IsPlanning, IsPlannable, PlanCompletes, RenewalCompletes, first_root, renewed_root}
 use Rattle.sd_cmd_files.specs.work.Works.{IsOutcome, reading, status_for}
 use Rattle.sd_top.specs.Schedules.{SoloCompletes, solo_work}
 use Rattle.sd_top.specs.Twoways.{TwowayCompletes}
@@ -55,8 +56,8 @@ check_completes topology plan right bytes status written =
 
 plan_completes : PlanCompletes
 plan_completes topology right bytes status written =
-    planning_done right.network (first_root right.network) nothing bytes status right.plannable
-    (after_file (topology_of topology) right.network (λ net. IsPlanning net (first_root net) nothing) bytes status right.has_network written)
+    planning_done right.network (first_root right.network) nothing_absent bytes status right.plannable
+    (after_file (topology_of topology) right.network (λ net. IsPlanning net (first_root net) nothing_absent) bytes status right.has_network written)
 
 renewal_completes : RenewalCompletes
 renewal_completes topology plan absent right bytes status written =

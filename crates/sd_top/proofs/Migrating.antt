@@ -6,6 +6,7 @@ use Rattle.sd_topo.specs.Network.{Network}
 use Rattle.sd_topo.proofs.Versions.{with_version}
 use Rattle.sd_plan.specs.declared.Absent.{Absent}
 use Rattle.sd_plan.specs.declared.Plan.{Plan}
+use Rattle.sd_plan.specs.Plans.{nothing_absent}
 use Rattle.sd_plantext.specs.Reading.{tree_of}
 use Rattle.sd_plantext.specs.declared.fault.PlanFault.{PlanFault}
 use Rattle.sd_plantext.proofs.Versions.{plan_of-with_version, absent_of-with_version, plan_text-with_version}
@@ -30,7 +31,7 @@ use Rattle.sd_cmd_replay.proofs.Migrating.{order_with_version, replay_with_versi
 use Rattle.sd_top.specs.Checks.{IsCheck, IsJudged, verdict_text}
 use Rattle.sd_top.specs.Drills.{IsDrill, IsDrilled}
 use Rattle.sd_top.specs.Migration.{IsMigrated, IsMigration}
-use Rattle.sd_top.specs.Plannings.{IsPlanning, IsPlanOf, IsRenewal, planned_text, first_root, renewed_root, nothing}
+use Rattle.sd_top.specs.Plannings.{IsPlanning, IsPlanOf, IsRenewal, planned_text, first_root, renewed_root}
 use Rattle.sd_top.specs.Promise.{Answers}
 use Rattle.sd_top.specs.Twoways.{IsTwoway}
 use Rattle.sd_top.specs.Versions.{MigrationLaw}
@@ -112,9 +113,9 @@ module _ (v w : ℕ) (net : Network) where
 
     plan_stays : IsPlanOf text bytes status → IsPlanOf other bytes status
     plan_stays written =
-        topology_carried text other (with_version v net) (with_version w net) (λ n. IsPlanning n (first_root n) nothing)
-        (λ n. IsPlanning n (first_root n) nothing) bytes status reads rereads
-        (planning_carried (first_root net) nothing bytes status) written
+        topology_carried text other (with_version v net) (with_version w net) (λ n. IsPlanning n (first_root n) nothing_absent)
+        (λ n. IsPlanning n (first_root n) nothing_absent) bytes status reads rereads
+        (planning_carried (first_root net) nothing_absent bytes status) written
 
     check_stays : (plan plan' : List ℕ) → plan' ≡ plan → IsCheck text plan bytes status → IsCheck other plan' bytes status
     check_stays plan plan' same written =

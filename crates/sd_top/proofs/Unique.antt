@@ -5,6 +5,7 @@ use Rattle.sd_topotext.specs.Meaning.{network_of}
 use Rattle.sd_topotext.specs.Reading.{tree_of}
 use Rattle.sd_plan.specs.declared.Absent.{Absent}
 use Rattle.sd_plan.specs.declared.Plan.{Plan}
+use Rattle.sd_plan.specs.Plans.{nothing_absent}
 use Rattle.sd_cmd_files.specs.Checker.Verdicts.{IsVerdict}
 use Rattle.sd_cmd_files.specs.Checker.declared.Verdict.{Verdict}
 use Rattle.sd_cmd_files.specs.Checker.declared.Verdict.TheVariants.{Accepted, Refused}
@@ -24,7 +25,7 @@ use Rattle.sd_cmd_replay.proofs.Lawful.{one_order, one_replay}
 use Rattle.sd_top.specs.Checks.{IsJudged, verdict_status, verdict_text}
 use Rattle.sd_top.specs.Drills.{IsDrilled}
 use Rattle.sd_top.specs.Migration.{IsMigrated}
-use Rattle.sd_top.specs.Plannings.{IsPlanning, first_root, nothing, planned_text, renewed_root}
+use Rattle.sd_top.specs.Plannings.{IsPlanning, first_root, planned_text, renewed_root}
 use Rattle.sd_top.specs.Unique.{HasOneAnswer}
 use Rattle.sd_top.specs.Words.Command.{Solo, Plan as PlanOf, Check, Renew, Replay, Case, Migrate, Order, Twoway, Drill}
 
@@ -77,8 +78,8 @@ pub one_answer : HasOneAnswer
 one_answer None texts bytes other status also (printed, answered) (printed', answered') = (answered ∙ sym answered', printed ∙ sym printed')
 one_answer (Some (Solo schedule)) texts bytes other status also (printed, answered) (printed', answered') = (answered ∙ sym answered', printed ∙ sym printed')
 one_answer (Some (PlanOf topology)) texts bytes other status also is too =
-    after_one (λ b o. b ≡ o) equal (topology_of (texts topology)) (λ net. IsPlanning net (first_root net) nothing)
-    (λ net. planning_one net (first_root net) nothing) bytes other status also is too
+    after_one (λ b o. b ≡ o) equal (topology_of (texts topology)) (λ net. IsPlanning net (first_root net) nothing_absent)
+    (λ net. planning_one net (first_root net) nothing_absent) bytes other status also is too
 one_answer (Some (Check topology plan)) texts bytes other status also is too =
     after_one (λ b o. b ≡ o) equal (topology_of (texts topology)) (λ net. After (plan_in_file net 1 (texts plan)) (IsJudged net))
     (λ net. after_one (λ b o. b ≡ o) equal (plan_in_file net 1 (texts plan)) (IsJudged net) (judged_one net)) bytes other status also is too

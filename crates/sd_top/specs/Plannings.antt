@@ -4,6 +4,7 @@ use Rattle.sd_num.specs.Lists.{has, at_place}
 use Rattle.sd_topo.specs.Network.{Network}
 use Rattle.sd_plan.specs.declared.Absent.{Absent}
 use Rattle.sd_plan.specs.declared.Plan.{Plan}
+use Rattle.sd_plan.specs.Plans.{nothing_absent}
 use Rattle.sd_plantext.specs.Printed.{plan_text as text_of_plan}
 use Rattle.sd_cmd_files.specs.Checker.Text.{refused_line}
 use Rattle.sd_cmd_files.specs.Checker.Verdicts.{IsAccepted, IsVerdict}
@@ -31,13 +32,9 @@ IsPlanning net root absent bytes status =
 abbrev pub first_root : Network → ℕ
 first_root net = at_place net.roots 0 0 (λ d. d)
 
--- nothing is left out
-abbrev pub nothing : Absent
-nothing = record { devices = []; links = [] }
-
 -- `plan`: the greedy plan from the first candidate with all that there is
 abbrev pub IsPlanOf : List ℕ → Allowed
-IsPlanOf topology bytes status = After (topology_of topology) (λ net. IsPlanning net (first_root net) nothing) bytes status
+IsPlanOf topology bytes status = After (topology_of topology) (λ net. IsPlanning net (first_root net) nothing_absent) bytes status
 
 -- the root of a renewed plan: the old one, or the backup root where the old one is absent
 abbrev pub renewed_root : Plan → Absent → ℕ
@@ -59,7 +56,7 @@ pub record IsPlannable (net : Network) (root : ℕ) (absent : Absent) : Type 0 w
 pub record IsRightTopology (topology : List ℕ) : Type 0 where
   pub network : Network
   pub has_network : topology_of topology ≡ Ok network
-  pub plannable : IsPlannable network (first_root network) nothing
+  pub plannable : IsPlannable network (first_root network) nothing_absent
 
 -- the files of a renewed plan that is accepted
 pub record IsRightRenewal (topology plan absent : List ℕ) : Type 0 where

@@ -1,11 +1,12 @@
 //! `plan`: the greedy plan of a topology.
 ghost use Rattle.std.specs.Prelude.{◌≡◌, [], ◌∷◌, Err, IsTrue, IfErr, IfSome};
+ghost use Rattle.sd_plan.specs.Plans.{nothing_absent};
 ghost use Rattle.sd_outside.specs.Shelves.{KeepsShelf};
 ghost use Rattle.sd_topo.specs.Topologies.{network};
 ghost use Rattle.sd_cmd_files.specs.Texts.{texts_of};
 ghost use Rattle.sd_cmd_files.specs.Writes.{IsAllowed};
 ghost use Rattle.sd_top.specs.Gives.{GivesAmong};
-ghost use Rattle.sd_top.specs.Plannings.{IsPlanOf, IsPlanning, first_root, nothing};
+ghost use Rattle.sd_top.specs.Plannings.{IsPlanOf, IsPlanning, first_root};
 
 use crate::planning::planning;
 use sd_cmd_files::{Answer, CommandError, Status, load_topology};
@@ -30,7 +31,7 @@ pub fn plan<S: Shelf>(alloc: Global, shelf: &mut S, topology: &str) -> Result<An
 /// The greedy plan from the first candidate, with nothing absent.
 fn plan_whole(alloc: Global, topo: &Topology) -> Result<Answer, CommandError>
     ensures makes { IsAllowed
-        (IsPlanning (network topo.now) (first_root (network topo.now)) nothing) result }
+        (IsPlanning (network topo.now) (first_root (network topo.now)) nothing_absent) result }
     ensures gives { GivesAmong
         (Status.Done ∷ Status.PlanRefused ∷ Status.InputRefused ∷ []) result }
     ensures only { IfErr result (λ why. why ≡ CommandError.Memory) }

@@ -9,7 +9,7 @@ use Rattle.std.proofs.lemmas.List.Elements.{filter-append}
 use Rattle.std.proofs.lemmas.List.Folds.{find-append, list_any-append}
 use Rattle.std.proofs.lemmas.List.Sums.{sum_by_push}
 use Rattle.sd_num.specs.Lists.{below, greatest}
-use Rattle.sd_num.proofs.Firsts.{find_below_none, find_below_here}
+use Rattle.sd_num.proofs.Firsts.{find_below_none, find_below_here, NonePasses}
 
 abbrev pub Agree : (ℕ → Bool) → (ℕ → Bool) → ℕ → Type 0
 Agree p q n = (i : ℕ) → i < n → p i ≡ q i
@@ -52,9 +52,6 @@ same_count p q (suc n) agree =
     ∙ ap (λ b. count_by q (below n) + (if b then 1 else 0)) (agree n (omega arith)) ∙ sym (count_more q n)
 
 -- Where none passes, and where one does.
-abbrev pub NonePasses : (ℕ → Bool) → ℕ → Type 0
-NonePasses p n = (i : ℕ) → i < n → p i ≡ false
-
 pub filter_none : (p : ℕ → Bool) (n : ℕ) → NonePasses p n → filter p (below n) ≡ []
 filter_none p zero none = refl
 filter_none p (suc n) none =

@@ -9,12 +9,13 @@ use Rattle.std.proofs.lemmas.List.Folds.{list_any-append}
 use Rattle.sd_num.specs.Lists.{below, has, map_or, greatest, same_number}
 use Rattle.sd_num.proofs.Places.{kept_parts, kept_from, has_below, below_has}
 use Rattle.sd_num.proofs.Shared.{any_below_at}
+use Rattle.sd_num.proofs.Firsts.{find_passes, NonePasses}
 use Rattle.sd_msg.specs.Observed.{ReportAt}
 use Rattle.sd_wait.specs.Waits.{ends_by, end_place, stamp_at, ended_at, has_ended_by, is_disorder, worst_disorder, has_disorder}
 use Rattle.sd_wait.specs.Waiting.{worse, worst_among, disordered_by}
 use Rattle.sd_wait.specs.Standing.{transaction_at, IsWorst, HasWorst}
 use Rattle.sd_wait.specs.declared.transactions.Transaction.{Transaction}
-use Rattle.sd_wait.proofs.Below.{Agree, NonePasses, filter_none, any_none, same_any, found_below, first_most}
+use Rattle.sd_wait.proofs.Below.{Agree, filter_none, any_none, same_any, found_below, first_most}
 use Rattle.sd_wait.proofs.Ends.{now, ends_now, ends_last, last_is, place_is, stamp_is, length_more, transaction_before, stamp_before, end_before, end_new, ended_now}
 
 -- a has a greater stamp than b, or the same and did not begin behind it
@@ -113,14 +114,6 @@ worst_from : (P : Transaction → Type 0) (o : Option Transaction) (ts : List Tr
     → IfSome (worst_among o ts) P
 worst_from P o [] first all = first
 worst_from P o (u ∷ us) first all = worst_from P (Some (worse o u)) us (worse_of P o u first (all u (inl refl))) (λ t later. all t (inr later))
-
-find_passes : (p : ℕ → Bool) (xs : List ℕ) (j : ℕ) → find p xs ≡ Some j → p j ≡ true
-find_passes p [] j found = cc
-find_passes p (x ∷ xs) j found = by (p x) refl found (find_passes p xs j)
-  where
-    by : (b : Bool) → p x ≡ b → cond b (Some x) (find p xs) ≡ Some j → (find p xs ≡ Some j → p j ≡ true) → p j ≡ true
-    by true is found rest = ap p (sym (same_Some x j found)) ∙ is
-    by false is found rest = rest found
 
 is_there : (o : Option ℕ) → is_some o ≡ true → (j : ℕ) × (o ≡ Some j)
 is_there None some = cc

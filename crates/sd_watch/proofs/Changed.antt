@@ -3,9 +3,9 @@
 use Rattle.std.specs.Prelude.{◌≡◌, ◌≢◌, ℕ, zero, suc, Bool, true, false, List, Option, Some, None, nat_eq, ◌⊎◌}
 use Rattle.std.proofs.Common.{sym, ap, ◌∙◌, inl, inr, subst, set}
 use Rattle.std.proofs.lemmas.Bool.{cases_Bool, eqb-true, eqb-false}
-use Rattle.sd_num.specs.Lists.{map_or}
+use Rattle.sd_num.specs.Lists.{map_or, follow}
 use Rattle.sd_num.proofs.Places.{at_unwritten}
-use Rattle.sd_watch.specs.Watch.{parent_in, follow, IsOnLoop, HasNoLoop}
+use Rattle.sd_watch.specs.Watch.{parent_in, IsOnLoop, HasNoLoop}
 use Rattle.sd_watch.proofs.Following.{one_more, before_last, led_on_loop}
 
 -- each parent that the device has after the change it had before

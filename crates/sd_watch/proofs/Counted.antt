@@ -4,10 +4,10 @@ use Rattle.std.specs.List.{list_any}
 use Rattle.std.proofs.Common.{sym, ap, ◌∙◌, arith, inl, inr, add-one}
 use Rattle.std.proofs.lemmas.Bool.{or_cases, false_from_ne_true}
 use Rattle.std.proofs.lemmas.List.Folds.{list_any-append}
-use Rattle.sd_num.specs.Lists.{below, same_number}
+use Rattle.sd_num.specs.Lists.{below, same_number, follow}
 use Rattle.sd_num.proofs.Firsts.{find_below_none, find_below_here}
 use Rattle.sd_num.proofs.Shared.{same_number-some, some-same_number, any_below_at}
-use Rattle.sd_watch.specs.Watch.{follow, IsOnLoop, HasNoLoop, IsFirstOnLoop}
+use Rattle.sd_watch.specs.Watch.{IsOnLoop, HasNoLoop, IsFirstOnLoop}
 use Rattle.sd_watch.proofs.Following.{on_the_way}
 use Rattle.sd_watch.proofs.Within.{back_within}
 

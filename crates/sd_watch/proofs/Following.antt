@@ -2,7 +2,9 @@
 use Rattle.std.specs.Prelude.{◌≡◌, ℕ, zero, suc, ◌+◌, Option, Some, None, option_and_then}
 use Rattle.std.proofs.Common.{refl, sym, ap, ◌∙◌, arith}
 use Rattle.std.proofs.lemmas.Option.{same_Some}
-use Rattle.sd_watch.specs.Watch.{follow, IsOnLoop}
+use Rattle.sd_num.specs.Lists.{follow}
+use Rattle.sd_num.proofs.Shared.{follow_first}
+use Rattle.sd_watch.specs.Watch.{IsOnLoop}
 
 module _ (parent : ℕ → Option ℕ) where
   -- one step more
@@ -33,10 +35,6 @@ module _ (parent : ℕ → Option ℕ) where
       let first = on_the_way m n (m + n) d last.0 refl last.1 in
       (first.0, first.1, one_more m first.0 last.0 first.2 ∙ last.2)
 
-  -- the first step, and those after it
-  pub from_parent : (n d x : ℕ) → parent d ≡ Some x → follow parent (suc n) d ≡ follow parent n x
-  from_parent n d x follows = further n 1 (suc n) d x (omega arith) follows
-
   -- a device on a loop has a parent
   pub has_parent : (d : ℕ) → IsOnLoop parent d → (x : ℕ) × (parent d ≡ Some x)
   has_parent d loop = let first = on_the_way loop.steps 1 (suc loop.steps) d d (omega arith) loop.back in (first.0, first.1)
@@ -48,7 +46,7 @@ module _ (parent : ℕ → Option ℕ) where
   -- its parent is on a loop
   pub parent_on_loop : (d x : ℕ) → parent d ≡ Some x → IsOnLoop parent d → IsOnLoop parent x
   parent_on_loop d x follows loop =
-      record { steps = loop.steps; back = one_more loop.steps x d (sym (from_parent loop.steps d x follows) ∙ loop.back) ∙ follows }
+      record { steps = loop.steps; back = one_more loop.steps x d (sym (follow_first parent loop.steps d x follows) ∙ loop.back) ∙ follows }
 
   -- and so is each device to which it leads
   pub led_on_loop : (n d x : ℕ) → follow parent n d ≡ Some x → IsOnLoop parent d → IsOnLoop parent x

@@ -3,10 +3,11 @@ use Rattle.std.specs.Prelude.{◌≡◌, ℕ, zero, suc, ◌≤◌, ◌<◌, Lis
 use Rattle.std.proofs.Common.{refl, sym, ap, ◌∙◌, arith, subst, inl, inr}
 use Rattle.std.proofs.lemmas.Bool.{cases_lt}
 use Rattle.std.proofs.lemmas.Option.{same_Some, slice_get_within, none-some}
-use Rattle.sd_num.specs.Lists.{map_or}
-use Rattle.sd_watch.specs.Watch.{parent_in, follow}
+use Rattle.sd_num.specs.Lists.{map_or, follow}
+use Rattle.sd_num.proofs.Shared.{follow_first}
+use Rattle.sd_watch.specs.Watch.{parent_in}
 use Rattle.sd_watch.specs.Settled.{NoneBefore, IsSettled}
-use Rattle.sd_watch.proofs.Following.{one_more, before_last, from_parent, has_parent, on_the_way}
+use Rattle.sd_watch.proofs.Following.{one_more, before_last, has_parent, on_the_way}
 
 -- only devices below the length of a list have a parent in it
 pub only_within : (parents : List (Option ℕ)) (d p : ℕ) → parent_in parents d ≡ Some p → d < length parents
@@ -33,8 +34,8 @@ module _ (parent : ℕ → Option ℕ) (first : Option ℕ) where
       by zero at =
           let same : d ≡ e = same_Some d e at in
           let follows' : parent e ≡ Some x = ap parent (sym same) ∙ follows in
-          settled e (record { steps = loop.steps; there = sym (from_parent parent loop.steps e x follows') ∙ loop.back }) loop
-      by (suc n) at = settled e (record { steps = n; there = sym (from_parent parent n d x follows) ∙ at }) loop
+          settled e (record { steps = loop.steps; there = sym (follow_first parent loop.steps e x follows') ∙ loop.back }) loop
+      by (suc n) at = settled e (record { steps = n; there = sym (follow_first parent n d x follows) ∙ at }) loop
 
   -- a device that leads to one that is settled
   pub settled_leading : (n d x : ℕ) → follow parent n d ≡ Some x → IsSettled parent first x → IsSettled parent first d

@@ -2,9 +2,10 @@
 use Rattle.std.specs.Prelude.{◌≡◌, ◌≢◌, ℕ, zero, suc, ◌+◌, ◌-◌, ◌<◌, ◌≤◌, Bool, true, false, nat_eq, Option, Some, cond, ◌⊎◌}
 use Rattle.std.proofs.Common.{refl, sym, ap, ◌∙◌, inl, inr, arith}
 use Rattle.std.proofs.lemmas.Bool.{cases_Bool, eqb-true, eqb-false, both_ways, cases_lt}
-use Rattle.sd_num.specs.Lists.{map_or, same_number}
+use Rattle.sd_num.specs.Lists.{map_or, same_number, follow}
 use Rattle.sd_num.proofs.Shared.{same_number-some, some-same_number}
-use Rattle.sd_watch.specs.Watch.{follow, IsOnLoop}
+use Rattle.sd_num.proofs.Firsts.{NonePasses}
+use Rattle.sd_watch.specs.Watch.{IsOnLoop}
 use Rattle.sd_watch.proofs.Following.{before_last, further, on_the_way}
 
 -- Different numbers below a bound are no more than it.
@@ -52,9 +53,6 @@ no_more_than (suc n) (suc most) f within apart =
 pub record IsLeastPassing (test : ℕ → Bool) (m : ℕ) : Type 0 where
   pub passes : test m ≡ true
   pub least : (k : ℕ) → k < m → test k ≡ false
-
-abbrev pub NonePasses : (ℕ → Bool) → ℕ → Type 0
-NonePasses test n = (k : ℕ) → k < n → test k ≡ false
 
 pub some_least : (test : ℕ → Bool) (n : ℕ) → NonePasses test n ⊎ ((m : ℕ) × (m < n) × IsLeastPassing test m)
 some_least test zero = inl (λ k less. absurd (omega arith))

@@ -1,7 +1,7 @@
 -- How far a search for the least device on a loop has come.
 use Rattle.std.specs.Prelude.{◌≡◌, ◌≢◌, ℕ, suc, ◌≤◌, Bool, false, List, Option, Some, None, nat_eq, slice_index, sum_by, if◌then◌else◌}
-use Rattle.sd_num.specs.Lists.{at_place}
-use Rattle.sd_watch.specs.Watch.{follow, IsOnLoop}
+use Rattle.sd_num.specs.Lists.{at_place, follow}
+use Rattle.sd_watch.specs.Watch.{IsOnLoop}
 
 -- following parents from d leads to e
 pub record Leads (parent : ℕ → Option ℕ) (d e : ℕ) : Type 0 where

@@ -1,15 +1,10 @@
 -- Loops of parents and several roots.
 use Rattle.std.specs.Prelude.{◌≡◌, ℕ, zero, suc, ◌<◌, Bool, false, List, [], ◌∷◌, length, filter, Option, Some, None, option_and_then}
-use Rattle.sd_num.specs.Lists.{below, at_place}
+use Rattle.sd_num.specs.Lists.{below, at_place, follow}
 
 -- the parent of a device in a list, and none past its end
 abbrev pub parent_in : List (Option ℕ) → ℕ → Option ℕ
 parent_in parents d = at_place parents d None (λ parent. parent)
-
--- where n steps along parents lead from d
-abbrev pub follow : (ℕ → Option ℕ) → ℕ → ℕ → Option ℕ
-follow parent zero d = Some d
-follow parent (suc n) d = option_and_then parent (follow parent n d)
 
 -- following parents from d comes back to d
 pub record IsOnLoop (parent : ℕ → Option ℕ) (d : ℕ) : Type 0 where

@@ -9,6 +9,7 @@ use Rattle.std.proofs.Common.{arith, ap, sym, ◌∙◌, subst, get_or, Less, Eq
 use Rattle.std.proofs.lemmas.Bool.{eq-eqb, ne_eqb, eqb-true, ltb-false, and_parts, or_parts}
 use Rattle.std.proofs.lemmas.List.Sums.{sum_by-cons, sum_by_push, get_or-le-sum_by}
 use Rattle.std.proofs.lemmas.List.Sorted.{sum_by_pushed, sum_by_popped}
+use Rattle.sd_num.specs.Counts.{one_if}
 use Rattle.sd_gen.specs.declared.arrivals.Arrival.{Arrival}
 use Rattle.sd_gen.specs.arrivals.Waiting.{comes_before, soonest_of, soonest, without}
 use Rattle.sd_gen.specs.arrivals.Left.{left_by, AreNumbered}
@@ -16,19 +17,15 @@ use Rattle.sd_gen.specs.declared.arrivals.Arrivals.{Arrivals}
 use Rattle.sd_gen.specs.arrivals.Order.{by_receipt}
 use Rattle.sd_gen.specs.arrivals.Standing.{StandsFor}
 
--- how often a test passes is counted by ones
-abbrev ones : Bool → ℕ
-ones b = cond b 1 0
-
 abbrev same_arrival : Arrival → Arrival → Bool
 same_arrival a b = nat_eq a.moment b.moment && (nat_eq a.number b.number && nat_eq a.receiver b.receiver)
 
 -- how many of them come before x, and how often x is one of them
 abbrev before : Arrival → List Arrival → ℕ
-before x ws = sum_by (λ v. ones (comes_before v x)) ws
+before x ws = sum_by (λ v. one_if (comes_before v x)) ws
 
 abbrev times : Arrival → List Arrival → ℕ
-times x ws = sum_by (λ v. ones (same_arrival x v)) ws
+times x ws = sum_by (λ v. one_if (same_arrival x v)) ws
 
 same_is : (x y : Arrival) → same_arrival x y ≡ true → x ≡ y
 same_is x y same =
@@ -41,11 +38,11 @@ same_is x y same =
 same_itself : (x : Arrival) → same_arrival x x ≡ true
 same_itself x = rw (eq-eqb x.moment x.moment refl, eq-eqb x.number x.number refl, eq-eqb x.receiver x.receiver refl) refl
 
-before-cons : (x w : Arrival) (ws : List Arrival) → before x (w ∷ ws) ≡ ones (comes_before w x) + before x ws
-before-cons x w ws = sum_by-cons (λ v. ones (comes_before v x)) w ws
+before-cons : (x w : Arrival) (ws : List Arrival) → before x (w ∷ ws) ≡ one_if (comes_before w x) + before x ws
+before-cons x w ws = sum_by-cons (λ v. one_if (comes_before v x)) w ws
 
-times-cons : (x w : Arrival) (ws : List Arrival) → times x (w ∷ ws) ≡ ones (same_arrival x w) + times x ws
-times-cons x w ws = sum_by-cons (λ v. ones (same_arrival x v)) w ws
+times-cons : (x w : Arrival) (ws : List Arrival) → times x (w ∷ ws) ≡ one_if (same_arrival x w) + times x ws
+times-cons x w ws = sum_by-cons (λ v. one_if (same_arrival x v)) w ws
 
 -- Numbers
 
@@ -75,7 +72,7 @@ after_floor floor top x (w ∷ ws) is some = by (same_arrival x w) refl (after_f
     by : (b : Bool) → same_arrival x w ≡ b → (1 ≤ times x ws → w.number < x.number) → floor < x.number
     by true same rest = subst (λ (v : Arrival). floor < v.number) (sym (same_is x w same)) is.0
     by false other rest =
-        let count : times x (w ∷ ws) ≡ ones false + times x ws = times-cons x w ws ∙ ap (λ b. ones b + times x ws) other in
+        let count : times x (w ∷ ws) ≡ one_if false + times x ws = times-cons x w ws ∙ ap (λ b. one_if b + times x ws) other in
         let after : w.number < x.number = rest (omega (arith, some, count)) in
         omega (arith, after, is.0)
 
@@ -94,7 +91,7 @@ taken f floor top x (w ∷ ws) is some = by (same_arrival x w) refl (taken f w.n
         let whole : sum_by f (w ∷ ws) ≡ f w + sum_by f ws = sum_by-cons f w ws in
         rw (eq-eqb w.number x.number number, kept) (whole ∙ ap (λ n. n + sum_by f ws) value)
     by false other others =
-        let count : times x (w ∷ ws) ≡ ones false + times x ws = times-cons x w ws ∙ ap (λ b. ones b + times x ws) other in
+        let count : times x (w ∷ ws) ≡ one_if false + times x ws = times-cons x w ws ∙ ap (λ b. one_if b + times x ws) other in
         let there : 1 ≤ times x ws = omega (arith, some, count) in
         let after : w.number < x.number = after_floor w.number top x ws is.1 there in
         let rest : sum_by f ws ≡ f x + sum_by f (without x.number ws) = others there in
@@ -129,25 +126,25 @@ soonest_is floor top x w [] is none some = by (same_arrival x w) refl
   where
     by : (b : Bool) → same_arrival x w ≡ b → w ≡ x
     by true same = sym (same_is x w same)
-    by false other = let count : times x (w ∷ []) ≡ ones false + 0 = times-cons x w [] ∙ ap (λ b. ones b + 0) other in absurd (omega (arith, some, count))
+    by false other = let count : times x (w ∷ []) ≡ one_if false + 0 = times-cons x w [] ∙ ap (λ b. one_if b + 0) other in absurd (omega (arith, some, count))
 soonest_is floor top x w (v ∷ vs) is none some = by (comes_before v w) refl (soonest_is floor top x v vs) (soonest_is floor top x w vs)
   where
-    at_w : before x (w ∷ v ∷ vs) ≡ ones (comes_before w x) + before x (v ∷ vs)
+    at_w : before x (w ∷ v ∷ vs) ≡ one_if (comes_before w x) + before x (v ∷ vs)
     at_w = before-cons x w (v ∷ vs)
 
-    at_v : before x (v ∷ vs) ≡ ones (comes_before v x) + before x vs
+    at_v : before x (v ∷ vs) ≡ one_if (comes_before v x) + before x vs
     at_v = before-cons x v vs
 
-    w_times : times x (w ∷ v ∷ vs) ≡ ones (same_arrival x w) + times x (v ∷ vs)
+    w_times : times x (w ∷ v ∷ vs) ≡ one_if (same_arrival x w) + times x (v ∷ vs)
     w_times = times-cons x w (v ∷ vs)
 
-    v_times : times x (v ∷ vs) ≡ ones (same_arrival x v) + times x vs
+    v_times : times x (v ∷ vs) ≡ one_if (same_arrival x v) + times x vs
     v_times = times-cons x v vs
 
-    not_before : (u : Arrival) → ones (comes_before u x) ≡ 0 → comes_before u x ≡ false
+    not_before : (u : Arrival) → one_if (comes_before u x) ≡ 0 → comes_before u x ≡ false
     not_before u nothing = zero_is (comes_before u x) nothing
       where
-        zero_is : (b : Bool) → ones b ≡ 0 → b ≡ false
+        zero_is : (b : Bool) → one_if b ≡ 0 → b ≡ false
         zero_is true h = absurd (omega (arith, h))
         zero_is false h = refl
 
@@ -164,7 +161,7 @@ soonest_is floor top x w (v ∷ vs) is none some = by (comes_before v w) refl (s
         here true same =
             let swaps_x : comes_before v x ≡ true = ap (comes_before v) (same_is x w same) ∙ swaps in
             absurd (let never : true ≡ false = sym swaps_x ∙ v_not in cc)
-        here false apart = let count : ones (same_arrival x w) ≡ 0 = ap ones apart in omega (arith, some, w_times, count)
+        here false apart = let count : one_if (same_arrival x w) ≡ 0 = ap one_if apart in omega (arith, some, w_times, count)
     by false stays one other =
         other (is.0, lower w.number v.number top vs (omega (arith, is.1.0)) is.1.1)
         (let more = before-cons x w vs in omega (arith, none, at_w, at_v, more)) (here (same_arrival x v) refl)
@@ -175,7 +172,7 @@ soonest_is floor top x w (v ∷ vs) is none some = by (comes_before v w) refl (s
             let numbers : v.number ≡ w.number = tied v w stays other_way in
             absurd (omega (arith, numbers, is.1.0))
         here false apart =
-            let count : ones (same_arrival x v) ≡ 0 = ap ones apart in
+            let count : one_if (same_arrival x v) ≡ 0 = ap one_if apart in
             let more = times-cons x w vs in
             omega (arith, some, w_times, v_times, count, more)
 
@@ -188,23 +185,23 @@ not_less false true true d o h = cc
 not_less false true false d o h = refl
 not_less false false c d o h = refl
 
-none_before : (x : Reverse Arrival) (items : List (Reverse Arrival)) → IsUpperBound by_receipt x items → sum_by (λ e. ones (comes_before e.0 x.0)) items ≡ 0
+none_before : (x : Reverse Arrival) (items : List (Reverse Arrival)) → IsUpperBound by_receipt x items → sum_by (λ e. one_if (comes_before e.0 x.0)) items ≡ 0
 none_before x [] bound = refl
 none_before x (e ∷ items) bound =
-    let rest : sum_by (λ y. ones (comes_before y.0 x.0)) items ≡ 0 = none_before x items bound.1 in
-    let whole = sum_by-cons (λ (y : Reverse Arrival). ones (comes_before y.0 x.0)) e items in
+    let rest : sum_by (λ y. one_if (comes_before y.0 x.0)) items ≡ 0 = none_before x items bound.1 in
+    let whole = sum_by-cons (λ (y : Reverse Arrival). one_if (comes_before y.0 x.0)) e items in
     let first : comes_before e.0 x.0 ≡ false =
     not_less (nat_lt e.0.moment x.0.moment) (nat_eq e.0.moment x.0.moment) (nat_lt e.0.number x.0.number) (nat_eq e.0.number x.0.number)
     (nat_cmp e.0.receiver x.0.receiver) bound.0 in
-    let nothing : ones (comes_before e.0 x.0) ≡ 0 = ap ones first in
+    let nothing : one_if (comes_before e.0 x.0) ≡ 0 = ap one_if first in
     omega (arith, rest, whole, nothing)
 
 itself_there : (x : Reverse Arrival) (items : List (Reverse Arrival)) → 0 < length items → x ≡ get_or items 0 x
-    → 1 ≤ sum_by (λ e. ones (same_arrival x.0 e.0)) items
+    → 1 ≤ sum_by (λ e. one_if (same_arrival x.0 e.0)) items
 itself_there x items some is =
-    let most = get_or-le-sum_by (λ (e : Reverse Arrival). ones (same_arrival x.0 e.0)) items 0 x some in
-    let its : ones (same_arrival x.0 (get_or items 0 x).0) ≡ 1 =
-    ap (λ (e : Reverse Arrival). ones (same_arrival x.0 e.0)) (sym is) ∙ ap ones (same_itself x.0) in
+    let most = get_or-le-sum_by (λ (e : Reverse Arrival). one_if (same_arrival x.0 e.0)) items 0 x some in
+    let its : one_if (same_arrival x.0 (get_or items 0 x).0) ≡ 1 =
+    ap (λ (e : Reverse Arrival). one_if (same_arrival x.0 e.0)) (sym is) ∙ ap one_if (same_itself x.0) in
     omega (arith, most, its)
 
 -- the heap holds what waits
@@ -213,14 +210,14 @@ Holds items waiting = (f : Arrival → ℕ) → sum_by (λ e. f e.0) items ≡ s
 
 there : (x : Reverse Arrival) (items : List (Reverse Arrival)) (waiting : List Arrival) → Holds items waiting → 0 < length items → x ≡ get_or items 0 x
     → 1 ≤ times x.0 waiting
-there x items waiting same some is = let it = itself_there x items some is in let counted = same (λ v. ones (same_arrival x.0 v)) in omega (arith, it, counted)
+there x items waiting same some is = let it = itself_there x items some is in let counted = same (λ v. one_if (same_arrival x.0 v)) in omega (arith, it, counted)
 
 pub first_is : (x : Reverse Arrival) (items : List (Reverse Arrival)) (top : ℕ) (waiting : List Arrival) → AreNumbered 0 top waiting → Holds items waiting
     → 0 < length items → x ≡ get_or items 0 x
     → IsUpperBound by_receipt x items → soonest waiting ≡ Some x.0
 first_is x items top [] numbers same some is bound = let it = there x items [] same some is in absurd (omega (arith, it))
 first_is x items top (w ∷ ws) numbers same some is bound =
-    let nothing : before x.0 (w ∷ ws) ≡ 0 = sym (same (λ v. ones (comes_before v x.0))) ∙ none_before x items bound in
+    let nothing : before x.0 (w ∷ ws) ≡ 0 = sym (same (λ v. one_if (comes_before v x.0))) ∙ none_before x items bound in
     ap (λ (v : Arrival). Some v) (soonest_is 0 top x.0 w ws numbers nothing (there x items (w ∷ ws) same some is))
 
 pub none_is : (items : List (Reverse Arrival)) (waiting : List Arrival) → Holds items waiting → length items ≡ 0 → soonest waiting ≡ None

@@ -51,10 +51,6 @@ fabric leaves spines =
       roots = below spines;
     }
 
--- the roots of the two plans are the first two spines; the first plan leaves out nothing, the second the first spine
-abbrev pub first_absent : Absent
-first_absent = record { devices = []; links = [] }
-
 -- what the second plan leaves out: the first spine
 abbrev pub second_absent : Absent
 second_absent = record { devices = 0 ∷ []; links = [] }

@@ -2,7 +2,8 @@
 ghost use Rattle.std.specs.Prelude.{◌≡◌, ◌+◌, ◌++◌, ◌<◌, ℕ, length, map, [], slice_index_or, OnOk, IfOk};
 ghost use Rattle.sd_topo.specs.Network.{device_numbers};
 ghost use Rattle.sd_topo.specs.Topologies.{network};
-ghost use Rattle.sd_planner.specs.Gathered.{is_flagged, neighbour_below, over_before, over_links};
+ghost use Rattle.sd_planner.specs.Gathered.{neighbour_below, over_before, over_links};
+ghost use Rattle.sd_planner.specs.Flags.{is_set};
 
 use super::rows::{NeighbourRow, no_neighbours};
 use crate::present::Neighbour;

@@ -4,6 +4,7 @@ use Rattle.std.specs.List.{list_any, list_all}
 use Rattle.std.proofs.Common.{arith, sym, ap, subst, inl, inr}
 use Rattle.std.proofs.lemmas.Bool.{and_parts, leb-true, ltb-true, false_from_ne_true, or_cases}
 use Rattle.std.proofs.lemmas.Option.{slice_get_within}
+use Rattle.sd_num.proofs.Firsts.{find_passes}
 use Rattle.sd_wait.specs.Num.Lists.{map_or, below}
 use Rattle.sd_wait.specs.Clock.declared.Report.{Report}
 use Rattle.sd_wait.specs.Clock.Estimates.{contains}
@@ -80,14 +81,6 @@ ascending setting (e ∷ earlier) is =
 no_disorder : (stamp_i stamp_k eps_j clock_j ref_j ref_k : ℕ) → stamp_i + eps_j < clock_j → clock_j ≤ ref_j + eps_j → ref_j ≤ ref_k → ref_k ≤ stamp_k
     → stamp_k ≤ stamp_i → ⊥
 no_disorder stamp_i stamp_k eps_j clock_j ref_j ref_k after lower order upper less = omega (arith, after, lower, order, upper, less)
-
-find_passes : (p : ℕ → Bool) (xs : List ℕ) (j : ℕ) → find p xs ≡ Some j → p j ≡ true
-find_passes p [] j same = cc
-find_passes p (x ∷ xs) j same = go (p x) refl same (find_passes p xs j)
-  where
-    go : (b : Bool) → p x ≡ b → cond b (Some x) (find p xs) ≡ Some j → (find p xs ≡ Some j → p j ≡ true) → p j ≡ true
-    go true is e rest = subst (λ y. p y ≡ true) (some_is e) is
-    go false is e rest = rest e
 
 past_end : {A : Type 0} (xs : List A) (p : ℕ) → slice_get xs p ≡ None → length xs ≤ p
 past_end [] p same = omega arith

@@ -1,7 +1,7 @@
 use Rattle.std.proofs.Common.{refl}
+use Rattle.sd_replay.specs.History.World.{setting_over}
 use Rattle.sd_topo.specs.Topologies.{network}
 use Rattle.sd_gen.specs.Drafts.{history_of}
-use Rattle.sd_replay.specs.Settings.{setting_over}
 use Rattle.sd_cmd_case.proofs.Driven.{tally_as}
 use Rattle.sd_cmd_case.proofs.replayed.tally_schedule.Goals as goal
 

@@ -6,17 +6,17 @@ use Rattle.sd_topo.specs.Topologies.{network}
 use Rattle.sd_domain.specs.Domains.{domains}
 use Rattle.sd_plan.specs.Plans.{members}
 use Rattle.sd_drill.specs.Printed.{done_line}
+use Rattle.sd_drill.proofs.Checker.DomainOrder.{length-domains}
 use Rattle.sd_cmd_files.specs.Writes.{Adds}
 use Rattle.sd_cmd_files.specs.declared.Status.{Status}
 use Rattle.sd_cmd_drill.proofs.Prefixes.{adds_stop}
-use Rattle.sd_cmd_drill.proofs.Ranges.{domains_length}
 use Rattle.sd_cmd_drill.proofs.writing.write_done.Goals as goal
 
 pub returns-in-Ok-clause-writes : goal.returns-in-Ok-clause-writes
 returns-in-Ok-clause-writes g c =
     let net = network c.args.planned.topo.now in
     let count : c.domains.result + c.devices.result + c.links.result ≡ length (domains net) =
-    omega (arith, c.domains.ensures, c.devices.ensures, c.links.ensures, domains_length net) in
+    omega (arith, c.domains.ensures, c.devices.ensures, c.links.ensures, length-domains net) in
     let size : length c.as_slice-members.result.now ≡ length (members net c.args.planned.plan.now) =
     ap (λ (xs : List ℕ). length xs) (c.as_slice-members.ensures ∙ c.requires.members) in
     subst (λ (bytes : List ℕ). AddsPieces (g.O.Sink.written c.args.out.now) (g.O.Sink.written c.send.new.out) (piece_of bytes))
@@ -27,7 +27,7 @@ pub returns-in-Err-clause-writes : goal.returns-in-Err-clause-writes
 returns-in-Err-clause-writes g c =
     let net = network c.args.planned.topo.now in
     let count : c.domains.result + c.devices.result + c.links.result ≡ length (domains net) =
-    omega (arith, c.domains.ensures, c.devices.ensures, c.links.ensures, domains_length net) in
+    omega (arith, c.domains.ensures, c.devices.ensures, c.links.ensures, length-domains net) in
     let size : length c.as_slice-members.result.now ≡ length (members net c.args.planned.plan.now) =
     ap (λ (xs : List ℕ). length xs) (c.as_slice-members.ensures ∙ c.requires.members) in
     adds_stop (Unit {0}) Status (piece_of (done_line net c.args.planned.plan.now)) _ _ c.in-Err.stop

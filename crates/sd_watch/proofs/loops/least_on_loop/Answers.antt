@@ -2,7 +2,8 @@
 use Rattle.std.proofs.Common.{◌≡◌, ◌+◌, ◌≤◌, ℕ, Some, min, add-one, refl, sym, ap, ◌∙◌, arith, inl, inr, subst}
 use Rattle.std.proofs.lemmas.Bool.{cases_lt}
 use Rattle.std.proofs.lemmas.Option.{none-some, same_Some}
-use Rattle.sd_watch.specs.Watch.{parent_in, follow, IsOnLoop}
+use Rattle.sd_num.specs.Lists.{follow}
+use Rattle.sd_watch.specs.Watch.{parent_in, IsOnLoop}
 use Rattle.sd_watch.proofs.Following.{one_more, has_parent, led_on_loop}
 use Rattle.sd_watch.proofs.Settling.{only_within, settled_round}
 use Rattle.sd_watch.proofs.Within.{back_within}

@@ -1,5 +1,6 @@
 use Rattle.std.proofs.Common.{◌≡◌, ℕ, ◌≤◌, Some}
-use Rattle.sd_watch.specs.Watch.{parent_in, follow, IsOnLoop}
+use Rattle.sd_num.specs.Lists.{follow}
+use Rattle.sd_watch.specs.Watch.{parent_in, IsOnLoop}
 use Rattle.sd_watch.proofs.loops.least_on_loop.Given as goal
 
 abbrev pub invariant-round : goal.invariant-round

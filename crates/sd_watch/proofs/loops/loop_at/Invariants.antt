@@ -1,5 +1,6 @@
 use Rattle.std.proofs.Common.{◌≡◌, ◌≢◌, ℕ, suc, ◌<◌, Some}
-use Rattle.sd_watch.specs.Watch.{parent_in, follow}
+use Rattle.sd_num.specs.Lists.{follow}
+use Rattle.sd_watch.specs.Watch.{parent_in}
 use Rattle.sd_watch.proofs.loops.loop_at.Given as goal
 
 abbrev pub invariant-steps : goal.invariant-steps

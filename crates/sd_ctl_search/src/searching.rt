@@ -1,0 +1,197 @@
+//! The search: the greedy rule under each pair of roots, and then moves from plan to plan.
+ghost use Rattle.std.specs.Prelude.{◌≡◌, ◌<◌, length, IfOk, IfSome};
+ghost use Rattle.sd_ctl_search.specs.Finds.{IsFound};
+ghost use Rattle.sd_drill.specs.Budgets.{IsBudget};
+ghost use Rattle.sd_plan.specs.Plans.{Fits};
+ghost use Rattle.sd_planner.specs.Absences.{IsAbsentOf};
+ghost use Rattle.sd_topo.specs.Topologies.{network};
+
+use crate::candidates::Candidates;
+use crate::found::{Found, judge, plan_of};
+use crate::moves::Mover;
+use crate::weight::{Scales, Weight};
+use sd_ctl_draft::{Draft, Greedy, Ground, Parallel};
+use sd_drill::Budget;
+use sd_num::NoMemory;
+use sd_plan::{Absent, Plan};
+use sd_planner::{Planned, plan_for};
+use sd_topo::Topology;
+use std::alloc::Global;
+
+/// What a search is asked for.
+#[derive(Clone, Copy, Debug, PartialEq, Eq)]
+pub struct Settings {
+    /// By which the drill of one plan is compared with that of another.
+    pub budget: Budget,
+    /// All that is drawn is drawn by it.
+    pub seed: u64,
+    /// How many moves there are at most.
+    pub steps: u64,
+}
+
+/// A draft with its weight.
+#[derive(Drop)]
+struct Weighed {
+    draft: Draft,
+    weight: Weight,
+}
+
+impl Weighed {
+    /// Becomes the lighter one of itself and another.
+    fn improve(&mut self, draft: &Draft, weight: Weight) {
+        if weight.is_less(self.weight) {
+            self.draft.copy_from(draft);
+            self.weight = weight;
+        }
+    }
+
+    /// Whether it has no breach.
+    fn is_sound(&self) -> bool {
+        self.weight.breaches == 0
+    }
+}
+
+/// Tries the greedy rule under each pair of roots, up to the first draft without a breach.
+fn try_pairs(
+    alloc: Global,
+    scales: &mut Scales<'_>,
+    candidates: &Candidates,
+    parallel: Parallel,
+    best: &mut Weighed,
+) -> Result<(), NoMemory> {
+    let mut greedy = Greedy::new(alloc, scales.ground)?;
+    for place in 0..candidates.pairs() {
+        if best.is_sound() {
+            return Ok(());
+        }
+        if let Some(pair) = candidates.pair(place) {
+            let draft = greedy.draft(alloc, scales.ground, pair, parallel)?;
+            let weight = scales.weigh(alloc, &draft)?;
+            best.improve(&draft, weight);
+        }
+    }
+    Ok(())
+}
+
+/// How many moves may bring nothing before a search begins anew.
+fn patience(ground: &Ground<'_>) -> u64 {
+    u64::from(ground.topo.devices()).saturating_mul(40)
+}
+
+/// Goes from draft to draft, and keeps the best.
+fn wander(
+    alloc: Global,
+    scales: &mut Scales<'_>,
+    candidates: &Candidates,
+    settings: Settings,
+    best: &mut Weighed,
+) -> Result<(), NoMemory> {
+    let ground = scales.ground;
+    let mut mover = Mover::new(alloc, ground, settings.seed)?;
+    let mut here = best.draft.copy(alloc)?;
+    let mut weight = best.weight;
+    let mut next = best.draft.copy(alloc)?;
+    let mut idle: u64 = 0;
+    for _ in 0..settings.steps {
+        next.copy_from(&here);
+        if idle > patience(ground) {
+            idle = 0;
+            if best.is_sound() {
+                next.copy_from(&best.draft);
+            } else {
+                mover.scatter(ground, candidates, &mut next)?;
+            }
+            weight = Weight::of_breaches(u64::MAX);
+        } else {
+            mover.step(ground, candidates, &mut next);
+        }
+        let reached = scales.weigh(alloc, &next)?;
+        idle = if reached.is_less(weight) {
+            0
+        } else {
+            idle.saturating_add(1)
+        };
+        let is_daring = reached.breaches <= weight.breaches.saturating_add(1)
+            && mover.below(64) == 0;
+        if !weight.is_less(reached) || is_daring {
+            here.copy_from(&next);
+            weight = reached;
+            best.improve(&next, reached);
+        }
+    }
+    Ok(())
+}
+
+/// The best draft of a search.
+fn best_draft(
+    alloc: Global,
+    topo: &Topology,
+    absent: &Absent,
+    root: Option<u32>,
+    frame: &Plan,
+    settings: Settings,
+) -> Result<Draft, NoMemory>
+    requires absent { IsAbsentOf (network topo.now) absent.now }
+    requires frame { Fits (network topo.now) frame.now }
+    requires budget { IsBudget settings.budget }
+{
+    let ground = Ground::new(alloc, topo, absent)?;
+    let candidates = Candidates::new(alloc, &ground, root)?;
+    let mut scales = Scales::new(alloc, &ground, topo, frame, settings.budget)?;
+    let draft = Draft::of_plan(alloc, frame)?;
+    let weight = scales.weigh(alloc, &draft)?;
+    let mut best = Weighed { draft, weight };
+    try_pairs(alloc, &mut scales, &candidates, Parallel::Never, &mut best)?;
+    try_pairs(
+        alloc,
+        &mut scales,
+        &candidates,
+        Parallel::AsLastChoice,
+        &mut best,
+    )?;
+    wander(alloc, &mut scales, &candidates, settings, &mut best)?;
+    Ok(best.draft)
+}
+
+/// The greedy plan from the first candidate, or from the root that is given.
+fn first_plan(
+    alloc: Global,
+    topo: &Topology,
+    root: Option<u32>,
+    absent: &Absent,
+) -> Result<Plan, NoMemory>
+    requires absent { IsAbsentOf (network topo.now) absent.now }
+    requires root { IfSome root (λ r. r < length (network topo.now).devices) }
+    ensures fits { IfOk result (Fits (network topo.now)) }
+    ensures absent { IfOk result (λ plan. plan.absent ≡ absent.now) }
+{
+    let root = match root {
+        Some(root) => root,
+        None => topo.roots()[0],
+    };
+    match plan_for(alloc, topo, root, absent)? {
+        Planned::Plan(plan) => Ok(plan),
+        Planned::NoPlan(plan, _) => Ok(plan),
+    }
+}
+
+/// Searches for a plan without what is absent. Where a root is given the plan has that root, else
+/// any two of the candidates may be its roots. The same settings over the same topology give the
+/// same plan.
+pub fn search(
+    alloc: Global,
+    topo: &Topology,
+    absent: &Absent,
+    root: Option<u32>,
+    settings: Settings,
+) -> Result<Found, NoMemory>
+    requires absent { IsAbsentOf (network topo.now) absent.now }
+    requires root { IfSome root (λ r. r < length (network topo.now).devices) }
+    requires budget { IsBudget settings.budget }
+    ensures { IfOk result (IsFound (network topo.now) absent.now root) }
+{
+    let frame = first_plan(alloc, topo, root, absent)?;
+    let draft = best_draft(alloc, topo, absent, root, &frame, settings)?;
+    let plan = plan_of(alloc, topo, &frame, root, &draft)?;
+    judge(alloc, topo, plan)
+}

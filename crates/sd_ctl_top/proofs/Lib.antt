@@ -1,0 +1,4 @@
+pub mod Makes
+pub mod Meeting
+pub mod Served
+pub mod Settings

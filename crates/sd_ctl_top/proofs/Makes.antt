@@ -1,0 +1,27 @@
+-- What a search finds is what may be written.
+use Rattle.std.proofs.Common.{◌≡◌, ℕ, List, Option, Result, Ok, Err}
+use Rattle.std.specs.Prelude.{IfErr, IfOk}
+use Rattle.sd_topo.specs.Network.{Network}
+use Rattle.sd_plan.specs.declared.Absent.{Absent}
+use Rattle.sd_cmd_files.specs.Writes.{IsAllowed}
+use Rattle.sd_cmd_files.specs.declared.command_error.Answer.{Answer}
+use Rattle.sd_cmd_files.specs.declared.command_error.CommandError.{CommandError}
+use Rattle.sd_cmd_files.specs.declared.command_error.CommandError.TheVariants as ended
+use Rattle.sd_ctl_search.specs.Finds.{IsFound}
+use Rattle.sd_ctl_search.specs.declared.found.Found.{Found}
+use Rattle.sd_ctl_search.specs.declared.found.Found.TheVariants as found
+use Rattle.sd_ctl_top.specs.Findings.{FitsFound, IsFinding, found_status, found_text}
+
+-- a plan that was found fits
+pub found_fits : (net : Network) (absent : Absent) (root : Option ℕ) (what : Found) → IsFound net absent root what → FitsFound net what
+found_fits net absent root (found.Plan plan) (kept, accepted) = kept.fits
+found_fits net absent root (found.NoPlan plan breach) is = tt
+
+-- an answer with the text and the status of what was found
+pub finding_makes : (net : Network) (absent : Absent) (root : Option ℕ) (what : Found) (made : Result Answer CommandError) → IsFound net absent root what
+    → IfOk made (λ answer. answer.text.items ≡ found_text net what)
+    → IfOk made (λ answer. answer.status ≡ found_status what) → IfErr made (λ why. why ≡ ended.Memory) → IsAllowed (IsFinding net absent root) made
+finding_makes net absent root what (Ok answer) is text status only = (what, is, text, status)
+finding_makes net absent root what (Err ended.Memory) is text status only = tt
+finding_makes net absent root what (Err ended.Shelf) is text status only = cc
+finding_makes net absent root what (Err (ended.Refused why)) is text status only = cc

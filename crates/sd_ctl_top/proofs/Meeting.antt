@@ -1,0 +1,102 @@
+-- What a command leaves at the sink is what it answers, and then what the run answers.
+use Rattle.std.proofs.Common.{◌≡◌, ℕ, ◌∙◌, false, List, Option, Some, None, Result, Ok, Err, ap, arith, refl, sym, subst}
+use Rattle.std.specs.Prelude.{IfSome, IsTrue}
+use Rattle.sd_outside.specs.Causes.{RisesFor}
+use Rattle.sd_outside.specs.Pieces.{Pieces, piece_of}
+use Rattle.sd_cmd_files.proofs.work.Leaving.{at_once, leaves_once}
+use Rattle.sd_cmd_files.specs.Answering.{AtOnce, InWrites}
+use Rattle.sd_cmd_files.specs.Statuses.{is_among, stop_of}
+use Rattle.sd_cmd_files.specs.Stops.{status_of}
+use Rattle.sd_cmd_files.specs.Texts.{texts_of}
+use Rattle.sd_cmd_files.specs.Writes.{IsAllowed, HasOutput, WritesOnce}
+use Rattle.sd_cmd_files.specs.declared.Status.{Status}
+use Rattle.sd_cmd_files.specs.declared.Status.TheVariants.{ShelfFault, SinkFault, Memory}
+use Rattle.sd_cmd_files.specs.declared.command_error.Answer.{Answer}
+use Rattle.sd_cmd_files.specs.declared.command_error.CommandError.{CommandError}
+use Rattle.sd_cmd_files.specs.declared.command_error.IoError.{IoError}
+use Rattle.sd_cmd_files.specs.declared.command_error.IoError.TheVariants as stop
+use Rattle.sd_cmd_files.specs.work.Ending.{LeavesAt}
+use Rattle.sd_cmd_files.specs.work.Leaving.{Leaves}
+use Rattle.sd_ctl_top.specs.Promise.{AnswersOf, IsUsageLine, MeetsOutcome, MeetsResult, statuses_of}
+use Rattle.sd_ctl_top.specs.Words.{Command, command_of}
+use Rattle.sd_ctl_top.specs.Words.Command.{Search, Renew}
+
+-- the command of the words writes by one write what it has made
+pub made_meets : (held : Option (List ℕ → Option (List ℕ))) (words : List (List ℕ)) (command : Option Command) (made : Result Answer CommandError)
+    (old new : Option Pieces) (result : Result Status IoError) → command ≡ command_of words
+    → IfSome held (λ h. IsAllowed (AnswersOf command (texts_of h)) made) → WritesOnce (HasOutput made) old new result → MeetsResult held words old new result
+unfolding MeetsResult
+made_meets None words command made old new result is makes writes = tt
+made_meets (Some h) words command made old new result is makes writes =
+    subst (λ (c : Option Command). LeavesAt false (InWrites AtOnce (AnswersOf c (texts_of h))) old new result) is
+    (leaves_once (AnswersOf command (texts_of h)) made old new result makes writes)
+
+usage_leaves : (old new : Option Pieces) (result : Result Status IoError) → WritesOnce IsUsageLine old new result
+    → LeavesAt false (InWrites AtOnce IsUsageLine) old new result
+usage_leaves old new (Ok status) (bytes, written, added) = (piece_of bytes, at_once IsUsageLine bytes status written, added)
+usage_leaves old new (Err stop.Shelf) kept = kept
+usage_leaves old new (Err stop.Sink) (bytes, status, written, front) = (piece_of bytes, status, at_once IsUsageLine bytes status written, front)
+usage_leaves old new (Err stop.Memory) kept = kept
+
+-- words that are no command
+pub usage_meets : (held : Option (List ℕ → Option (List ℕ))) (words : List (List ℕ)) (old new : Option Pieces) (result : Result Status IoError)
+    → None ≡ command_of words → WritesOnce IsUsageLine old new result → MeetsResult held words old new result
+unfolding MeetsResult
+usage_meets None words old new result is writes = tt
+usage_meets (Some h) words old new result is writes =
+    subst (λ (c : Option Command). LeavesAt false (InWrites AtOnce (AnswersOf c (texts_of h))) old new result) is (usage_leaves old new result writes)
+
+-- no command answers a status of a run that was stopped
+never_stopped : (command : Option Command) (status : Status) → IsTrue (is_among (statuses_of command) status) → stop_of status ≡ None
+never_stopped None ShelfFault among = cc
+never_stopped None SinkFault among = cc
+never_stopped None Memory among = cc
+never_stopped (Some (Search topology settings)) ShelfFault among = cc
+never_stopped (Some (Search topology settings)) SinkFault among = cc
+never_stopped (Some (Search topology settings)) Memory among = cc
+never_stopped (Some (Renew topology plan absent settings)) ShelfFault among = cc
+never_stopped (Some (Renew topology plan absent settings)) SinkFault among = cc
+never_stopped (Some (Renew topology plan absent settings)) Memory among = cc
+never_stopped _ _ among = refl
+
+-- a run that ended
+pub ended_is : (held : Option (List ℕ → Option (List ℕ))) (words : List (List ℕ)) (old new : Option Pieces) (status : Status)
+    → IsTrue (is_among (statuses_of (command_of words)) status) → MeetsResult held words old new (Ok status) → MeetsOutcome held words old new status
+unfolding MeetsResult MeetsOutcome
+ended_is None words old new status among meets = tt
+ended_is (Some h) words old new status among meets =
+    subst (λ (why : Option IoError). Leaves why false (InWrites AtOnce (AnswersOf (command_of words) (texts_of h))) old new status)
+    (sym (never_stopped (command_of words) status among)) meets
+
+-- a run that was stopped
+pub stopped_is : (held : Option (List ℕ → Option (List ℕ))) (words : List (List ℕ)) (old new : Option Pieces) (why : IoError) (status : Status)
+    → status ≡ status_of why → MeetsResult held words old new (Err why) → MeetsOutcome held words old new status
+unfolding MeetsResult MeetsOutcome
+stopped_is None words old new why status is meets = tt
+stopped_is (Some h) words old new stop.Shelf status is meets = rw is meets
+stopped_is (Some h) words old new stop.Sink status is meets = rw is meets
+stopped_is (Some h) words old new stop.Memory status is meets = rw is meets
+
+-- the count of a run that ended stays
+pub ended_rises : (words : List (List ℕ)) (status blamed : Status) (why : IoError) (before now : ℕ)
+    → IsTrue (is_among (statuses_of (command_of words)) status) → stop_of blamed ≡ Some why → now ≡ before → RisesFor (status ≡ blamed) before now
+ended_rises words status blamed why before now among stops same =
+    record {
+      later = omega (arith, same);
+      rose = λ is. let none : stop_of status ≡ None = never_stopped (command_of words) status among in
+          let some : stop_of status ≡ Some why = ap stop_of is ∙ stops in cc;
+      steady = λ none. same;
+    }
+
+-- that of one which was stopped rose where it is blamed: by the shelf, or by the sink
+pub stopped_rises : (why blamed : IoError) (status : Status) (before now : ℕ) → status ≡ status_of why → RisesFor ((λ (r : Result Status IoError). r ≡ Err blamed) (Err why)) before now
+    → RisesFor (status ≡ status_of blamed) before now
+stopped_rises stop.Shelf stop.Shelf status before now is r = record { later = r.later; rose = λ e. r.rose refl; steady = λ none. absurd (none is) }
+stopped_rises stop.Sink stop.Sink status before now is r = record { later = r.later; rose = λ e. r.rose refl; steady = λ none. absurd (none is) }
+stopped_rises stop.Memory stop.Memory status before now is r = record { later = r.later; rose = λ e. r.rose refl; steady = λ none. absurd (none is) }
+stopped_rises stop.Shelf stop.Sink status before now is r = record { later = r.later; rose = λ e. cc; steady = λ none. r.steady (λ e. cc) }
+stopped_rises stop.Shelf stop.Memory status before now is r = record { later = r.later; rose = λ e. cc; steady = λ none. r.steady (λ e. cc) }
+stopped_rises stop.Sink stop.Shelf status before now is r = record { later = r.later; rose = λ e. cc; steady = λ none. r.steady (λ e. cc) }
+stopped_rises stop.Sink stop.Memory status before now is r = record { later = r.later; rose = λ e. cc; steady = λ none. r.steady (λ e. cc) }
+stopped_rises stop.Memory stop.Shelf status before now is r = record { later = r.later; rose = λ e. cc; steady = λ none. r.steady (λ e. cc) }
+stopped_rises stop.Memory stop.Sink status before now is r = record { later = r.later; rose = λ e. cc; steady = λ none. r.steady (λ e. cc) }

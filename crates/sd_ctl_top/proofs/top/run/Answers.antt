@@ -1,0 +1,25 @@
+use Rattle.std.proofs.Common.{map, refl, string_bytes}
+use Rattle.sd_cmd_files.specs.declared.Status.TheVariants.{ShelfFault, SinkFault}
+use Rattle.sd_cmd_files.specs.declared.command_error.IoError.TheVariants as stop
+use Rattle.sd_ctl_top.proofs.Meeting.{ended_is, ended_rises, stopped_is, stopped_rises}
+use Rattle.sd_ctl_top.proofs.top.run.Goals as goal
+
+pub returns-in-Ok-clause-outcome : goal.returns-in-Ok-clause-outcome
+returns-in-Ok-clause-outcome g c = ended_is _ _ _ _ c.in-Ok.status c.in-Ok.ensures.gives c.in-Ok.ensures.outcome
+
+pub returns-in-Err-clause-outcome : goal.returns-in-Err-clause-outcome
+returns-in-Err-clause-outcome g c = stopped_is _ _ _ _ c.in-Err.stop c.status.result c.status.ensures c.in-Err.ensures.outcome
+
+pub returns-in-Ok-clause-shelf : goal.returns-in-Ok-clause-shelf
+returns-in-Ok-clause-shelf g c =
+    ended_rises (map string_bytes c.args.words.now) c.in-Ok.status ShelfFault _ _ _ c.in-Ok.ensures.gives refl (c.in-Ok.ensures.shelf.count.steady (λ e. cc))
+
+pub returns-in-Ok-clause-sink : goal.returns-in-Ok-clause-sink
+returns-in-Ok-clause-sink g c =
+    ended_rises (map string_bytes c.args.words.now) c.in-Ok.status SinkFault _ _ _ c.in-Ok.ensures.gives refl (c.in-Ok.ensures.sink.steady (λ e. cc))
+
+pub returns-in-Err-clause-shelf : goal.returns-in-Err-clause-shelf
+returns-in-Err-clause-shelf g c = stopped_rises c.in-Err.stop stop.Shelf c.status.result _ _ c.status.ensures c.in-Err.ensures.shelf.count
+
+pub returns-in-Err-clause-sink : goal.returns-in-Err-clause-sink
+returns-in-Err-clause-sink g c = stopped_rises c.in-Err.stop stop.Sink c.status.result _ _ c.status.ensures c.in-Err.ensures.sink

@@ -1,0 +1,71 @@
+-- What the words of the second program mean.
+use Rattle.std.specs.Prelude.{ℕ, ◌-◌, ◌^◌, List, [], ◌∷◌, Option, None, Some, Result, Ok, Err, codes, nat_lt, if◌then◌else◌}
+use Rattle.std.specs.Str.{bytes_eq}
+use Rattle.sd_num.specs.Decimals.{number}
+use Rattle.sd_num.specs.Lists.{map_or}
+use Rattle.sd_num.specs.declared.NumFault.{NumFault}
+use Rattle.sd_ctl_search.specs.declared.searching.Settings.{Settings}
+
+-- a command, with the names of its files and its settings
+pub data Command : Type 0 where
+  Search : (topology : List ℕ) (settings : Settings) → Command
+  Renew : (topology plan absent : List ℕ) (settings : Settings) → Command
+
+-- the number that was read, where it is not above the greatest
+abbrev pub if_at_most : ℕ → Result ℕ NumFault → Option ℕ
+if_at_most greatest (Ok n) = if nat_lt greatest n then None else Some n
+if_at_most greatest (Err why) = None
+
+-- the number of a word, up to the greatest
+abbrev pub read_up_to : ℕ → List ℕ → Option ℕ
+read_up_to greatest word = if_at_most greatest (number word)
+
+-- the settings of the words for base, hold, seed and steps, each up to its limit
+abbrev pub settings_of : List ℕ → List ℕ → List ℕ → List ℕ → Option Settings
+settings_of base hold seed steps =
+    map_or (read_up_to (2 ^ 60) base) None (λ b. map_or (read_up_to (2 ^ 60) hold) None
+    (λ h. map_or (read_up_to (2 ^ 64 - 1) seed) None (λ s. map_or (read_up_to (2 ^ 60) steps) None
+    (λ n. Some (record { budget = record { base = b; hold = h }; seed = s; steps = n })))))
+
+-- the settings of words, if they are four
+abbrev pub settings_among : List (List ℕ) → Option Settings
+settings_among [] = None
+settings_among (base ∷ []) = None
+settings_among (base ∷ hold ∷ []) = None
+settings_among (base ∷ hold ∷ seed ∷ []) = None
+settings_among (base ∷ hold ∷ seed ∷ steps ∷ []) = settings_of base hold seed steps
+settings_among (base ∷ hold ∷ seed ∷ steps ∷ next ∷ others) = None
+
+-- a search over a topology with the settings of the words
+abbrev pub search_of : List (List ℕ) → Option Command
+search_of [] = None
+search_of (topology ∷ numbers) = map_or (settings_among numbers) None (λ settings. Some (Search topology settings))
+
+-- a renewal of a plan, with what is absent and the settings of the words
+abbrev pub renewal_without : List ℕ → List ℕ → List (List ℕ) → Option Command
+renewal_without topology plan [] = None
+renewal_without topology plan (absent ∷ numbers) = map_or (settings_among numbers) None (λ settings. Some (Renew topology plan absent settings))
+
+-- a renewal over a topology, with the plan and all else of the words
+abbrev pub renewal_over : List ℕ → List (List ℕ) → Option Command
+renewal_over topology [] = None
+renewal_over topology (plan ∷ others) = renewal_without topology plan others
+
+-- a renewal with all of the words
+abbrev pub renewal_of : List (List ℕ) → Option Command
+renewal_of [] = None
+renewal_of (topology ∷ others) = renewal_over topology others
+
+-- the command of the words, if they are in the table
+abbrev pub command_of : List (List ℕ) → Option Command
+command_of [] = None
+command_of (word ∷ others) =
+    if bytes_eq word (codes "search") then search_of others
+    else if bytes_eq word (codes "renew") then renewal_of others
+    else None
+
+-- the names of the files that a command reads, in the order of its work
+abbrev pub names_of : Option Command → List (List ℕ)
+names_of None = []
+names_of (Some (Search topology settings)) = topology ∷ []
+names_of (Some (Renew topology plan absent settings)) = topology ∷ plan ∷ absent ∷ []

@@ -1,0 +1,14 @@
+//! The whole work of the second program, `sundialctl`, over any shelf and any sink: `run`, with all
+//! that is promised of it.
+#![tactic(auto)]
+
+mod finding;
+mod renewal;
+mod top;
+mod whole;
+mod words;
+
+pub use sd_cmd_files::Status;
+// Handed on to the program.
+pub use sd_outside as outside;
+pub use top::run;

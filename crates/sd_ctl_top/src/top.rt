@@ -1,0 +1,109 @@
+//! `run`: the command of the words.
+ghost use Rattle.std.specs.Prelude.{◌≡◌, ◌⊎◌, false, All, Err, IfOk, IsTrue, None, Ok, map, string_bytes};
+ghost use Rattle.sd_outside.specs.Causes.{RisesFor, Rose};
+ghost use Rattle.sd_outside.specs.Shelves.{KeepsShelf};
+ghost use Rattle.sd_cmd_files.specs.Statuses.{is_among, stop_of};
+ghost use Rattle.sd_cmd_files.specs.Writes.{WritesOnce};
+ghost use Rattle.sd_ctl_top.specs.Promise.{IsUsageLine, MeetsOutcome, MeetsResult, statuses_of};
+ghost use Rattle.sd_ctl_top.specs.Words as meaning;
+ghost use Rattle.sd_ctl_top.specs.Words.{names_of};
+
+use crate::renewal::{RenewalFiles, renewal_answer};
+use crate::whole::whole_answer;
+use crate::words::{Command, command_of};
+use sd_cmd_files::{IoError, Status, write_answer};
+use sd_outside::{Shelf, Sink};
+use std::alloc::Global;
+
+/// Does the work of the words that follow the program's name, and answers how it ended.
+///
+/// The files that the words name are begun on the shelf, and what is printed goes to the sink by one
+/// write.
+pub fn run<S: Shelf, O: Sink>(alloc: Global, words: &[String], shelf: &mut S, out: &mut O) -> Status
+    requires fresh { S.begun shelf.old ≡ false }
+    requires serves { All (λ name. IsTrue (S.serves shelf.old name))
+        (names_of (meaning.command_of (map string_bytes words.now))) }
+
+    // Over a shelf that tells its texts: what the words write and answer. A plan is printed only
+    // where the checker accepts it, and it leaves out just what is absent.
+    ensures outcome { MeetsOutcome (S.held shelf.old) (map string_bytes words.now)
+        (O.written out.old) (O.written out.new) result }
+
+    // Over every shelf and sink: a run that is not stopped gives one of the command's statuses. The
+    // outside is blamed only where it failed in this call. Any other answer, out of memory too, is
+    // given only where it did not fail.
+    ensures gives { stop_of result ≡ None
+        → IsTrue (is_among (statuses_of (meaning.command_of (map string_bytes words.now)))
+        result) }
+    ensures usage { meaning.command_of (map string_bytes words.now) ≡ None
+        → (result ≡ Status.Usage) ⊎ (result ≡ Status.SinkFault) }
+    ensures shelf { RisesFor (result ≡ Status.ShelfFault) (S.faults shelf.old)
+        (S.faults shelf.new) }
+    ensures sink { RisesFor (result ≡ Status.SinkFault) (O.faults out.old) (O.faults out.new) }
+    ensures complete { (Rose (S.faults shelf.old) (S.faults shelf.new) → ⊥)
+        → (Rose (O.faults out.old) (O.faults out.new) → ⊥)
+        → (stop_of result ≡ None) ⊎ (result ≡ Status.Memory) }
+{
+    match perform(alloc, words, shelf, out) {
+        Ok(status) => status,
+        Err(stop) => stop.status(),
+    }
+}
+
+/// Does the work of the words, or is stopped.
+fn perform<S: Shelf, O: Sink>(
+    alloc: Global,
+    words: &[String],
+    shelf: &mut S,
+    out: &mut O,
+) -> Result<Status, IoError>
+    requires { All (λ name. IsTrue (S.serves shelf.old name))
+        (names_of (meaning.command_of (map string_bytes words.now))) }
+    ensures outcome { MeetsResult (S.held shelf.old) (map string_bytes words.now)
+        (O.written out.old) (O.written out.new) result }
+    ensures gives { IfOk result
+        (λ status. IsTrue
+        (is_among (statuses_of (meaning.command_of (map string_bytes words.now))) status)) }
+    ensures usage { meaning.command_of (map string_bytes words.now) ≡ None
+        → (result ≡ Ok Status.Usage) ⊎ (result ≡ Err IoError.Sink) }
+    ensures shelf { KeepsShelf S.Shelf (result ≡ Err IoError.Shelf) shelf.old shelf.new }
+    ensures sink { RisesFor (result ≡ Err IoError.Sink) (O.faults out.old) (O.faults out.new) }
+{
+    match command_of(words) {
+        Some(Command::Search { topology, settings }) => {
+            let made = whole_answer(alloc, shelf, topology, settings);
+            write_answer(alloc, &made, out)
+        }
+        Some(
+            Command::Renew {
+                topology,
+                plan,
+                absent,
+                settings,
+            },
+        ) => {
+            let files = RenewalFiles {
+                topology,
+                plan,
+                absent,
+            };
+            let made = renewal_answer(alloc, shelf, files, settings);
+            write_answer(alloc, &made, out)
+        }
+        None => usage(out),
+    }
+}
+
+/// Writes the usage line.
+fn usage<O: Sink>(out: &mut O) -> Result<Status, IoError>
+    ensures outcome { WritesOnce IsUsageLine (O.written out.old) (O.written out.new) result }
+    ensures usage { (result ≡ Ok Status.Usage) ⊎ (result ≡ Err IoError.Sink) }
+    ensures sink { RisesFor (result ≡ Err IoError.Sink) (O.faults out.old) (O.faults out.new) }
+{
+    match out.write(
+        b"usage: sundialctl search TOPOLOGY BASE HOLD SEED STEPS | renew TOPOLOGY PLAN ABSENT BASE HOLD SEED STEPS\n",
+    ) {
+        Ok(()) => Ok(Status::Usage),
+        Err(_) => Err(IoError::Sink),
+    }
+}
