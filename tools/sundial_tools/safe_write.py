@@ -73,6 +73,7 @@ def output_of(path: Optional[str], follow: bool) -> ContextManager[TextIO]:
     return flowing_output(path) if follow else whole_output(path)
 
 
+OUTPUT = "where the output goes (default: standard output)"
 FOLLOW = "write each line as soon as it is known: for pipes; what was written stays where the input ends badly"
 
 

@@ -10,6 +10,7 @@ import histories
 from histories import PLANS, TRIANGLE, History
 from test_follow import Fed
 
+from sundial_tools.cut import cutter
 from sundial_tools.cut.joined import joined
 from sundial_tools.cut.main import Cutting, Wish, main
 from sundial_tools.plain.lines import Replay
@@ -48,6 +49,31 @@ class Cut(unittest.TestCase):
             words |= {line.split()[0] for line in whole}
         self.assertGreater(cuts, 60)
         self.assertEqual((ways, words), ({"whole", "marks"}, {"report", "broken", "done"}))
+
+    def test_far_from_a_cut_lines_are_skimmed_and_the_parts_are_the_same(self):
+        near = mock.patch.object(Cutting, "_skim", lambda self, number, text: False)
+        skimmed, cuts = [0], 0
+        skim = Cutting._skim
+
+        def counted(self, number, text):
+            done = skim(self, number, text)
+            skimmed[0] += done
+            return done
+
+        for number, bad in (1, None), (3, 85):
+            made = History(number, rounds=90, bad=bad)
+            whole = plain(made.topology, made.plans, made.lines)
+            for wish in Wish(every=250), Wish(at=(histories.STEP * 40, histories.STEP * 70)):
+                with mock.patch.object(cutter, "ROUNDS_BEFORE", 4), mock.patch.object(Cutting, "_skim", counted):
+                    parts = self.parts(made, wish)
+                self.assertEqual(joined(parts)[1], whole)
+                if wish.at:
+                    # (after so many lines a cut may come some rounds later, where devices tick more often than they have to)
+                    with near:
+                        self.assertEqual([row for row, _ in self.parts(made, wish)], [row for row, _ in parts])
+                cuts += len(parts) - 1
+        self.assertGreater(cuts, 3)
+        self.assertGreater(skimmed[0], 300)
 
     def test_a_round_is_told_again_where_receipts_spread(self):
         text = TRIANGLE.read_text().replace("tick = 90000000", "tick = 2000000").replace("max = 1000000", "max = 9000000")
@@ -118,6 +144,19 @@ class Words(unittest.TestCase):
             status, out, err = run("sundial-cut", main, [TRIANGLE, *PLANS, path / "schedule", "--every", "50", "--run"])
             self.assertEqual((status, out), whole)
             self.assertNotIn("left out", err)
+
+    def test_run_tells_the_lines_of_a_part_before_the_next_ones_are_fed(self):
+        made = History(3, rounds=60)
+        whole = plain(made.topology, made.plans, made.lines)
+        words = [TRIANGLE, *PLANS, "-", "--every", "50", "--run", "--follow"]
+        with mock.patch.dict(os.environ, {"SUNDIAL": str(TOOLS / "tests" / "plain_sundial.py")}), Fed(TOOLS / "sundial-cut", *words) as tool:
+            for line in made.lines[:-30]:
+                tool.feed(line)
+            first = tool.line()
+            for line in made.lines[-30:]:
+                tool.feed(line)
+            status, rest = tool.end()
+        self.assertEqual((status, [first, *rest.splitlines()]), (0, whole))
 
     def test_run_needs_the_program(self):
         err = run("sundial-cut", main, [TRIANGLE, *PLANS, "schedule", "--run"])[2]

@@ -75,6 +75,25 @@ class Streams(unittest.TestCase):
                 self.assertIn('"inside":true', tool.line())
                 feeder.join()
 
+    def test_why_says_each_line_as_it_comes_also_of_a_schedule_that_grows(self):
+        lines = (INCIDENT / "schedule.txt").read_text().splitlines(keepends=True)
+        told = [line for line in (INCIDENT / "output").read_text().splitlines() if line.startswith(("broken ", "alarm "))]
+        self.assertGreater(len(told), 2)
+        with directory() as path:
+            growing = path / "schedule.txt"
+            growing.write_text("".join(lines[:3]))
+            with Fed(TOOLS / "sundial-why", INCIDENT / "topology.toml", INCIDENT / "plan.json", INCIDENT / "plan.json", growing, "--follow") as tool:
+                for line in told:
+                    number = int(line.split()[1])
+                    growing.write_text("".join(lines[:number]))
+                    tool.feed(line + "\n")
+                    self.assertEqual(tool.line(), line)
+                    said = [tool.line(), tool.line()]
+                    self.assertEqual(said[1], f"    {growing}, line {number}: {lines[number - 1].strip()}")
+                    while not tool.line().startswith(("    Change: ", "    It follows from")):
+                        pass
+                self.assertEqual(tool.end(), (0, ""))
+
     def test_record_writes_each_event_as_it_comes(self):
         lines = (LOGS / "r.jsonl").read_text().splitlines(keepends=True)
         events = [line for line in (LOGS / "schedule.txt").read_text().splitlines() if line.split()[2:3] == ["0"]]

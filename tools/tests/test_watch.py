@@ -5,6 +5,7 @@ import json
 import os
 import random
 import re
+import resource
 import signal
 import subprocess
 import time
@@ -18,6 +19,7 @@ import logs_of
 from histories import PLANS, STEP, TRIANGLE, History
 from test_cut import plain
 
+from sundial_tools.cut import cutter
 from sundial_tools.record.main import main as record
 from sundial_tools.errors import ToolError
 from sundial_tools.plain.lines import Replay
@@ -33,7 +35,9 @@ from sundial_tools.watch.watcher import Options, Watch
 PROGRAM = support.PROGRAM.resolve() if support.PROGRAM.is_file() else TOOLS / "tests" / "plain_sundial.py"
 SECOND = 10**12
 NAMES = ("r", "b", "x", "fabric")
-KILLS = int(os.environ.get("SUNDIAL_KILLS", "3"))
+# How often a watch is killed, and how often its disk is full: more by hand.
+KILLS = int(os.environ.get("SUNDIAL_KILLS", "5"))
+FULLS = int(os.environ.get("SUNDIAL_FULLS", "4"))
 
 
 class Crash(Exception):
@@ -60,6 +64,9 @@ class Played:
             self._due += self._replay._taken(self._number, event)
             while self._due and self.draw.random() < 0.5:
                 self._told(self._due.pop(0))
+
+    def judge(self):
+        pass
 
     def finish(self):
         while self._due:
@@ -157,6 +164,20 @@ class Told(unittest.TestCase):
         self.assertEqual("".join(line.split(" ", 1)[1] for line in journals.splitlines(keepends=True)), schedule)
         self.assertGreater(len(list(fabric.state.glob("part-*.start"))), 1)
 
+    def test_far_from_a_cut_nothing_is_kept_for_one(self):
+        fabric = self.fabric(3, rounds=100)
+        draw, rest = random.Random(4), list(fabric.lines)
+        with mock.patch.object(cutter, "ROUNDS_BEFORE", 4):
+            while rest:
+                count = draw.randint(60, 150)
+                fabric.write(rest[:count])
+                del rest[:count]
+                fabric.once(every=200, keep=100)
+        self.assertEqual(list(map(line_of, fabric.rows())), fabric.whole()[1])
+        parts = [len(file.read_text().splitlines()) for file in sorted(fabric.state.glob("part-*.journal"))]
+        self.assertGreater(len(parts), 1)
+        self.assertGreater(min(parts[:-1]), 199)
+
     def test_a_torn_line_waits_for_its_end(self):
         fabric = self.fabric(2, rounds=12)
         fabric.write(fabric.lines[:-1])
@@ -199,6 +220,28 @@ class Told(unittest.TestCase):
             self.assertEqual([row["reason"].split(":")[0] for row in passed], ["out of order", "no JSON, or cut short", "there is no device y in the topology"])
             self.assertEqual({row["log"] for row in passed}, {fabric.logs[2]})
             self.assertEqual(list(map(line_of, (row for row in rows if row["kind"] != "passed over"))), plain(fabric.made.topology, fabric.made.plans, fabric.made.lines)[:-1])
+
+    def test_a_device_whose_reference_runs_backwards(self):
+        """Its lines are passed over until its reference is where it was, and so is what follows from them alone."""
+        fabric = self.fabric(2, rounds=40)
+        mine = [at for at, (whose, _) in enumerate(fabric.lines) if whose == "x"]
+        back, again = mine[len(mine) // 3], mine[len(mine) // 2]
+        for at in mine:
+            said = json.loads(fabric.lines[at][1])
+            if back <= at < again:
+                fabric.lines[at] = "x", json.dumps({**said, "reference_ps": said["reference_ps"] - 20 * STEP}) + "\n"
+        passed_over = sum(back <= at < again for at in mine)
+        fabric.write(fabric.lines)
+        fabric.once()
+        rows = fabric.rows()
+        passed = [row for row in rows if row["kind"] == "passed over"]
+        late = [row for row in passed if row["reason"].startswith("out of order: its reference is ")]
+        self.assertEqual((len(late), {row["log"] for row in late}), (passed_over, {fabric.logs[2]}))
+        journal = (fabric.state / "part-0001.journal").read_text().splitlines()
+        schedule = [line.split(" ", 1)[1] for line in journal if " !" not in line]
+        told = [line_of(row) for row in rows if row["kind"] != "passed over"]
+        self.assertEqual(told, plain(fabric.made.topology, fabric.made.plans, schedule)[:-1])
+        self.assertIn("tick", {row["premise"] for row in rows if row["kind"] == "broken"})
 
     def test_an_event_that_comes_too_late(self):
         fabric = self.fabric(2, rounds=12)
@@ -311,37 +354,69 @@ class Told(unittest.TestCase):
         self.assertIn("needs sundial on the path", run("sundial-watch", main, [TRIANGLE, "log", "--plan", PLANS[0], "-o", self.path / "s"])[2])
 
 
-class Killed(unittest.TestCase):
-    def test_nothing_is_lost_or_told_twice(self):
-        draw = random.Random(int(os.environ.get("SUNDIAL_SEED", "5")))
-        with directory() as path:
-            fabric = Fabric(path, History(9, rounds=60, bad=55))
-            words = [str(TOOLS / "sundial-watch"), str(TRIANGLE), *fabric.logs, "--plan", str(PLANS[0]), "--plan", str(PLANS[1])]
-            words += ["-o", str(fabric.state), "--every", "40", "--keep", "100", "--origin", "0s", "--horizon", "1ns"]
-            rest, grew = list(fabric.lines), 0
-            for _ in range(KILLS):
-                process = subprocess.Popen(words, env={**os.environ, "SUNDIAL": str(PROGRAM)}, stderr=subprocess.DEVNULL)
-                before, wished = self.told(fabric), draw.randint(0, 1500)
-                count = draw.randint(1, max(2, 2 * len(fabric.lines) // KILLS))
-                whose, torn = (rest[count] if count < len(rest) else ("x", ""))
-                fabric.write([*rest[:count], (whose, torn[:7])])
-                rest = [(whose, torn[7:]), *rest[count + 1:]] if count < len(rest) else []
-                end = time.monotonic() + 120
-                while time.monotonic() < end and self.told(fabric) <= before + wished:
-                    time.sleep(0.001)
-                time.sleep(draw.choice((0, 0.01, 0.05)))
+class Stopped(unittest.TestCase):
+    """A process that is killed, or that finds no room, and is begun anew."""
+
+    def setUp(self):
+        path = self.enterContext(directory())
+        self.draw = random.Random(int(os.environ.get("SUNDIAL_SEED", "5")))
+        self.fabric = Fabric(path, History(9, rounds=60, bad=55))
+        self.rest = list(self.fabric.lines)
+
+    def begin(self, **more):
+        fabric = self.fabric
+        words = [str(TOOLS / "sundial-watch"), str(TRIANGLE), *fabric.logs, "--plan", str(PLANS[0]), "--plan", str(PLANS[1])]
+        words += ["-o", str(fabric.state), "--every", "40", "--keep", "100", "--origin", "0s", "--horizon", "1ns"]
+        return subprocess.Popen(words, env={**os.environ, "SUNDIAL": str(PROGRAM)}, stderr=subprocess.PIPE, text=True, **more)
+
+    def write_some(self, count):
+        """Writes so many lines, and a front of the next one."""
+        whose, torn = self.rest[count] if count < len(self.rest) else ("x", "")
+        self.fabric.write([*self.rest[:count], (whose, torn[:7])])
+        self.rest = [(whose, torn[7:]), *self.rest[count + 1:]] if count < len(self.rest) else []
+
+    def told(self):
+        return sum(file.stat().st_size for file in self.fabric.state.glob("part-*.journal"))
+
+    def wait(self, before, wished):
+        """Until so many bytes more are told, or as long as they come."""
+        told, end = before, time.monotonic() + 20
+        while time.monotonic() < end and told <= before + wished:
+            time.sleep(0.001)
+            now = self.told()
+            if now > told:
+                told, end = now, time.monotonic() + 0.2
+
+    def judge(self):
+        self.fabric.write(self.rest)
+        self.fabric.once(every=40, keep=100, horizon=1000)
+        Told.judge(self, self.fabric)
+
+    def test_killed_at_any_moment(self):
+        grew = 0
+        for _ in range(KILLS):
+            with self.begin() as process:
+                before, wished = self.told(), self.draw.randint(0, 1500)
+                self.write_some(self.draw.randint(1, max(2, 2 * len(self.fabric.lines) // KILLS)))
+                self.wait(before, wished)
+                time.sleep(self.draw.choice((0, 0.01, 0.05)))
                 self.assertIsNone(process.poll())
                 process.send_signal(signal.SIGKILL)
-                process.wait()
-                grew += self.told(fabric) > before
-            fabric.write(rest)
-            fabric.once(every=40, keep=100, horizon=1000)
-            self.assertGreater(grew, 0)
-            Told.judge(self, fabric)
+            grew += self.told() > before
+        self.assertGreater(grew, 0)
+        self.judge()
 
-    @staticmethod
-    def told(fabric):
-        return sum(file.stat().st_size for file in fabric.state.glob("part-*.journal"))
+    def test_a_full_disk(self):
+        """No file may get longer than some bytes: a stand-in for a disk that is full at any of its writes."""
+        room = 200
+        for _ in range(FULLS):
+            self.write_some(len(self.fabric.lines) // FULLS)
+            room += self.draw.randint(0, 4000 // FULLS)
+            with self.begin(preexec_fn=lambda: resource.setrlimit(resource.RLIMIT_FSIZE, (room, room))) as process:
+                status, said = process.wait(timeout=120), process.stderr.read()
+            self.assertEqual(status, 1)
+            self.assertRegex(said, r"(^|\n)sundial-watch: .*: File too large\n$")
+        self.judge()
 
 
 if __name__ == "__main__":

@@ -113,7 +113,8 @@ class Signals(unittest.TestCase):
         for number in signal.SIGTERM, signal.SIGHUP, signal.SIGINT:
             with self.subTest(number), directory() as path:
                 words = [sys.executable, "-c", WRITER, TOOLS, path / "out"]
-                with subprocess.Popen(words, stdout=subprocess.PIPE, stderr=subprocess.PIPE, text=True) as tool:
+                # (who runs the tests in the background ignores SIGINT, and so would the tool)
+                with subprocess.Popen(words, stdout=subprocess.PIPE, stderr=subprocess.PIPE, text=True, preexec_fn=lambda: signal.signal(signal.SIGINT, signal.SIG_DFL)) as tool:
                     self.assertEqual(tool.stdout.readline(), "begun\n")
                     self.assertEqual(len(os.listdir(path)), 1)
                     tool.send_signal(number)

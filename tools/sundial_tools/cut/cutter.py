@@ -10,9 +10,22 @@ from sundial_tools.cut.opening import Kept, Opening, Refused, Round, exact_fix, 
 from sundial_tools.fleet.device import ACTING, Device
 from sundial_tools.fleet.fleet import Fleet
 from sundial_tools.schedule import Event
-
+from sundial_tools.topology import Topology
 
 MOST_KEPT = 1 << 18
+NEVER = 2**62
+# Before a wished cut so many rounds are looked at: more than an opening may need.
+ROUNDS_BEFORE = 8
+
+
+def rounds_before(topology: Topology) -> int:
+    """For how long all is kept before a cut, as a time of the reference."""
+    return ROUNDS_BEFORE * (topology.period + topology.tick)
+
+
+def lines_before(topology: Topology) -> int:
+    """In about so many lines that time passes: more, where devices tick more often than they have to."""
+    return 2 * ROUNDS_BEFORE * (topology.period // topology.tick + 2) * len(topology.devices)
 
 
 class Cutter:
@@ -30,6 +43,13 @@ class Cutter:
         # Events up to this line are kept no more, though no round has come since.
         self._gone = 0.0
 
+    def begin(self) -> None:
+        """From here on each event is told. Ticks and receipts before may not have been."""
+        self.marks.forget()
+        self._kept.clear()
+        self._rounds.clear()
+        self._gone = 0.0
+
     def before(self, line: int, event: Event) -> Optional[Opening]:
         """The opening of a part that begins with this event, where a cut is due and right."""
         if event.word != "tick":
@@ -39,6 +59,8 @@ class Cutter:
         if state is None or state.mode != ACTING or counter - state.sent < self.fleet.topology.period:
             return None
         self.emissions += 1
+        if state.number not in self.marks.of:
+            return None
         is_due = self.is_due(line, event.ref)
         now = self._look(line, event, state, is_due)
         opening = self._opening(now) if is_due and now.right else None

@@ -8,14 +8,18 @@ import os
 import subprocess
 import sys
 import tempfile
+import threading
+from collections import deque
 from concurrent.futures import Future, ThreadPoolExecutor
-from typing import Callable, Iterable, Iterator, List, NamedTuple, Optional, Sequence, Tuple
+from typing import Callable, Deque, Iterable, Iterator, List, NamedTuple, Optional, Sequence, Tuple
 
-from sundial_tools.cut.cutter import Cutter
+from sundial_tools.cut.cutter import NEVER, Cutter, lines_before, rounds_before
 from sundial_tools.cut.joined import Joined
+from sundial_tools.cut.opening import Opening
 from sundial_tools.cut.parts import HEADER, TABLE, Part, Row
 from sundial_tools.errors import ToolError
 from sundial_tools.fleet.fleet import Fleet
+from sundial_tools.inputs import as_files
 from sundial_tools.plan import Plan, read_plan
 from sundial_tools.safe_write import Progress
 from sundial_tools.schedule import Event, open_schedule, parse_event
@@ -35,7 +39,10 @@ class Wish(NamedTuple):
 
 
 class Cutting:
-    """Cuts the lines of a schedule into parts, as files of a directory. Without one it only looks where it could."""
+    """Cuts the lines of a schedule into parts, as files of a directory. Without one it only looks where it could.
+
+    Far from each wished cut the lines are skimmed: the fleet takes them, and nothing is kept for an opening.
+    """
 
     def __init__(self, topology: Topology, plans: Sequence[Plan], wish: Wish, directory: Optional[str], finished: Finished) -> None:
         self._fleet = Fleet(topology, plans)
@@ -45,10 +52,19 @@ class Cutting:
         # Those that go on: all but the last one for some rounds more.
         self._parts: List[Part] = []
         self.cuts = self.parts = 0
+        # From which line, or from which reference on, a cut is near; and since when all is kept for it.
+        self._near_line = self._near_ref = NEVER
+        self._is_far, self._near_since = False, -NEVER
+        self._rounds = rounds_before(topology)
 
     def run(self, lines: Iterator[str], source: str) -> None:
         latest, number = 0, 0
         for number, text in enumerate(lines, 1):
+            try:
+                if self._is_far and self._skim(number, text):
+                    continue
+            except (ValueError, KeyError):
+                pass  # (what is wrong with the line is said below)
             event = parse_event(text[:-1] if text.endswith("\n") else text, source, number)
             try:
                 self._take(number, event, text, latest)
@@ -62,26 +78,56 @@ class Cutting:
     def _is_due(self, line: int, ref: int) -> bool:
         if not self._parts:
             return True
+        if ref < self._near_since + self._rounds:
+            return False
         if self._wish.every is not None:
             return line - self._parts[-1].first_line >= self._wish.every
         return bool(self._at) and ref >= self._at[-1]
 
+    def _skim(self, number: int, text: str) -> bool:
+        """Takes a tick, an ask or a receipt that is far from each wished cut, and answers whether it was one."""
+        words = text.split(" ")
+        word, ref = words[0], int(words[1])
+        if number >= self._near_line or ref >= self._near_ref:
+            self._is_far, self._near_since = False, ref
+            self.cutter.begin()
+            return False
+        if word == "tick" and len(words) == 4:
+            self._fleet.tick(ref, int(words[2]), int(words[3]))
+        elif word == "recv" and len(words) == 5:
+            self._fleet.receive(ref, int(words[2]), int(words[3]), int(words[4]))
+        elif word != "ask":
+            return False
+        self._parts[0].skim(text, words)
+        return True
+
     def _take(self, number: int, event: Event, text: str, latest: int) -> None:
         opening = self.cutter.before(number, event)
         if self._directory is not None and (number == 1 or opening is not None):
-            for part in self._parts[-1:]:
-                part.until = self.cutter.emissions + self._fleet.topology.loss + 2
-            self.parts += 1
-            path = os.path.join(self._directory, f"part-{self.parts:04}.txt")
-            self._parts.append(Part(self._fleet, path, number, opening, self._wish.moves))
-            while self._at and event.ref >= self._at[-1]:
-                self._at.pop()
+            self._begin_part(number, event, opening)
         self.cuts += opening is not None
         while self._parts and self._parts[0].until == self.cutter.emissions:
             self._finish(latest, [self._parts.pop(0)])
         for part in self._parts:
             part.add(event, text)
         self.cutter.after(number, event, self._fleet.happen(event))
+        self._is_far = len(self._parts) == 1 and number < self._near_line and event.ref < self._near_ref
+
+    def _begin_part(self, number: int, event: Event, opening: Optional[Opening]) -> None:
+        topology = self._fleet.topology
+        for part in self._parts[-1:]:
+            part.until = self.cutter.emissions + topology.loss + 2
+        self.parts += 1
+        path = os.path.join(self._directory or "", f"part-{self.parts:04}.txt")
+        self._parts.append(Part(self._fleet, path, number, opening, self._wish.moves))
+        while self._at and event.ref >= self._at[-1]:
+            self._at.pop()
+        if self._wish.moves:
+            self._near_line = 0
+        elif self._wish.every is not None:
+            self._near_line = number + self._wish.every - lines_before(topology)
+        else:
+            self._near_ref = self._at[-1] - self._rounds if self._at else NEVER
 
     def _finish(self, end: Optional[int], parts: Iterable[Part]) -> None:
         for part in parts:
@@ -89,24 +135,48 @@ class Cutting:
 
 
 class Runs:
-    """Replays parts side by side, while the next ones are cut."""
+    """Replays parts side by side, while the next ones are cut. `whole` has what came of them.
 
-    def __init__(self, replay: Callable[[Row], List[str]], jobs: int) -> None:
+    With `follow` the lines of a part are printed when they are known, and else at the end.
+    """
+
+    def __init__(self, replay: Callable[[Row], List[str]], jobs: int, follow: bool) -> None:
         self._pool = ThreadPoolExecutor(jobs)
-        self._replay = replay
-        self._told: "List[Tuple[Row, Future[List[str]]]]" = []
+        self._replay, self._follow = replay, follow
+        self._told: "Deque[Tuple[Row, Future[List[str]]]]" = deque()
+        self._printing = threading.Lock()
+        self.whole = Joined()
 
     def begin(self, row: Row) -> None:
-        self._told.append((row, self._pool.submit(self._replay, row)))
+        told = self._pool.submit(self._replay, row)
+        self._told.append((row, told))
+        if self._follow:
+            told.add_done_callback(lambda _: self._print_known())
 
-    def lines(self, whole: Joined) -> Iterator[str]:
-        for row, told in self._told:
-            yield from whole.lines(row, told.result())
-        yield from whole.end()
+    def print_rest(self) -> None:
+        with self._printing:
+            while self._told:
+                self._print_first()
+            _print(self.whole.end())
+
+    def _print_known(self) -> None:
+        """Prints the lines of the first parts whose replays have ended. A fault waits for the end."""
+        with self._printing:
+            while self._told and self._told[0][1].done() and self._told[0][1].exception() is None:
+                self._print_first()
+
+    def _print_first(self) -> None:
+        row, told = self._told.popleft()
+        _print(self.whole.lines(row, told.result()))
 
 
 def main(words: List[str]) -> int:
     options = _parser().parse_args(words)
+    with as_files([options.topology, *options.plan]) as (options.topology, *options.plan):
+        return _cut(options)
+
+
+def _cut(options: argparse.Namespace) -> int:
     topology = read_topology(options.topology)
     plans = [read_plan(path, topology) for path in options.plan]
     program = sundial_program()
@@ -114,14 +184,13 @@ def main(words: List[str]) -> int:
         raise ToolError("--run needs sundial on the path, or the variable SUNDIAL")
     wish = Wish(options.every, tuple(options.at), options.move)
     rows: List[Row] = []
-    status = 0
     with contextlib.ExitStack() as stack:
         directory = options.output
         if directory is not None:
             os.makedirs(directory, exist_ok=True)
         elif options.run:
             directory = stack.enter_context(tempfile.TemporaryDirectory())
-        runs = Runs(lambda row: replayed(program or "", options, directory or "", row), options.jobs)
+        runs = Runs(lambda row: replayed(program or "", options, directory or "", row), options.jobs, options.follow)
 
         def finished(row: Row) -> None:
             rows.append(row)
@@ -137,17 +206,20 @@ def main(words: List[str]) -> int:
                 table.writelines(row.text() for row in rows)
         _tell(cutting, rows)
         if options.run:
-            status = _print_whole(runs)
-    return status
+            runs.print_rest()
+            _tell_left_out(runs.whole)
+    return runs.whole.status
 
 
-def _print_whole(runs: Runs) -> int:
-    whole = Joined()
-    for line in runs.lines(whole):
+def _print(lines: Iterator[str]) -> None:
+    for line in lines:
         print(line)
+    sys.stdout.flush()
+
+
+def _tell_left_out(whole: Joined) -> None:
     for line in whole.left_out:
         print(f"sundial-cut: left out, since a premise broke before the cut: {line}", file=sys.stderr)
-    return whole.status
 
 
 def _tell(cutting: Cutting, rows: Sequence[Row]) -> None:
@@ -199,10 +271,11 @@ def _parser() -> argparse.ArgumentParser:
     parser.add_argument("topology", metavar="TOPOLOGY")
     parser.add_argument("plan", metavar="PLAN", nargs="+", help="the plans, in the order of the command replay")
     parser.add_argument("schedule", metavar="SCHEDULE", help="a schedule that replay accepts; - is standard input")
-    parser.add_argument("--every", type=_count, metavar="N", help="a cut as soon as it is right after N lines of a part")
+    parser.add_argument("--every", type=_count, metavar="N", help="cut at the first right place after N lines of a part")
     parser.add_argument("--at", type=_time, action="append", default=[], metavar="TIME", help="the first right cut from this reference on")
-    parser.add_argument("--move", action="store_true", help="take a constant off the times of each part, so that they fit")
+    parser.add_argument("--move", action="store_true", help="subtract a constant from the times of each part, so that they fit")
     parser.add_argument("--run", action="store_true", help="replay the parts side by side, and print the lines of the whole")
+    parser.add_argument("--follow", "-f", action="store_true", help="with --run: print the lines of each part as soon as they are known")
     parser.add_argument("--jobs", "-j", type=_count, default=os.cpu_count() or 1, metavar="N", help="how many replays at once")
     parser.add_argument("--output", "-o", metavar="DIRECTORY", help="where the parts and their table go")
     return parser

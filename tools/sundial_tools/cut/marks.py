@@ -22,7 +22,10 @@ class Mark(NamedTuple):
 
 
 class Marks:
-    """Is told each event behind it, with what it brought. `set_lines` has where an estimate was set last."""
+    """Is told each event behind it, with what it brought. `set_lines` has where an estimate was set last.
+
+    Where some ticks and receipts were not told, it is to `forget` what it knows of devices.
+    """
 
     def __init__(self, fleet: Fleet) -> None:
         self.fleet = fleet
@@ -30,6 +33,10 @@ class Marks:
         self.set_lines: Dict[int, int] = {}
         # What failed since the latest closing.
         self.failed_since: Set[Thing] = set()
+
+    def forget(self) -> None:
+        self.of.clear()
+        self.set_lines.clear()
 
     def after(self, line: int, event: Event, done: str) -> None:
         word, device = event.word, event.device
@@ -46,7 +53,11 @@ class Marks:
             self.set_lines[device] = line
         elif word == "commit" and done == "lead":
             self._mark(line, event)
-        elif word == "fail":
+        self.glance(event, done)
+
+    def glance(self, event: Event, done: str) -> None:
+        """Keeps what is kept of each event, also where no cut is near."""
+        if event.word == "fail":
             self.failed_since.add((event.thing or "", event.number or 0))
         if done == "close":
             self.failed_since = set()

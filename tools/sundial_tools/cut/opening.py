@@ -109,7 +109,7 @@ def exact_fix(marks: Marks, device: int, mark: Mark, readings: Iterable[Kept]) -
     estimate are whole picoseconds: the growth up to it and the growth since it then add up. It has to be between two
     `readings` of the device, and is given a reference on the line between them.
     """
-    if marks.set_lines[device] > mark.line:
+    if marks.set_lines.get(device, 0) > mark.line:
         return None
     state = marks.fleet.devices[device]
     step = MILLION // gcd(state.ppm, MILLION)
@@ -132,7 +132,7 @@ def exact_fix(marks: Marks, device: int, mark: Mark, readings: Iterable[Kept]) -
 
 def opening_of_marks(marks: Marks, now: Round, last: Optional[Round], kept: Sequence[Kept]) -> Opening:
     """Each member starts where it heard last: no line is told twice."""
-    starts = {device: marks.of[device] for device in marks.fleet.up}
+    starts = {device: marks.of[device] for device in marks.fleet.up if device in marks.of}
     fixes = _restarted(marks, starts, last.firsts if last else {}, kept)
     _judge_spread(marks.fleet, starts)
     since = [it for it in kept if it.event.message is None and _is_since(it, starts)]
@@ -144,7 +144,8 @@ def opening_of_round(marks: Marks, before: Round, last: Round, kept: Sequence[Ke
     fleet = marks.fleet
     if not last.right:
         raise Refused("the round before was not right")
-    starts = {device: before.firsts.get(device, marks.of[device]) for device in fleet.up}
+    known = {**marks.of, **before.firsts}
+    starts = {device: known[device] for device in fleet.up if device in known}
     starts[fleet.plan.root] = last.mark
     fixes = _restarted(marks, starts, before.firsts, kept)
     root = fleet.up[fleet.plan.root]
@@ -176,7 +177,7 @@ def _is_reading(event: Event, device: int) -> bool:
 
 def _judge_spread(fleet: Fleet, starts: Dict[int, Mark]) -> None:
     refs = [mark.ref for mark in starts.values()]
-    if max(refs) - min(refs) > fleet.topology.tick:
+    if len(starts) < len(fleet.up) or max(refs) - min(refs) > fleet.topology.tick:
         raise Refused("a member heard long before the others")
 
 

@@ -107,6 +107,7 @@ class Part:
                 self._shift.moved(event)  # so it knows the counters of the devices that start
         self._translation = Translation(fleet, opening, self._shift)
         self._is_plain = opening is None
+        self._less = opening.messages if opening is not None else 0
         self._lines = self._overlap = 0
         # At which emission the part ends, where the next part has begun.
         self.until: Optional[int] = None
@@ -115,6 +116,13 @@ class Part:
     @property
     def first_line(self) -> int:
         return self._first_line
+
+    def skim(self, text: str, words: List[str]) -> None:
+        """Adds a tick, an ask or a receipt of a part that moves no times. `words` are those of its line."""
+        self._lines += 1
+        if self._less and words[0] == "recv":
+            text = f"recv {words[1]} {words[2]} {words[3]} {int(words[4]) - self._less}\n"
+        self._body.write(text)
 
     def add(self, event: Event, text: str) -> None:
         """Is called before the event happens to the fleet. `text` is its line."""
@@ -127,6 +135,11 @@ class Part:
             return
         said = self._translation.of(event)
         self._body.write(text if said is event else event_line(said))
+
+    def drop(self) -> None:
+        """Nobody wants the part."""
+        self._body.close()
+        os.unlink(self._path + ".body")
 
     def finish(self, end: Optional[int]) -> Row:
         """Writes the part, with an `end` where one is due."""

@@ -9,7 +9,7 @@ from sundial_tools.duty.duties import chapters
 from sundial_tools.duty.forms import FORMS
 from sundial_tools.errors import ToolError
 from sundial_tools.plan import read_plan
-from sundial_tools.safe_write import whole_output
+from sundial_tools.safe_write import OUTPUT, whole_output
 from sundial_tools.topology import Topology, read_topology
 
 MOST_EPOCH = 2**32 - 1
@@ -46,16 +46,16 @@ def _epoch(word: str) -> int:
 def _parser() -> argparse.ArgumentParser:
     parser = argparse.ArgumentParser(
         prog="sundial-duty",
-        description="Writes what each device is told of each plan, as the C library and its bindings take it, with the "
+        description="Writes the duty of each device in each plan, in the form that the C library and its bindings take, with the "
         "devices below each and the links to them.",
         epilog="The plans are not checked: run `sundial check` or `sundial renew` before. docs/EMBED.md says what a duty is.",
     )
     parser.add_argument("topology", metavar="TOPOLOGY")
     parser.add_argument("plan", metavar="PLAN", nargs="+", help="each plan brings in the next epoch")
-    parser.add_argument("--form", choices=tuple(FORMS), default="c", help="a C header, Rust for bindings/rust, or JSON; c without it")
+    parser.add_argument("--form", choices=tuple(FORMS), default="c", help="a C header, Rust for bindings/rust, or JSON (default: c)")
     parser.add_argument("--device", metavar="NAME", help="the duties of this device alone, for its firmware")
     parser.add_argument(
-        "--first-epoch", type=_epoch, default=1, metavar="NUMBER", help="the number of the first plan; 1 without it"
+        "--first-epoch", type=_epoch, default=1, metavar="NUMBER", help="the number of the first plan (default: 1)"
     )
-    parser.add_argument("--output", "-o", metavar="FILE")
+    parser.add_argument("--output", "-o", metavar="FILE", help=OUTPUT)
     return parser

@@ -29,7 +29,7 @@ def _parser() -> argparse.ArgumentParser:
     parser = argparse.ArgumentParser(
         prog="sundial-exchanges",
         description="Makes an exchanges text for `sundial twoway` from what ptp4l or chrony measured.",
-        epilog="All times are picoseconds, or a number with ps, ns, us, ms or s. What is left out is said on standard error. See docs/EXCHANGES-FROM-PTP.md.",
+        epilog="All times are picoseconds, or a number with ps, ns, us, ms or s. Standard error says what is left out. See docs/EXCHANGES-FROM-PTP.md.",
     )
     commands = parser.add_subparsers(required=True, metavar="COMMAND")
     listening = commands.add_parser("capture", help="keep the events that ptp4l sends to its slave_event_monitor")

@@ -5,7 +5,7 @@ Nothing is refused here: who calls it has judged the events, or has `sundial` ju
 
 from __future__ import annotations
 
-from typing import Dict, FrozenSet, List, NamedTuple, Optional, Sequence, Set, Tuple, cast
+from typing import Any, Callable, Dict, FrozenSet, List, NamedTuple, Optional, Sequence, Set, Tuple
 
 from sundial_tools.fleet.book import Book, Flight
 from sundial_tools.fleet.device import Device
@@ -32,10 +32,11 @@ class Fleet:
     """Takes the accepted events of a schedule, one by one."""
 
     def __init__(self, topology: Topology, plans: Sequence[Plan]) -> None:
-        self.topology, self.plans = topology, plans
-        self.members: List[FrozenSet[int]] = [frozenset(plan.members(topology)) for plan in plans]
+        self.topology = topology
+        self.know(plans)
         self._rates = [(device.ppm, device.grain) for device in topology.devices]
-        self._acts = {
+        # (an event that its word names has all fields of a Full one; a cast at each would take a call)
+        self._acts: Dict[str, Callable[[Any], str]] = {
             "start": self._start, "join": self._join, "tick": self._tick, "recv": self._recv, "lose": self._lose,
             "fix": self._fix, "fail": self._fail, "mend": self._mend, "stage": self._stage, "give": self._give,
             "commit": self._commit, "seal": self._seal,
@@ -50,9 +51,14 @@ class Fleet:
         # The messages of the latest event that reach.
         self.sent_now: List[Flight] = []
         self._messages = 0
+
+    def know(self, plans: Sequence[Plan]) -> None:
+        """The plans, with further ones behind those that were known."""
+        self.plans = plans
+        self.members: List[FrozenSet[int]] = [frozenset(plan.members(self.topology)) for plan in plans]
         # The bounds of each link to each device that a plan has it lead to.
         self._towards = {
-            (link, receiver): topology.links[link].towards(receiver)
+            (link, receiver): self.topology.links[link].towards(receiver)
             for plan in plans for ends in plan.ends_below.values() for link, receiver in ends
         }
 
@@ -73,13 +79,27 @@ class Fleet:
 
     def happen(self, event: Event) -> str:
         """What the event brings: move, takeover, lead, enter, close, send, accept, or nothing."""
+        self._comes(event.ref)
+        act = self._acts.get(event.word)
+        return "" if act is None else act(event)
+
+    def tick(self, ref: int, device: int, counter: int) -> str:
+        """What a tick brings, as `happen` says it."""
+        self._comes(ref)
+        return self._ticks(ref, device, counter)
+
+    def receive(self, ref: int, device: int, counter: int, message: int) -> str:
+        """What a receipt brings, as `happen` says it."""
+        self._comes(ref)
+        return self._receives(ref, device, counter, message)
+
+    def _comes(self, ref: int) -> None:
+        """The time of the next event has come."""
         if self.sent_now:
             self.sent_now = []
-        if self.book.has_expired(event.ref):
-            for _ in self.book.expired(event.ref):
+        if self.book.has_expired(ref):
+            for _ in self.book.expired(ref):
                 pass
-        act = self._acts.get(event.word)
-        return "" if act is None else act(cast(Full, event))
 
     # Messages
 
@@ -92,9 +112,10 @@ class Fleet:
             if link in self.failed_links or receiver not in self.up:
                 continue
             most = towards[link, receiver].max
-            flight = Flight(
+            # (made as a tuple, since the call of the class takes twice the time)
+            flight: Flight = tuple.__new__(Flight, (
                 ref + 2 * most, self._messages, sender, receiver, link, epoch, stamp, clock, eps, ref, ref + most
-            )
+            ))
             self.book.add(flight)
             self.sent_now.append(flight)
 
@@ -115,20 +136,26 @@ class Fleet:
         return ""
 
     def _tick(self, event: Full) -> str:
-        state = self.up[event.device]
-        done = state.tick(event.counter, self.topology.period)
+        return self._ticks(event.ref, event.device, event.counter)
+
+    def _ticks(self, ref: int, device: int, counter: int) -> str:
+        state = self.up[device]
+        done = state.tick(counter, self.topology.period)
         if done in ("send", "takeover"):
-            self._send(state, event.ref, *state.report(event.counter))
+            self._send(state, ref, *state.report(counter))
         return done
 
     def _recv(self, event: Full) -> str:
-        flight = self.book.spend(event.message)
+        return self._receives(event.ref, event.device, event.counter, event.message)
+
+    def _receives(self, ref: int, device: int, counter: int, message: int) -> str:
+        flight = self.book.spend(message)
         if flight is None:
             return ""
-        state = self.up[event.device]
-        done = state.receive(event.counter, flight, self._towards[flight.link, flight.receiver])
+        state = self.up[device]
+        done = state.receive(counter, flight, self._towards[flight.link, flight.receiver])
         if done:
-            self._send(state, event.ref, state.clock, state.base)
+            self._send(state, ref, state.clock, state.base)
         return done
 
     def _lose(self, event: Full) -> str:

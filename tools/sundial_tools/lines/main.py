@@ -12,7 +12,7 @@ from sundial_tools.lines.behind import Behind, Events
 from sundial_tools.lines.convert import DONE, Converter
 from sundial_tools.lines.rows import csv_row, json_row
 from sundial_tools.plan import Plan, read_plan
-from sundial_tools.safe_write import FOLLOW, Progress, output_of
+from sundial_tools.safe_write import FOLLOW, OUTPUT, Progress, output_of
 from sundial_tools.schedule import open_schedule
 from sundial_tools.topology import Topology, read_topology
 
@@ -96,7 +96,7 @@ def _parser() -> argparse.ArgumentParser:
         description="Writes what a command of sundial printed as JSON lines or as CSV.",
         epilog="docs/LINES.md has the kinds of lines and their fields. Times are picoseconds.",
     )
-    parser.add_argument("output_of_sundial", nargs="?", default="-", metavar="OUTPUT", help="what the command printed; standard input without it")
+    parser.add_argument("output_of_sundial", nargs="?", default="-", metavar="OUTPUT", help="what the command printed (default: standard input)")
     parser.add_argument("--topology", "-t", help="gives devices and links of events their names; needed for plan and renew")
     parser.add_argument("--schedule", "-s", help="gives each line its event and REF")
     parser.add_argument(
@@ -105,8 +105,8 @@ def _parser() -> argparse.ArgumentParser:
     )
     parser.add_argument("--exchanges", "-e", help="gives a refused line of exchanges its text")
     parser.add_argument("--command", choices=sorted(DONE), help="the command, where only a done line was printed")
-    parser.add_argument("--csv", action="store_true", help="CSV in place of JSON lines")
+    parser.add_argument("--csv", action="store_true", help="CSV instead of JSON lines")
     parser.add_argument("--strings", action="store_true", help="write numbers past 2^53 as strings in JSON lines")
     parser.add_argument("--follow", "-f", action="store_true", help=FOLLOW)
-    parser.add_argument("--output", "-o", metavar="FILE")
+    parser.add_argument("--output", "-o", metavar="FILE", help=OUTPUT)
     return parser

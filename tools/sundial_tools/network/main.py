@@ -15,7 +15,7 @@ from sundial_tools.network.make import add_words as add_words_of_make, made_text
 from sundial_tools.network.names import write_names
 from sundial_tools.network.netbox import IN_USE, Choices, Netbox
 from sundial_tools.network.tables import read_delays, read_devices, read_links, read_oscillators
-from sundial_tools.safe_write import whole_output
+from sundial_tools.safe_write import OUTPUT, whole_output
 from sundial_tools.times import picoseconds
 from sundial_tools.topology import MOST_PICOSECONDS, read_topology, topology_text
 
@@ -126,20 +126,20 @@ def _parser() -> argparse.ArgumentParser:
         _add_settings(source)
     names = sources.add_parser("names", help="the names and numbers of a topology, as CSV")
     names.add_argument("topology")
-    names.add_argument("--output", "-o", metavar="FILE")
+    names.add_argument("--output", "-o", metavar="FILE", help=OUTPUT)
     absent = sources.add_parser("absent", help="the absent list of a loss, with all that it cuts off from every candidate for root")
     absent.add_argument("topology")
     absent.add_argument(
         "things", nargs="+", metavar="THING", help="what is lost: a NAME, or listed:NAME, device:NAME or link:NAME where kinds share it"
     )
-    absent.add_argument("--plan", metavar="PLAN", help="leave out too what this plan leaves out")
-    absent.add_argument("--output", "-o", metavar="FILE")
+    absent.add_argument("--plan", "-p", metavar="PLAN", help="leave out too what this plan leaves out")
+    absent.add_argument("--output", "-o", metavar="FILE", help=OUTPUT)
     lint = sources.add_parser("lint", help="what looks wrong in a topology; status 1 where something does")
     lint.add_argument("topology")
     lint.add_argument(
-        "--message-loss", default="1e-6", metavar="RATE", help="which part of all messages is lost, for what is said of `loss` (default: 1e-6)"
+        "--message-loss", default="1e-6", metavar="RATE", help="the part of all messages that is lost, to judge `loss` (default: 1e-6)"
     )
-    lint.add_argument("--output", "-o", metavar="FILE")
+    lint.add_argument("--output", "-o", metavar="FILE", help=OUTPUT)
     add_words_of_make(sources.add_parser("make", help="a network to learn from, with racks, feeds, trays and hosts"), _time)
     return parser
 
@@ -157,4 +157,4 @@ def _add_settings(source: argparse.ArgumentParser) -> None:
     source.add_argument("--depth", required=True, type=int, choices=range(1, 65), metavar="1..64", help="most links to the root")
     source.add_argument("--root-role", required=True, action="append", metavar="ROLE", help="the role of candidates for roots")
     source.add_argument("--every-feed", action="store_true", help="list a device under each of its power feeds")
-    source.add_argument("--output", "-o", metavar="FILE")
+    source.add_argument("--output", "-o", metavar="FILE", help=OUTPUT)

@@ -7,6 +7,7 @@ import random
 from typing import Callable, Dict, List, NamedTuple, Optional, Tuple
 
 from sundial_tools.errors import ToolError
+from sundial_tools.safe_write import OUTPUT
 from sundial_tools.topology import (
     MOST_DEVICES, MOST_DOMAINS, MOST_LINKS, MOST_LISTED, Bounds, Device, Domain, Link, Topology, topology_text,
 )
@@ -252,7 +253,7 @@ def add_words(make: argparse.ArgumentParser, time_of: Callable[[str], int]) -> N
         make.add_argument(f"--{name}", type=time_of, default=default, metavar="TIME", help=f"{name} of the topology ({default})")
     make.add_argument("--ppm", type=int, choices=range(100001), default=200, metavar="PPM", help="ppm of the topology (200)")
     make.add_argument("--loss", type=int, choices=range(101), default=1, metavar="0..100", help="loss of the topology (1)")
-    make.add_argument("--output", "-o", metavar="FILE")
+    make.add_argument("--output", "-o", metavar="FILE", help=OUTPUT)
 
 
 def _filled(options: argparse.Namespace) -> argparse.Namespace:

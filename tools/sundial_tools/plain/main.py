@@ -9,7 +9,7 @@ from typing import Iterator, List
 from sundial_tools.errors import ToolError
 from sundial_tools.plain.lines import Replay
 from sundial_tools.plan import read_plan
-from sundial_tools.safe_write import FOLLOW, Progress, output_of
+from sundial_tools.safe_write import FOLLOW, OUTPUT, Progress, output_of
 from sundial_tools.topology import open_bytes, read_topology
 
 MOST_PLANS = 64
@@ -49,5 +49,5 @@ def _parser() -> argparse.ArgumentParser:
     )
     parser.add_argument("schedule", metavar="SCHEDULE")
     parser.add_argument("--follow", "-f", action="store_true", help=FOLLOW)
-    parser.add_argument("--output", "-o", metavar="FILE")
+    parser.add_argument("--output", "-o", metavar="FILE", help=OUTPUT)
     return parser

@@ -7,9 +7,10 @@ import json
 from typing import Iterable, Iterator, List, TextIO
 
 from sundial_tools.errors import ToolError
+from sundial_tools.inputs import as_files
 from sundial_tools.plan import read_plan
 from sundial_tools.readiness.losses import Loss, Losses
-from sundial_tools.safe_write import Progress, whole_output
+from sundial_tools.safe_write import OUTPUT, Progress, whole_output
 from sundial_tools.topology import read_topology, sundial_program
 from sundial_tools.whatif.wishes import time_of
 
@@ -22,10 +23,15 @@ def main(words: List[str]) -> int:
     program = sundial_program()
     if program is None:
         raise ToolError("this asks sundial: put it on the path, or name it in the variable SUNDIAL")
-    topology = read_topology(options.topology)
-    plan = read_plan(options.plan, topology)
+    with as_files([options.topology, options.plan]) as (topology_file, plan_file):
+        return _told(options, program, topology_file, plan_file)
+
+
+def _told(options: argparse.Namespace, program: str, topology_file: str, plan_file: str) -> int:
+    topology = read_topology(topology_file)
+    plan = read_plan(plan_file, topology)
     hold = plan.wait_first + plan.wait_second + TICKS * topology.tick if options.hold is None else time_of(options.hold)
-    losses = Losses(program, topology, plan, (options.topology, options.plan), time_of(options.base), hold)
+    losses = Losses(program, topology, plan, (topology_file, plan_file), time_of(options.base), hold)
     with Progress("sundial-readiness", "losses") as progress, whole_output(options.output) as text:
         found = list(losses.all(progress.step))
         if options.json:
@@ -63,7 +69,7 @@ def _parser() -> argparse.ArgumentParser:
         description="Takes each listed domain, each device and each link away in turn, and says who may move, how wide reports "
         "get, and whether what is left can be planned again.",
         epilog="It asks sundial drill once, and sundial renew for each loss. What a loss cuts off from every candidate for root is "
-        "left out too, as sundial-topology absent does. The two roots of the next plan stand behind yes.",
+        "left out too, as sundial-topology absent does. After yes come the two roots of the next plan.",
     )
     parser.add_argument("topology", metavar="TOPOLOGY")
     parser.add_argument("plan", metavar="PLAN", help="the plan in force; what it leaves out stays out")
@@ -73,5 +79,5 @@ def _parser() -> argparse.ArgumentParser:
     )
     parser.add_argument("--refused", action="store_true", help="only losses after which nothing can be planned")
     parser.add_argument("--json", action="store_true", help="JSON lines, one a loss, with all names; times in picoseconds")
-    parser.add_argument("--output", "-o", metavar="FILE")
+    parser.add_argument("--output", "-o", metavar="FILE", help=OUTPUT)
     return parser

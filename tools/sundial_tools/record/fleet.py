@@ -9,7 +9,7 @@ from typing import Dict, List, Optional, Sequence, Set, Union
 
 from sundial_tools.fleet.fleet import Fleet
 from sundial_tools.plan import Plan
-from sundial_tools.record.logs import NONE, LogEvent
+from sundial_tools.record.logs import NONE, USUAL, LogEvent
 from sundial_tools.schedule import Event
 from sundial_tools.topology import Topology
 
@@ -27,6 +27,11 @@ class JudgedFleet:
         self.book = self.fleet.book
         self._begun: Set[int] = set()
         self._counters: Dict[int, int] = {}
+
+    def know(self, plans: Sequence[Plan]) -> None:
+        """The plans, with further ones behind those that were known."""
+        self._plans = plans
+        self.fleet.know(plans)
 
     def message_of(self, event: LogEvent) -> int:
         """The number of the message of a `recv` or `lose`, or 0 where none such is on its way."""
@@ -49,14 +54,13 @@ class JudgedFleet:
             self._counters[device] = counter
         if word in ("start", "join"):
             self._begun.add(device)
-        if word == "tick":
-            said = Event(word, ref, device, counter)
-            self.happens(said)
-            return said
-        said = Event(
-            word, ref, None if device == NONE or word == "lose" else device, counter, event.clock, event.eps,
-            message or None, event.thing or None, None if event.number == NONE else event.number,
-        )
+        if word in USUAL:
+            said = Event(word, ref, device, counter, None, None, message or None)
+        else:
+            said = Event(
+                word, ref, None if device == NONE or word == "lose" else device, counter, event.clock, event.eps,
+                message or None, event.thing or None, None if event.number == NONE else event.number,
+            )
         self.happens(said)
         return said
 
@@ -79,7 +83,7 @@ class JudgedFleet:
 
     def _refusal(self, event: LogEvent, counter: Optional[int], message: int) -> Optional[str]:
         word, device = event.word, event.device
-        if word == "tick" and device in self.fleet.up and (counter or 0) >= self._counters[device]:
+        if word in USUAL and (message or word != "recv") and device in self.fleet.up and (counter or 0) >= self._counters[device]:
             return None
         if word in ("fail", "mend"):
             return self._thing_refusal(event)

@@ -15,7 +15,7 @@ from sundial_tools.topology import Topology
 # Which keys the line of each word needs, behind its reference.
 TIMES = {word: tuple(name for name in fields if name in ("counter", "clock", "eps")) for word, fields in FIELDS.items()}
 OF_A_DEVICE = frozenset(word for word, fields in FIELDS.items() if "device" in fields) | {"lose"}
-OF_A_MESSAGE = frozenset(("recv", "lose"))
+USUAL = frozenset(("tick", "ask", "recv"))
 OF_A_THING = frozenset(("fail", "mend"))
 NONE = -1
 NO_STAMP = (NONE, NONE)
@@ -25,7 +25,10 @@ DECODER = json.JSONDecoder(parse_float=Decimal)
 SCAN: "Callable[[str, int], Tuple[Any, int]]" = getattr(DECODER, "scan_once")
 MOST_DIGITS = 40
 MOST_USUAL = 10**30
-UNITS: Dict[str, Tuple[Tuple[str, int], ...]] = {
+MOST_SHAPES = 64
+# The key of a time, and its picoseconds.
+Unit = Tuple[str, int]
+UNITS: Dict[str, Tuple[Unit, ...]] = {
     stem: tuple((f"{stem}_{unit}", factor) for unit, factor in PICOSECONDS.items())
     for stem in ("reference", "counter", "clock", "eps")
 }
@@ -33,14 +36,11 @@ UNITS: Dict[str, Tuple[Tuple[str, int], ...]] = {
 
 def _decoded(text: str) -> Any:
     """The value of a line. Nearly all lines are one object and a newline."""
-    if text.startswith("{"):
-        try:
-            value, end = SCAN(text, 0)
-        except StopIteration:
-            return DECODER.decode(text)
-        if text[end:] in ("\n", ""):
-            return value
-    return DECODER.decode(text)
+    try:
+        value, end = SCAN(text, 0)
+    except StopIteration:
+        return DECODER.decode(text)
+    return value if text[end:] in ("\n", "") else DECODER.decode(text)
 
 
 class LogEvent(NamedTuple):
@@ -73,9 +73,8 @@ class Log:
     def __init__(self, path: str, topology: Topology) -> None:
         self._path = "standard input" if path == "-" else path
         self._topology = topology
-        # The unit of each time in the line before, and the others: a log keeps its units.
-        self._usual = {stem: units[1] for stem, units in UNITS.items()}
-        self._others = {stem: frozenset(key for key, _ in units if key != units[1][0]) for stem, units in UNITS.items()}
+        # Where lines with certain keys have their reference and their counter: a log has few kinds of lines.
+        self._shapes: Dict[Tuple[str, ...], Tuple[Unit, Unit]] = {}
 
     def __iter__(self) -> Iterator[LogEvent]:
         before: Optional[LogEvent] = None
@@ -109,13 +108,11 @@ class Log:
         word = said.get("event")
         if not isinstance(word, str) or word not in FIELDS:
             raise self._refuse(f"event is {word!r}, and has to be one of {', '.join(FIELDS)}", line)
-        if word == "tick":
-            device = self._number(said, "device", self._topology.device_numbers, line)
-            ref, counter = self._time(said, "reference", line), self._time(said, "counter", line)
-            return LogEvent(word, ref, device, counter, None, None, NONE, NONE, NO_STAMP, "", NONE, self._path, line)
+        if word in USUAL:
+            return self._usual_event(said, word, line)
         times = TIMES[word]
         device, link = self._names(said, word, line)
-        epoch, stamp = self._message(said, word, line)
+        epoch, stamp = self._message(said, word, line) if word == "lose" else (NONE, NO_STAMP)
         thing, number = "", NONE
         if word in OF_A_THING:
             thing, number = ("device", device) if device != NONE else ("link", link)
@@ -128,6 +125,32 @@ class Log:
             link, epoch, stamp, thing, number, self._path, line,
         )
 
+    def _usual_event(self, said: Dict[str, Any], word: str, line: int) -> LogEvent:
+        """A tick, an ask or a receipt, as nearly all lines are."""
+        device = self._number(said, "device", self._topology.device_numbers, line)
+        link, epoch, stamp = NONE, NONE, NO_STAMP
+        if word == "recv":
+            link = self._number(said, "link", self._topology.link_numbers, line)
+            epoch, stamp = self._message(said, word, line)
+        ref, counter = self._reference_and_counter(said, line)
+        # (made as a tuple, since the call of the class takes twice the time)
+        return tuple.__new__(
+            LogEvent, (word, ref, device, counter, None, None, link, epoch, stamp, "", NONE, self._path, line)
+        )
+
+    def _reference_and_counter(self, said: Dict[str, Any], line: int) -> Tuple[int, int]:
+        keys = tuple(said)
+        shape = self._shapes.get(keys)
+        if shape is not None:
+            (ref_key, ref_factor), (counter_key, counter_factor) = shape
+            ref, counter = said[ref_key], said[counter_key]
+            if type(ref) is type(counter) is int and ref <= MOST_USUAL and counter <= MOST_USUAL:
+                return ref * ref_factor, counter * counter_factor
+        ref, counter = self._time(said, "reference", line), self._time(said, "counter", line)
+        if len(self._shapes) < MOST_SHAPES:
+            self._shapes[keys] = self._unit(said, "reference", line), self._unit(said, "counter", line)
+        return ref, counter
+
     def _names(self, said: Dict[str, Any], word: str, line: int) -> Tuple[int, int]:
         """The numbers of the device and of the link that the line names."""
         device = link = NONE
@@ -135,7 +158,7 @@ class Log:
             raise self._refuse(f"{word} needs either a device or a link", line)
         if word in OF_A_DEVICE or (word in OF_A_THING and "device" in said):
             device = self._number(said, "device", self._topology.device_numbers, line)
-        if word in OF_A_MESSAGE or (word in OF_A_THING and "link" in said):
+        if word == "lose" or (word in OF_A_THING and "link" in said):
             link = self._number(said, "link", self._topology.link_numbers, line)
         return device, link
 
@@ -143,13 +166,12 @@ class Log:
         name = said.get(kind)
         if not isinstance(name, str):
             raise self._refuse(f"{said['event']} needs a {kind}", line)
-        if name not in numbers:
+        number = numbers.get(name)
+        if number is None:
             raise self._refuse(f"there is no {kind} {name} in the topology", line)
-        return numbers[name]
+        return number
 
     def _message(self, said: Dict[str, Any], word: str, line: int) -> Tuple[int, Tuple[int, int]]:
-        if word not in OF_A_MESSAGE:
-            return NONE, NO_STAMP
         epoch, term, number = said.get("epoch"), said.get("term"), said.get("round")
         if type(epoch) is type(term) is type(number) is int and epoch >= 0 and term >= 0 and number >= 0:
             return epoch, (term, number)
@@ -161,21 +183,17 @@ class Log:
             values.append(value)
         return values[0], (values[1], values[2])
 
-    def _time(self, said: Dict[str, Any], stem: str, line: int) -> int:
-        """The time of `stem_ns`, or of another unit, in picoseconds."""
-        usual, factor = self._usual[stem]
-        value = said.get(usual)
-        if type(value) is int and value <= MOST_USUAL and self._others[stem].isdisjoint(said):
-            return value * factor
-        return self._unusual_time(said, stem, line)
-
-    def _unusual_time(self, said: Dict[str, Any], stem: str, line: int) -> int:
-        found = [(key, factor) for key, factor in UNITS[stem] if key in said]
+    def _unit(self, said: Dict[str, Any], stem: str, line: int) -> Unit:
+        """The key of `stem_ns`, or of another unit, and its picoseconds."""
+        found = [unit for unit in UNITS[stem] if unit[0] in said]
         if len(found) != 1:
             reason = f"{stem} is there twice" if found else f"{said['event']} needs {stem}_ns (or _ps, _us, _ms, _s)"
             raise self._refuse(reason, line)
-        key, factor = self._usual[stem] = found[0]
-        self._others[stem] = frozenset(other for other, _ in UNITS[stem] if other != key)
+        return found[0]
+
+    def _time(self, said: Dict[str, Any], stem: str, line: int) -> int:
+        """The time of `stem_ns`, or of another unit, in picoseconds."""
+        key, factor = self._unit(said, stem, line)
         value = said[key]
         if isinstance(value, bool) or not isinstance(value, (int, Decimal)):
             raise self._refuse(f"{key} is {value!r}, and has to be a number", line)

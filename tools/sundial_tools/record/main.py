@@ -11,7 +11,7 @@ from typing import List
 from sundial_tools.plan import read_plan
 from sundial_tools.record.logs import Log
 from sundial_tools.record.recorder import Recorder
-from sundial_tools.safe_write import FOLLOW, Progress, output_of
+from sundial_tools.safe_write import FOLLOW, OUTPUT, Progress, output_of
 from sundial_tools.times import picoseconds
 from sundial_tools.topology import read_topology
 
@@ -59,10 +59,10 @@ def _parser() -> argparse.ArgumentParser:
     )
     parser.add_argument("topology", metavar="TOPOLOGY")
     parser.add_argument("logs", nargs="+", metavar="LOG", help="JSON lines; each log in the order of its references; - is standard input")
-    parser.add_argument("--plan", action="append", required=True, metavar="PLAN", help="a plan, in the order of the command replay")
-    parser.add_argument("--origin", type=_time, help="what is 0 in the schedule; without it, a whole second before the first reference")
+    parser.add_argument("--plan", "-p", action="append", required=True, metavar="PLAN", help="a plan, in the order of the command replay")
+    parser.add_argument("--origin", type=_time, help="the time that is 0 in the schedule (default: a whole second before the first reference)")
     parser.add_argument("--counters", choices=("keep", "life"), default="keep", help="keep counters, or count from each start and join")
     parser.add_argument("--no-losses", action="store_true", help="write no lose line that the logs do not have")
     parser.add_argument("--follow", "-f", action="store_true", help=FOLLOW)
-    parser.add_argument("--output", "-o", metavar="FILE")
+    parser.add_argument("--output", "-o", metavar="FILE", help=OUTPUT)
     return parser

@@ -14,6 +14,7 @@ RANKS = {
         ("start", "recv", "fix", "tick", "stage", "mend", "join", "give", "commit", "seal", "lose", "ask", "fail", "end")
     )
 }
+RECEIPT = RANKS["recv"]
 Head = Tuple[int, int, int, int, LogEvent]
 
 
@@ -46,12 +47,11 @@ class Merge:
         first_refusal = Refusal()
         while self._heads:
             head = self._next()
-            refusal = offer(head[-1])
+            refusal = offer(head[4])
             if refusal is None:
                 self._advance(head[3])
-                for waiting in aside:
-                    heapq.heappush(self._heads, waiting)
-                aside.clear()
+                if aside:
+                    self._put_back(aside)
                 continue
             if not aside:
                 first_refusal = refusal
@@ -60,9 +60,12 @@ class Merge:
                 first = aside.pop(0)
                 refused(first[-1], first_refusal)
                 self._advance(first[3])
-                for waiting in aside:
-                    heapq.heappush(self._heads, waiting)
-                aside.clear()
+                self._put_back(aside)
+
+    def _put_back(self, aside: List[Head]) -> None:
+        for waiting in aside:
+            heapq.heappush(self._heads, waiting)
+        aside.clear()
 
     def _advance(self, place: int) -> None:
         event = next(self._logs[place], None)
@@ -72,7 +75,7 @@ class Merge:
     def _next(self) -> Head:
         """The first head; of several receipts at one reference the one with the least message."""
         head = heapq.heappop(self._heads)
-        if head[1] != RANKS["recv"] or not self._heads or self._heads[0][:2] != head[:2]:
+        if head[1] != RECEIPT or not self._heads or self._heads[0][:2] != head[:2]:
             return head
         same = [head]
         while self._heads and self._heads[0][:2] == head[:2]:

@@ -58,7 +58,12 @@ class Recorder:
             self._within(event, ref, "the reference")
         if self._fleet.book.has_expired(ref):
             self._lose_before(ref)
-        answer = self._fleet.apply(self._placed(event), ref, self._counter(event))
+        if event.clock is not None:
+            event = self._placed(event)
+        counter = event.counter
+        if counter is not None and (self._from_life or not 0 <= counter <= MOST_NUMBER):
+            counter = self._counter(event, counter)
+        answer = self._fleet.apply(event, ref, counter)
         if isinstance(answer, Refusal):
             return answer
         if event.word in ("start", "join"):
@@ -82,15 +87,14 @@ class Recorder:
         self._within(event, event.eps, "the eps")
         return event._replace(clock=clock)
 
-    def _counter(self, event: LogEvent) -> Optional[int]:
-        if event.counter is None:
-            return None
+    def _counter(self, event: LogEvent, counter: int) -> int:
+        """The counter as the schedule has it."""
         if self._from_life:
-            base = event.counter if event.word in ("start", "join") else self._bases.get(event.device, event.counter)
-            if event.counter < base:
-                raise event.refuse(f"CounterFalls: the counter is {base - event.counter} ps less than at the start or join")
-            return self._within(event, event.counter - base, "the counter")
-        return self._within(event, event.counter, "the counter")
+            base = counter if event.word in ("start", "join") else self._bases.get(event.device, counter)
+            if counter < base:
+                raise event.refuse(f"CounterFalls: the counter is {base - counter} ps less than at the start or join")
+            return self._within(event, counter - base, "the counter")
+        return self._within(event, counter, "the counter")
 
     def _within(self, event: LogEvent, value: int, what: str) -> int:
         if 0 <= value <= MOST_NUMBER:

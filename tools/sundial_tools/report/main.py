@@ -9,6 +9,7 @@ from typing import Dict, Iterator, List, Optional, TextIO, Tuple
 
 from sundial_tools import __version__
 from sundial_tools.errors import ToolError
+from sundial_tools.inputs import as_files
 from sundial_tools.outputs import OutputLine, read_output
 from sundial_tools.plan import Plan, read_plan
 from sundial_tools.report.changes import changes_section
@@ -31,6 +32,16 @@ PARTS = ("tree", "drill", "replay")
 
 def main(words: List[str]) -> int:
     said = _parser().parse_args(words)
+    named = [said.topology, *said.plans, *(said.replay or ()), *(path for path in (said.check, said.drill) if path)]
+    with as_files(named) as files:
+        place = dict(zip(named, files))
+        said.topology, said.plans = place[said.topology], [place[path] for path in said.plans]
+        said.replay = [place[path] for path in said.replay] if said.replay else None
+        said.check, said.drill = place.get(said.check), place.get(said.drill)
+        return _write(said)
+
+
+def _write(said: argparse.Namespace) -> int:
     topology = read_topology(said.topology)
     plans = [read_plan(path, topology) for path in said.plans]
     with whole_output(said.output) as output:
@@ -55,7 +66,7 @@ def _parser() -> argparse.ArgumentParser:
         help="a schedule, and what `sundial replay` or `order` printed",
     )
     parser.add_argument("--domain", metavar="DOMAIN", help="show the trees under this domain, as 'listed rack0'")
-    parser.add_argument("--layout", choices=("rows", "dot"), default="rows", help="who lays out the trees (default: rows)")
+    parser.add_argument("--layout", choices=("rows", "dot"), default="rows", help="how the trees are laid out: in rows, or by dot of graphviz (default: rows)")
     parser.add_argument(
         "--only", metavar="PART", choices=PARTS, action="append", help="only this part: tree, drill or replay"
     )

@@ -6,6 +6,7 @@ import hashlib
 import pathlib
 from typing import List, NamedTuple, Sequence, Tuple
 
+from sundial_tools.inputs import shown
 from sundial_tools.report.markup import Raw, element, folded
 from sundial_tools.report.tables import Cell, table
 from sundial_tools.report.tree_picture import definitions
@@ -15,7 +16,7 @@ CHUNK = 1 << 20
 
 
 class Source(NamedTuple):
-    """A file that the page was made of: what it is, its name, how many bytes it has, and the begin of its SHA-256."""
+    """A file that the page was made of: what it is, its name, how many bytes it has, and the first digits of its SHA-256."""
 
     what: str
     name: str
@@ -29,7 +30,7 @@ def source(what: str, path: str) -> Source:
         while chunk := file.read(CHUNK):
             digest.update(chunk)
             size += len(chunk)
-    return Source(what, path, size, digest.hexdigest()[:16])
+    return Source(what, shown(path), size, digest.hexdigest()[:16])
 
 
 def sources_table(sources: Sequence[Source], made: str) -> Raw:

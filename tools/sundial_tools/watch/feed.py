@@ -4,7 +4,7 @@ from __future__ import annotations
 
 from typing import Any, Callable, Dict, Optional, Sequence, cast
 
-from sundial_tools.cut.cutter import Cutter
+from sundial_tools.cut.cutter import NEVER, Cutter, rounds_before
 from sundial_tools.cut.opening import Opening
 from sundial_tools.plan import Plan
 from sundial_tools.record.fleet import JudgedFleet, Refusal
@@ -23,9 +23,16 @@ class Hooks:
     happened: Callable[[str], None]
     is_due: Callable[[int, int], bool]
 
+    def is_near(self, line: int) -> bool:
+        """Whether a cut may be due soon behind this line. Else nothing is kept for an opening."""
+        return True
+
 
 class Watched(JudgedFleet):
     """A fleet whose events are told to the hooks. `line` is that of the next event, from 1."""
+
+    # All is kept for an opening, since this reference.
+    _is_near, _near_since = True, -NEVER
 
     def __init__(self, topology: Topology, plans: Sequence[Plan], hooks: Hooks) -> None:
         super().__init__(topology, plans)
@@ -37,11 +44,16 @@ class Watched(JudgedFleet):
         self.begins = False
 
     def is_due(self, line: int, ref: int) -> bool:
-        return self.hooks is not None and self.hooks.is_due(line, ref)
+        return self.hooks is not None and ref >= self._near_since + rounds_before(self._topology) and self.hooks.is_due(line, ref)
 
     def happens(self, event: Event) -> None:
         hooks = cast(Hooks, self.hooks)
-        opening = None if self.begins else self.cutter.before(self.line, event)
+        is_near = hooks.is_near(self.line)
+        if is_near and not self._is_near:
+            self.cutter.begin()
+            self._near_since = event.ref
+        self._is_near = is_near
+        opening = self.cutter.before(self.line, event) if is_near and not self.begins else None
         if opening is not None:
             self.begins = True
             hooks.cut(opening)
@@ -56,7 +68,10 @@ class Watched(JudgedFleet):
         self._passed(event, "")
 
     def _passed(self, event: Event, done: str) -> None:
-        self.cutter.after(self.line, event, done)
+        if self._is_near:
+            self.cutter.after(self.line, event, done)
+        else:
+            self.cutter.marks.glance(event, done)
         self.line, self.latest = self.line + 1, event
         cast(Hooks, self.hooks).happened(done)
 
@@ -98,9 +113,11 @@ class Feed(Recorder):
         """What has to be kept of it, with the fleet."""
         return {name: getattr(self, name) for name in self.KEPT}
 
-    def resume(self, state: Dict[str, Any], fleet: Watched) -> None:
+    def resume(self, state: Dict[str, Any], fleet: Watched, plans: Sequence[Plan]) -> None:
+        """Takes up what was kept. `plans` may have further ones behind those that the fleet knew."""
         for name, value in state.items():
             setattr(self, name, value)
+        fleet.know(plans)
         fleet.hooks = self.fleet.hooks
         self.fleet = self._fleet = fleet
 

@@ -13,14 +13,20 @@ from sundial_tools.plan import read_plan
 from sundial_tools.schedule import MOST_NUMBER
 from sundial_tools.times import picoseconds
 from sundial_tools.topology import read_topology, sundial_program
-from sundial_tools.watch.metrics import write_renamed
+from sundial_tools.watch.report import main as report_main
+from sundial_tools.watch.shown import Shown
 from sundial_tools.watch.watcher import Options, Watch
 
-WAIT, NEXT_METRICS = 0.05, 1.0
+WAIT = 0.05
 SECOND = 10**12
+MOST_PORT = 65535
 
 
 def main(words: List[str]) -> int:
+    return report_main(words[1:]) if words[:1] == ["report"] else _watch(words)
+
+
+def _watch(words: List[str]) -> int:
     said = _parser().parse_args(words)
     program = sundial_program()
     if not program:
@@ -31,30 +37,32 @@ def main(words: List[str]) -> int:
         said.topology, said.plan, said.logs, said.output, [program, "replay"], said.origin, said.counters == "life", said.horizon,
         said.ask, said.every, said.keep, _print if said.follow else lambda text: None,
     )
+    shown = Shown(said.prometheus, said.listen)
     watch = Watch(topology, plans, options)
     try:
+        watch.metrics.fabric = said.fabric
         if said.bound:
             watch.metrics.bounds = bounds(program, said.topology, said.plan[-1], *said.bound)
-        return _run(watch, said)
+        return _run(watch, shown, said.once)
     except BaseException:
         watch.stop()
         raise
+    finally:
+        shown.close()
 
 
-def _run(watch: Watch, said: argparse.Namespace) -> int:
-    due = 0.0
+def _run(watch: Watch, shown: Shown, is_once: bool) -> int:
     while True:
         came = watch.step()
-        is_over = watch.ended or (said.once and not came)
+        is_over = watch.ended or (is_once and not came)
         if is_over and not watch.ended:
             watch.step(is_last=True)
-        if said.prometheus and (is_over or time.monotonic() >= due):
-            write_renamed(said.prometheus, watch.metrics_text())
-            due = time.monotonic() + NEXT_METRICS
+        if shown.is_due(watch.has_news):
+            watch.has_news = False
+            shown.show(watch.metrics_text())
         if is_over:
             status = watch.finish() if watch.ended else watch.pause()
-            if said.prometheus:
-                write_renamed(said.prometheus, watch.metrics_text())
+            shown.show(watch.metrics_text())
             return status
         if not came:
             time.sleep(WAIT)
@@ -90,25 +98,33 @@ def _count(word: str) -> int:
     return int(word)
 
 
+def _port(word: str) -> int:
+    if not word.isdigit() or not 0 < int(word) <= MOST_PORT:
+        raise argparse.ArgumentTypeError(f"{word!r} is no port from 1 to {MOST_PORT}")
+    return int(word)
+
+
 def _parser() -> argparse.ArgumentParser:
     parser = argparse.ArgumentParser(
         prog="sundial-watch",
-        description="Judges a fabric while it runs: reads the logs of its devices as they grow, replays them, and tells each line "
-        "as it comes. Ended in any way and started again it goes on where it was.",
+        description="Judges a fabric while it runs: reads the logs of its devices as they grow, replays them, and reports each line "
+        "as it comes. However it ended, a new start goes on where it was.",
         epilog="docs/WATCH.md has the files, the metrics and what to do with them.",
     )
     parser.add_argument("topology", metavar="TOPOLOGY")
     parser.add_argument("logs", nargs="+", metavar="LOG", help="JSON lines, as of sundial-record: a file that grows, a FIFO, or - for standard input")
-    parser.add_argument("--plan", action="append", required=True, metavar="PLAN", help="a plan, in the order of the command replay")
-    parser.add_argument("--output", "-o", required=True, metavar="DIRECTORY", help="the state: what was told, and what is needed to go on")
-    parser.add_argument("--prometheus", metavar="FILE", help="write the metrics there, once a second")
-    parser.add_argument("--bound", nargs=2, type=_time, metavar=("BASE", "HOLD"), help="tell the bounds of this drill of the last plan too")
+    parser.add_argument("--plan", "-p", action="append", required=True, metavar="PLAN", help="a plan, in the order of the command replay")
+    parser.add_argument("--output", "-o", required=True, metavar="DIRECTORY", help="the state: what was reported, and what is needed to go on")
+    parser.add_argument("--prometheus", metavar="FILE", help="write the metrics there, once a second and when something breaks")
+    parser.add_argument("--listen", type=_port, metavar="PORT", help="answer http://127.0.0.1:PORT/metrics with the metrics")
+    parser.add_argument("--fabric", metavar="NAME", help="a label of each series, where several fabrics are watched")
+    parser.add_argument("--bound", nargs=2, type=_time, metavar=("BASE", "HOLD"), help="also report the bounds of this drill of the last plan")
     parser.add_argument("--ask", type=_time, metavar="TIME", help="ask each device at its first tick after this time, so that it reports")
     parser.add_argument("--horizon", type=_time, default=SECOND, metavar="TIME", help="how long to wait for a log that is silent (default: 1s)")
-    parser.add_argument("--every", type=_count, default=30_000_000, metavar="N", help="cut as soon as it is right after N events of a part (default: 30000000)")
+    parser.add_argument("--every", type=_count, default=30_000_000, metavar="N", help="cut at the first right place after N events of a part (default: 30000000)")
     parser.add_argument("--keep", type=_count, default=3, metavar="N", help="how many parts to keep (default: 3)")
-    parser.add_argument("--origin", type=_time, help="what is 0 in the schedule; without it, a whole second before the first reference")
+    parser.add_argument("--origin", type=_time, help="the time that is 0 in the schedule (default: a whole second before the first reference)")
     parser.add_argument("--counters", choices=("keep", "life"), default="keep", help="keep counters, or count from each start and join")
     parser.add_argument("--once", action="store_true", help="end when the logs have nothing more; a later run goes on")
-    parser.add_argument("--follow", "-f", action="store_true", help="print each line that is told, too")
+    parser.add_argument("--follow", "-f", action="store_true", help="also print each line")
     return parser

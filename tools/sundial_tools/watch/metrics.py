@@ -4,8 +4,9 @@ from __future__ import annotations
 
 import os
 from collections import Counter
-from typing import Any, Dict, Iterator, List
+from typing import Any, Dict, Iterator, Optional
 
+from sundial_tools.errors import ToolError
 from sundial_tools.outputs import PREMISES
 from sundial_tools.topology import Topology
 
@@ -14,10 +15,13 @@ ALARMS = ("loop", "roots", "interval")
 
 
 class Metrics:
-    """Counts of what was told, and the present state. All times are kept in picoseconds and told in seconds."""
+    """Counts of what was told, and the present state. All times are kept in picoseconds and told in seconds.
 
-    def __init__(self, topology: Topology) -> None:
-        self._topology = topology
+    `fabric` is the label of each series, so that several fabrics can be watched by one Prometheus.
+    """
+
+    def __init__(self, topology: Topology, fabric: Optional[str] = None) -> None:
+        self._topology, self.fabric = topology, fabric
         self.broken: Counter[str] = Counter()
         self.alarms: Counter[str] = Counter()
         self.passed_over: Counter[str] = Counter()
@@ -55,18 +59,19 @@ class Metrics:
     def _lines(self, now: Dict[str, Any]) -> Iterator[str]:
         ref = now["told_ref"]
         names = [device.name for device in self._topology.devices]
-        yield from _metric("eps_seconds", "gauge", "EPS of the latest report of a device.", "device", _seconds(self.eps))
-        yield from _metric("eps_greatest_seconds", "gauge", "The greatest EPS that a device reported.", "device", _seconds(self.greatest))
+        yield from self._by("device", "eps_seconds", "gauge", "EPS of the latest report of a device.", _seconds(self.eps))
+        yield from self._by("device", "eps_greatest_seconds", "gauge", "The greatest EPS that a device reported.", _seconds(self.greatest))
         if self.bounds:
-            yield from _metric("eps_bound_seconds", "gauge", "The bound of the drill, the greatest over all domains.", "device", _seconds(self.bounds))
+            yield from self._by("device", "eps_bound_seconds", "gauge", "The bound of the drill, the greatest over all domains.", _seconds(self.bounds))
         ages = {device: max(0, ref - at) for device, at in self.reported.items()} if ref is not None else {}
-        yield from _metric("report_age_seconds", "gauge", "Reference time since the latest report of a device.", "device", _seconds(ages))
-        yield from _metric("broken_total", "counter", "Premises that broke.", "premise", {it: self.broken[it] for it in PREMISES})
-        yield from _metric("alarms_total", "counter", "Alarms.", "kind", {it: self.alarms[it] for it in ALARMS})
-        yield from _metric("passed_over_total", "counter", "Lines of a log that are no events, or cannot come.", "log", {it: self.passed_over[it] for it in now["logs"]})
-        yield from _metric("log_behind_seconds", "gauge", "How far the latest reference of a log is behind the greatest of all.", "log", _seconds(now["logs"]))
-        yield from _metric("acting", "gauge", "1 for each device that acts as root.", "device", {it: int(it in now["acting"]) for it in names if it in now["acting"] or it in now["roots"]})
-        yield from _metric("failed", "gauge", "How many things have failed and are not mended.", "thing", now["failed"])
+        yield from self._by("device", "report_age_seconds", "gauge", "Reference time since the latest report of a device.", _seconds(ages))
+        yield from self._by("premise", "broken_total", "counter", "Premises that broke.", {it: self.broken[it] for it in PREMISES})
+        yield from self._by("kind", "alarms_total", "counter", "Alarms.", {it: self.alarms[it] for it in ALARMS})
+        yield from self._by("log", "passed_over_total", "counter", "Lines of a log that are no events, or cannot come.", {it: self.passed_over[it] for it in now["logs"]})
+        yield from self._by("log", "log_behind_seconds", "gauge", "How far the latest reference of a log is behind the greatest of all.", _seconds(now["logs"]))
+        acting = {it: int(it in now["acting"]) for it in names if it in now["acting"] or it in now["roots"]}
+        yield from self._by("device", "acting", "gauge", "1 for each device that acts as root.", acting)
+        yield from self._by("thing", "failed", "gauge", "How many things have failed and are not mended.", now["failed"])
         for name, sort, text, value in (
             ("rounds_total", "counter", "Messages of an acting root to all.", self.done["send"] + self.done["takeover"]),
             ("moves_total", "counter", "Moves of a device to its backup.", self.done["move"]),
@@ -80,24 +85,34 @@ class Metrics:
             ("lag_seconds", "gauge", "Reference time that was read and is not told yet.", f"{now['lag'] / SECOND:.12g}"),
             ("written_seconds", "gauge", "When this text was written, since 1970.", f"{now['time']:.3f}"),
         ):
-            yield f"# HELP sundial_{name} {text}\n# TYPE sundial_{name} {sort}\nsundial_{name} {value}\n"
+            yield from self._series(name, sort, text, {"": value})
+
+    def _by(self, label: str, name: str, sort: str, text: str, values: Dict[str, Any]) -> Iterator[str]:
+        return self._series(name, sort, text, {f'{label}="{_escaped(key)}"': value for key, value in values.items()})
+
+    def _series(self, name: str, sort: str, text: str, values: Dict[str, Any]) -> Iterator[str]:
+        """The series of a name. `values` has each by its label."""
+        yield f"# HELP sundial_{name} {text}\n# TYPE sundial_{name} {sort}\n"
+        fabric = "" if self.fabric is None else f'fabric="{_escaped(self.fabric)}"'
+        for label, value in values.items():
+            labels = ",".join(filter(None, (fabric, label)))
+            yield f"sundial_{name}{{{labels}}} {value}\n" if labels else f"sundial_{name} {value}\n"
 
 
 def _seconds(values: Dict[str, int]) -> Dict[str, str]:
     return {key: f"{value / SECOND:.12g}" for key, value in values.items()}
 
 
-def _metric(name: str, sort: str, text: str, label: str, values: Dict[str, Any]) -> List[str]:
-    lines = [f"# HELP sundial_{name} {text}\n# TYPE sundial_{name} {sort}\n"]
-    for key, value in values.items():
-        said = key.replace("\\", "\\\\").replace('"', '\\"').replace("\n", "\\n")
-        lines.append(f'sundial_{name}{{{label}="{said}"}} {value}\n')
-    return lines
+def _escaped(value: str) -> str:
+    return value.replace("\\", "\\\\").replace('"', '\\"').replace("\n", "\\n")
 
 
-def write_renamed(path: str, text: str) -> None:
-    """Puts a text into its place at once: a reader sees the old one or the new one."""
+def write_renamed(path: str, content: bytes) -> None:
+    """Puts a file into its place at once: a reader sees the old one or the new one."""
     temporary = f"{path}.new"
-    with open(temporary, "w", encoding="utf-8") as file:
-        file.write(text)
-    os.replace(temporary, path)
+    try:
+        with open(temporary, "wb") as file:
+            file.write(content)
+        os.replace(temporary, path)
+    except OSError as fault:
+        raise ToolError(fault.strerror or "cannot be written", path) from None

@@ -28,6 +28,10 @@ class Replaying:
             self._process.stdin.flush()
         except BrokenPipeError:
             raise self._stopped() from None
+        self.judge()
+
+    def judge(self) -> None:
+        """Raises where the program has ended, or what it said could not be told."""
         if self._fault is not None or not self._reader.is_alive():
             raise self._stopped()
 

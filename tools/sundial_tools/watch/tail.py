@@ -11,6 +11,7 @@ from typing import Any, Deque, List, NamedTuple, Optional, Tuple
 from sundial_tools.errors import ToolError
 from sundial_tools.record.logs import Log, LogEvent
 from sundial_tools.topology import Topology
+from sundial_tools.watch.journal import Place
 
 # (Linux and Python 3.10 have them; a checker of types may not know)
 SPLICE: Any = getattr(os, "splice", None)
@@ -18,13 +19,6 @@ NONBLOCK: int = getattr(os, "SPLICE_F_NONBLOCK", 0)
 MOST_BYTES = 1 << 20
 MOST_LINE = 1 << 16
 MOST_WAITING = 1 << 16
-
-
-class Place(NamedTuple):
-    """How far a log was read: the byte behind a line, and the number of that line."""
-
-    offset: int = 0
-    line: int = 0
 
 
 class Bad(NamedTuple):

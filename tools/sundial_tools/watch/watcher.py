@@ -13,6 +13,7 @@ import threading
 import time
 from typing import Any, Callable, Dict, Iterator, List, NamedTuple, Optional, Sequence, Tuple
 
+from sundial_tools.cut.cutter import lines_before
 from sundial_tools.cut.opening import Opening
 from sundial_tools.cut.parts import Translation
 from sundial_tools.errors import ToolError
@@ -26,14 +27,13 @@ from sundial_tools.record.recorder import MOST_EVENTS, origin_before
 from sundial_tools.schedule import Event, event_line, parse_event
 from sundial_tools.topology import Topology
 from sundial_tools.watch.feed import Feed, Hooks
+from sundial_tools.watch.journal import OWN, Place, prefix_of, read_prefix
 from sundial_tools.watch.metrics import Metrics, write_renamed
 from sundial_tools.watch.replaying import Replaying
-from sundial_tools.watch.tail import Bad, Place, Tail
+from sundial_tools.watch.tail import Bad, Tail
 
 MOST_REFS = 1 << 18
 PART = re.compile(r"part-(\d{4,})\.(start|journal|txt|told)")
-OWN = "-"
-
 
 class Options(NamedTuple):
     """`replay` is the program with its word. Times are picoseconds of the references."""
@@ -56,9 +56,12 @@ class Watch(Hooks):
     """`step` reads what came and tells it."""
 
     def __init__(self, topology: Topology, plans: Sequence[Plan], options: Options) -> None:
-        self._topology, self._options = topology, options
+        self._topology, self._plans, self._options = topology, plans, options
         self.metrics = Metrics(topology)
+        # Something other than a report was told since it was last looked at.
+        self.has_news = False
         self._lock = threading.Lock()
+        self._lines_before = lines_before(topology)
         self._feed = Feed(topology, plans, options.origin, options.from_life, self)
         self._journal: List[str] = []
         self._fed: List[str] = []
@@ -100,6 +103,7 @@ class Watch(Hooks):
 
         Answers whether anything came.
         """
+        self._replaying.judge()
         # (what was written before the latest line that was known is read now)
         known, came = self._greatest or 0, False
         for number, tail in enumerate(self._tails):
@@ -165,13 +169,12 @@ class Watch(Hooks):
         else:
             self._feed.origin = self._options.origin
         self._settings["origin"] = self._feed.origin
-        write_renamed(self._file("settings.json"), json.dumps(self._settings, indent=1) + "\n")
+        self._write_settings()
 
     def _offer(self, event: LogEvent) -> Optional[Refusal]:
         number = self._place_of[id(event)]
         place = self._tails[number].waiting[0].place
-        raw = event.counter if event.word in ("start", "join") else ""
-        self._prefix = f"{number}:{place.offset}:{place.line}:{raw}"
+        self._prefix = prefix_of(number, place, event.counter if event.word in ("start", "join") else None)
         try:
             refusal = self._feed.offer(event)
         except ToolError as fault:
@@ -209,16 +212,20 @@ class Watch(Hooks):
     def is_due(self, line: int, ref: int) -> bool:
         return not self._restoring and line - self._first_line >= self._options.every
 
+    def is_near(self, line: int) -> bool:
+        return line - self._first_line >= self._options.every - self._lines_before
+
     def coming(self, event: Event) -> None:
         line = self._feed.fleet.line
         count = self._opening_lines + line - self._first_line + 1
         if count >= MOST_EVENTS:
             whys = "; ".join(f"{why} ({times} times)" for why, times in self._feed.fleet.cutter.refused.most_common(3))
             raise ToolError(f"part {self._part} has 2^26 events, which is as many as a replay takes, and no right cut came: {whys}")
+        text = event_line(event)
         if not self._restoring:
-            self._journal.append(f"{self._prefix} {event_line(event)}")
+            self._journal.append(f"{self._prefix} {text}")
         said = event if self._translation is None else self._translation.of(event)
-        self._fed.append(event_line(said))
+        self._fed.append(text if said is event else event_line(said))
         self._refs[line] = event.ref
         if len(self._refs) > MOST_REFS:
             for old in list(itertools.islice(self._refs, MOST_REFS // 2)):
@@ -280,7 +287,10 @@ class Watch(Hooks):
             raise ToolError("a plan is missing with which this state was begun", self._options.state)
         if "origin" in before:
             self._feed.origin = said["origin"] = before["origin"]
-        write_renamed(self._file("settings.json"), json.dumps(said, indent=1) + "\n")
+        self._write_settings()
+
+    def _write_settings(self) -> None:
+        write_renamed(self._file("settings.json"), (json.dumps(self._settings, indent=1) + "\n").encode())
 
     def _save(self) -> None:
         feed = self._feed
@@ -292,9 +302,7 @@ class Watch(Hooks):
             data = pickle.dumps(kept)
         finally:
             feed.fleet.hooks = hooks
-        with open(self._file("start.new"), "wb") as file:
-            file.write(data)
-        os.replace(self._file("start.new"), self._part_file("start"))
+        write_renamed(self._part_file("start"), data)
 
     def _resume(self) -> List[Tuple[Place, Optional[int]]]:
         """Takes up the part that was begun last. Answers how far the logs were read when it began."""
@@ -304,7 +312,7 @@ class Watch(Hooks):
         self._part = max(found)
         with open(self._part_file("start"), "rb") as file:
             fleet, state, self.metrics, self._asked, self._first_line, self._opening, places = pickle.load(file)
-        self._feed.resume(state, fleet)
+        self._feed.resume(state, fleet, self._plans)
         return list(places)
 
     def _begin(self) -> None:
@@ -339,7 +347,7 @@ class Watch(Hooks):
         self._feed.fleet.begins = self._opening is not None
         for text in _whole_lines(self._files[0]):
             prefix, _, said = text.partition(" ")
-            number, place, raw = _read_prefix(prefix)
+            number, place, raw = read_prefix(prefix)
             if said.startswith("!"):
                 self._tails[number or 0].move_to(place, None)
                 passed += 1
@@ -372,7 +380,7 @@ class Watch(Hooks):
     # What is told
 
     def _pass_over(self, number: int, bad: Bad) -> None:
-        self._journal.append(f"{number}:{bad.place.offset}:{bad.place.line}: !{bad.reason}\n")
+        self._journal.append(f"{prefix_of(number, bad.place, None)} !{bad.reason}\n")
         self._flush()
         self._tell(self._passing(number, bad))
 
@@ -408,6 +416,7 @@ class Watch(Hooks):
         with self._lock:
             _write(self._files[1], text + "\n")
             self.metrics.tell(row)
+            self.has_news |= row["kind"] != "report"
             self._options.follow(text)
 
     def metrics_text(self) -> str:
@@ -424,13 +433,6 @@ class Watch(Hooks):
                 "logs": {tail.path: greatest - tail.last if tail.last is not None else greatest for tail in self._tails},
                 "lag": max(0, greatest - feed.last) if feed.last is not None else 0, "time": time.time(),
             })
-
-
-def _read_prefix(prefix: str) -> Tuple[Optional[int], Place, Optional[int]]:
-    if prefix == OWN:
-        return None, Place(), None
-    number, offset, line, raw = prefix.split(":")
-    return int(number), Place(int(offset), int(line)), int(raw) if raw else None
 
 
 def _whole_lines(file: int) -> Iterator[str]:
@@ -451,5 +453,8 @@ def _whole_lines(file: int) -> Iterator[str]:
 
 def _write(file: int, text: str) -> None:
     data = memoryview(text.encode("utf-8"))
-    while data:
-        data = data[os.write(file, data):]
+    try:
+        while data:
+            data = data[os.write(file, data):]
+    except OSError as fault:
+        raise ToolError(fault.strerror or "cannot be written", "the state") from None

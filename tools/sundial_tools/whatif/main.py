@@ -10,6 +10,7 @@ import tempfile
 from typing import Iterator, List, NamedTuple, Optional, Tuple
 
 from sundial_tools.errors import ToolError
+from sundial_tools.inputs import as_files
 from sundial_tools.outputs import PREMISES
 from sundial_tools.plan import Plan, read_plan
 from sundial_tools.report.main import main as report_main
@@ -28,6 +29,11 @@ MOST_PLANS = 64
 
 def main(words: List[str]) -> int:
     options = _parser().parse_args(words)
+    with as_files([options.topology, options.plan]) as (options.topology, options.plan):
+        return _drawn_and_told(options)
+
+
+def _drawn_and_told(options: argparse.Namespace) -> int:
     topology = read_topology(options.topology)
     plan = read_plan(options.plan, topology)
     renewals = sorted((wished.renewal(it) for it in options.renew), key=lambda it: it.at)
@@ -140,7 +146,7 @@ def _parser() -> argparse.ArgumentParser:
     parser = argparse.ArgumentParser(
         prog="sundial-whatif",
         description="Draws a schedule for your own network and plans from words, and says what happened in it. Every premise "
-        "holds but those that you ask to break. With sundial on the path the schedule is replayed, and the reports stand beside "
+        "holds but those that you ask to break. With sundial on the path the schedule is replayed, and the reports are shown beside "
         "the bounds of the drill.",
         epilog="The schedule goes to --output, and the summary to standard output. Without --output the schedule goes to standard "
         "output, and the summary to standard error. Times are a number with ps, ns, us, ms or s. docs/WHAT-IF.md has examples.",

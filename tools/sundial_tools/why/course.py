@@ -18,30 +18,40 @@ MOST_LINES = 2000
 
 
 class Course:
-    """The lines of a schedule, as bytes, and the events before one of them."""
+    """The lines of a schedule, as bytes, and the events before one of them. The file may grow meanwhile."""
 
     def __init__(self, path: str, topology: Topology, plans: Sequence[Plan]) -> None:
         self.path, self.topology, self.plans = path, topology, plans
-        with open(path, "rb") as file:
-            self.lines = file.read().split(b"\n")
-        if self.lines[-1] == b"":
-            self.lines.pop()
+        self.lines: List[bytes] = []
+        # What stands behind the last newline, and how many bytes were read.
+        self._rest, self._read = b"", 0
+        self._read_on()
         self._history: Optional[History] = None
         self._followed: Optional[Followed] = None
-        self._events: Dict[int, Optional[Event]] = {}
+
+    def _read_on(self) -> None:
+        with open(self.path, "rb") as file:
+            file.seek(self._read)
+            more = file.read()
+        self._read += len(more)
+        lines = (self._rest + more).split(b"\n")
+        self._rest = lines.pop()
+        self.lines += lines
 
     def text(self, number: int) -> Optional[bytes]:
         """A line without its newline, from 1."""
+        if number > len(self.lines):
+            self._read_on()
+        if number == len(self.lines) + 1 and self._rest:
+            return self._rest
         return self.lines[number - 1] if 1 <= number <= len(self.lines) else None
 
     def event(self, number: int) -> Optional[Event]:
-        if number not in self._events:
-            text = self.text(number)
-            try:
-                self._events[number] = parse_event(text.decode("latin-1")) if text is not None else None
-            except ToolError:
-                self._events[number] = None
-        return self._events[number]
+        text = self.text(number)
+        try:
+            return parse_event(text.decode("latin-1")) if text is not None else None
+        except ToolError:
+            return None
 
     def before(self, number: int, word: str) -> List[int]:
         """The lines before one that begin with a word."""

@@ -10,7 +10,7 @@ from typing import Dict, Iterator, List, Optional, Sequence
 from sundial_tools.errors import ToolError
 from sundial_tools.outputs import OutputLine, parse_line
 from sundial_tools.plan import Plan, parse_plan
-from sundial_tools.safe_write import whole_output
+from sundial_tools.safe_write import FOLLOW, output_of
 from sundial_tools.topology import Topology, parse_topology
 from sundial_tools.why.broken import Replayed
 from sundial_tools.why.course import Course
@@ -136,7 +136,7 @@ def main(words: List[str]) -> int:
     why = Why(options.topology, options.others, options.absent)
     with contextlib.ExitStack() as stack:
         source = sys.stdin if options.lines == "-" else stack.enter_context(open(options.lines, encoding="utf-8", newline="\n"))
-        text = stack.enter_context(whole_output(options.output))
+        text = stack.enter_context(output_of(options.output, options.follow))
         unknown = 0
         for line in source:
             bare = line.rstrip("\n")
@@ -160,7 +160,8 @@ def _parser() -> argparse.ArgumentParser:
     )
     parser.add_argument("topology", metavar="TOPOLOGY")
     parser.add_argument("others", metavar="FILE", nargs="*", help="the plans of the command in their order, and its schedule or exchanges")
-    parser.add_argument("--lines", "-l", metavar="FILE", default="-", help="what sundial printed; standard input without it")
+    parser.add_argument("--lines", "-l", metavar="FILE", default="-", help="what sundial printed (default: standard input)")
     parser.add_argument("--absent", "-a", metavar="FILE", help="the absent text of a renew")
-    parser.add_argument("--output", "-o", metavar="FILE", help="where to write; standard output without it")
+    parser.add_argument("--follow", "-f", action="store_true", help=FOLLOW)
+    parser.add_argument("--output", "-o", metavar="FILE", help="where to write (default: standard output)")
     return parser
