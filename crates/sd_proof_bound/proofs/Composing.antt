@@ -67,13 +67,13 @@ ends_in setting (e ∷ history) (x ∷ later) s earlier same =
     record { e = found.e; before = found.before; tail = behind found.tail; step_is = found.step_is; earlier_is = found.earlier_is }
 
 -- a report is that of an ask, of the past of its device
-record IsAsked (steps : List Step) (e : Event) (d : ℕ) (report : Report) : Type 0 where
-  reference : ℕ
-  counter : ℕ
-  is : e ≡ event.Ask reference d counter
-  past : Past
-  there : past_in steps d ≡ Some past
-  report_is : report_at past counter ≡ report
+pub record IsAsked (steps : List Step) (e : Event) (d : ℕ) (report : Report) : Type 0 where
+  pub reference : ℕ
+  pub counter : ℕ
+  pub is : e ≡ event.Ask reference d counter
+  pub past : Past
+  pub there : past_in steps d ≡ Some past
+  pub report_is : report_at past counter ≡ report
 
 asked_of : (steps : List Step) (r x c d : ℕ) (report : Report) (o : Option Past) → past_in steps x ≡ o
     → option_map {U = ℕ × Report} (λ (told : Report). (x, told)) (option_map (λ past. report_at past c) o) ≡ Some (d, report)
@@ -90,7 +90,7 @@ asked_of steps r x c d report (Some past) is same =
       report_is = both.1;
     }
 
-asked : (setting : Setting) (steps : List Step) (e : Event) (d : ℕ) (report : Report) → asked_report (next_step setting steps e) ≡ Some (d, report)
+pub asked : (setting : Setting) (steps : List Step) (e : Event) (d : ℕ) (report : Report) → asked_report (next_step setting steps e) ≡ Some (d, report)
     → IsAsked steps e d report
 asked setting steps (event.Ask r x c) d report same = asked_of steps r x c d report (past_in steps x) refl same
 asked setting steps _ d report same = cc

@@ -1,6 +1,7 @@
 -- The bound from its two halves.
 pub mod Composing
 pub mod Bounded
+pub mod Calm
 pub mod Hearing
 pub mod ages
 pub mod bases

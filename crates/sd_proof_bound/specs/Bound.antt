@@ -13,7 +13,7 @@ use Rattle.sd_proof_safety.specs.Core.Words.{estimate_now}
 use Rattle.sd_proof_safety.specs.Sched.declared.Event.{Event}
 use Rattle.sd_proof_safety.specs.Sched.Events.{reference_of, device_of, counter_of, is_stage}
 use Rattle.sd_proof_safety.specs.History.Things.{failure_of}
-use Rattle.sd_proof_safety.specs.History.World.{Setting, Seen, is_counted, alone}
+use Rattle.sd_proof_safety.specs.History.World.{Seen, is_counted, alone}
 use Rattle.sd_proof_safety.specs.History.Steps.{Step, seen_of, acts_in}
 use Rattle.sd_proof_safety.specs.History.Chronicle.{chronicle, past_in, IsHistory}
 use Rattle.sd_proof_safety.specs.Sched.Honesty.{clock_set}

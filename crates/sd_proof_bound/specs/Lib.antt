@@ -9,6 +9,7 @@ pub mod traces
 pub mod Hearing
 pub mod Steady
 pub mod Tight
+pub mod Calm
 -- Handed on: what crates above name of those below.
 pub use Rattle.sd_drill.specs as Drill
 pub use Rattle.sd_proof_safety.specs.History as History

@@ -7,12 +7,14 @@ use Rattle.std.proofs.lemmas.Bool.{and_parts, or_from, not-true, eqb-true}
 use Rattle.sd_drill.specs.Num.Lists.{map_or}
 use Rattle.sd_drill.specs.Num.Numbers.{low}
 use Rattle.sd_drill.specs.Topo.Network.{Network, rates_of, Each}
+use Rattle.sd_drill.specs.Topo.Limits.{IsNetwork}
 use Rattle.sd_drill.specs.Topo.declared.Thing.{Thing}
 use Rattle.sd_drill.specs.Domain.Domains.{holds}
 use Rattle.sd_drill.specs.Domain.declared.DomainId.{DomainId}
 use Rattle.sd_drill.specs.Plan.declared.Plan.{Plan}
 use Rattle.sd_drill.specs.Plan.Plans.{is_member}
 use Rattle.sd_drill.specs.CheckRoot.Timing.{round_gap}
+use Rattle.sd_proof_safety.specs.Core.Calls.{Past}
 use Rattle.sd_proof_safety.specs.Core.Words.{heard, estimate_now}
 use Rattle.sd_proof_safety.specs.Sched.declared.Event.{Event}
 use Rattle.sd_proof_safety.specs.Sched.declared.Event.TheVariants as event
@@ -20,7 +22,7 @@ use Rattle.sd_proof_safety.specs.Sched.Events.{reference_of, is_stage}
 use Rattle.sd_proof_safety.specs.History.Things.{failure_of}
 use Rattle.sd_proof_safety.specs.History.World.{Setting, Seen, is_up, joined_in_window, plan_numbered, alone}
 use Rattle.sd_proof_safety.specs.History.Steps.{Step, seen_of}
-use Rattle.sd_proof_safety.specs.History.Chronicle.{chronicle, next_step}
+use Rattle.sd_proof_safety.specs.History.Chronicle.{past_in, chronicle, next_step}
 use Rattle.sd_proof_safety.specs.invariant.Bounds.{depth, delay, losses, tick_gap, first_up, second_up, wait_up}
 use Rattle.sd_proof_safety.specs.invariant.Eras.{era, heard_at}
 use Rattle.sd_proof_safety.specs.invariant.Coming.{IsNextEvent}
@@ -138,15 +140,42 @@ counted_member true false true is none = cc
 counted_member true false false is none = cc
 counted_member false member joined is none = cc
 
-within_silence : (r h s : ℕ) → r ≤ h + s → r - h ≤ s
-within_silence r h s one = omega (arith, one)
-
 age_by : (c h a o : ℕ) → c - h ≤ o → h ≤ a → c - a ≤ o
 age_by c h a o one two = omega (arith, one, two)
 
 -- what lies below what lies below the third
 pub upto_sum : (l r q : ℕ) → l ≤ r → r ≤ q → l ≤ q
 upto_sum l r q one two = omega (arith, one, two)
+
+-- a device that was silent for no longer than a bound has an estimate no older than any age that covers the bound
+pub age_within : (net : Network) (plan : Plan) (x : Event) (h : List Event) (reference d counter : ℕ) → IsNetwork net
+    → IsNextEvent (alone net plan) (x ∷ h) (event.Ask reference d counter) → (past : Past) → past_in (steps_under net plan (x ∷ h)) d ≡ Some past
+    → (bound oldest : ℕ) → reference ≤ heard_at (chronicle (alone net plan) (x ∷ h)) d + bound
+    → ((age : ℕ) → low (rates_of net d) age ≤ bound → age ≤ oldest) → counter - (estimate_now past).at ≤ oldest
+age_within net plan x h reference d counter network comes past there bound oldest by covers =
+    let all_timed : AreTimed (alone net plan) (chronicle (alone net plan) (event.Ask reference d counter ∷ x ∷ h)) =
+    timed (alone net plan) (event.Ask reference d counter ∷ x ∷ h) (times (alone net plan) x h (event.Ask reference d counter) comes) in
+    let heard_same : heard_at (chronicle (alone net plan) (x ∷ h)) d ≡ heard_in (chronicle (alone net plan) (x ∷ h)) d =
+    heard_is (alone net plan) (chronicle (alone net plan) (x ∷ h)) all_timed.0 d in
+    let quiet_ : reference - heard_in (chronicle (alone net plan) (x ∷ h)) d ≤ bound =
+    subst (λ t. reference - t ≤ bound) heard_same
+    (within reference (heard_at (chronicle (alone net plan) (x ∷ h)) d) bound by) in
+    let keeps : Keeps (rates_of net d) (reference, counter) (heard_in (chronicle (alone net plan) (x ∷ h)) d, heard past) =
+    honest_reading (alone net plan) (next_step (alone net plan) (chronicle (alone net plan) (x ∷ h)) (event.Ask reference d counter)).seen
+    (seen_of (chronicle (alone net plan) (x ∷ h))) d counter (heard_in (chronicle (alone net plan) (x ∷ h)) d, heard past) all_timed.1.honest refl refl refl
+    (heard_is_reading (alone net plan) (chronicle (alone net plan) (x ∷ h)) all_timed.0 d past there) in
+    let low_ : low (rates_of net d) (counter - heard past) ≤ reference - heard_in (chronicle (alone net plan) (x ∷ h)) d =
+    timer_low (rates_of net d) (counter - heard past) (counter - heard past) (reference - heard_in (chronicle (alone net plan) (x ∷ h)) d)
+    (rate_is_low net d network) keeps (least (counter - heard past)) in
+    let old : counter - heard past ≤ oldest = covers (counter - heard past) (upto_sum _ _ _ low_ quiet_) in
+    let order : IsOrdered past _ = in_order (alone net plan) (x ∷ h) comes.clean.is.0 d past there in
+    age_by counter (heard past) (estimate_now past).at oldest old order.estimate
+  where
+    least : (n : ℕ) → n ≤ n
+    least n = omega arith
+
+    within : (r h b : ℕ) → r ≤ h + b → r - h ≤ b
+    within r h b le = omega (arith, le)
 
 -- the age half
 pub ages_hold : (net : Network) (plan : Plan) → StaysInvariant (alone net plan) → AreSilent (alone net plan) → AgesHold net plan
@@ -177,23 +206,4 @@ ages_hold net plan stays silent budget f whole_ (x ∷ h) reference d counter re
     let by : reference ≤ heard_at (chronicle (alone net plan) (x ∷ h)) d + silence_at_most net plan =
     silent_at_most (alone net plan) silent x h (event.Ask reference d counter) comes unstaged f outage.reference outage.fails_in d live.0 member idle covered.fed
     covered.long (λ hops walked. covered.is_long.greatest hops walked) covered.short_enough in
-    let all_timed : AreTimed (alone net plan) (chronicle (alone net plan) (event.Ask reference d counter ∷ x ∷ h)) =
-    timed (alone net plan) (event.Ask reference d counter ∷ x ∷ h) (times (alone net plan) x h (event.Ask reference d counter) comes) in
-    let heard_same : heard_at (chronicle (alone net plan) (x ∷ h)) d ≡ heard_in (chronicle (alone net plan) (x ∷ h)) d =
-    heard_is (alone net plan) (chronicle (alone net plan) (x ∷ h)) all_timed.0 d in
-    let quiet_ : reference - heard_in (chronicle (alone net plan) (x ∷ h)) d ≤ silence_at_most net plan =
-    subst (λ t. reference - t ≤ silence_at_most net plan) heard_same
-    (within_silence reference (heard_at (chronicle (alone net plan) (x ∷ h)) d) (silence_at_most net plan) by) in
-    let keeps : Keeps (rates_of net d) (reference, counter) (heard_in (chronicle (alone net plan) (x ∷ h)) d, heard past) =
-    honest_reading (alone net plan) (next_step (alone net plan) (chronicle (alone net plan) (x ∷ h)) (event.Ask reference d counter)).seen
-    (seen_of (chronicle (alone net plan) (x ∷ h))) d counter (heard_in (chronicle (alone net plan) (x ∷ h)) d, heard past) all_timed.1.honest refl refl refl
-    (heard_is_reading (alone net plan) (chronicle (alone net plan) (x ∷ h)) all_timed.0 d past there) in
-    let low_ : low (rates_of net d) (counter - heard past) ≤ reference - heard_in (chronicle (alone net plan) (x ∷ h)) d =
-    timer_low (rates_of net d) (counter - heard past) (counter - heard past) (reference - heard_in (chronicle (alone net plan) (x ∷ h)) d)
-    (rate_is_low net d recovers.network) keeps (least (counter - heard past)) in
-    let old : counter - heard past ≤ oldest = covered.covers (counter - heard past) (upto_sum _ _ _ low_ quiet_) in
-    let order : IsOrdered past _ = in_order (alone net plan) (x ∷ h) before.is d past there in
-    age_by counter (heard past) (estimate_now past).at oldest old order.estimate
-  where
-    least : (n : ℕ) → n ≤ n
-    least n = omega arith
+    age_within net plan x h reference d counter recovers.network comes past there (silence_at_most net plan) oldest by covered.covers

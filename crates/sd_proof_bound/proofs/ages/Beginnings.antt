@@ -9,18 +9,19 @@ use Rattle.sd_drill.specs.CheckRoot.Timing.{round_gap}
 use Rattle.sd_proof_safety.specs.Sched.declared.Event.{Event}
 use Rattle.sd_proof_safety.specs.Sched.Events.{reference_of}
 use Rattle.sd_proof_safety.specs.History.Things.{failure_of}
-use Rattle.sd_proof_safety.specs.History.World.{Setting, plan_numbered}
+use Rattle.sd_proof_safety.specs.History.World.{Setting, is_up, plan_numbered}
 use Rattle.sd_proof_safety.specs.History.Steps.{Step, seen_of, acts_in}
 use Rattle.sd_proof_safety.specs.History.Chronicle.{chronicle}
 use Rattle.sd_proof_safety.specs.invariant.Bounds.{depth, delay, rounds_gap, tick_gap}
 use Rattle.sd_proof_safety.specs.invariant.Eras.{era, beginning, all_started, is_among, touches, failed_now, heard_at, moved, root_failed}
 use Rattle.sd_proof_safety.specs.invariant.Silences.{WholePathHears}
-use Rattle.sd_proof_safety.specs.invariant.Coming.{AtNext}
+use Rattle.sd_proof_safety.specs.invariant.Coming.{IsNextEvent, AtNext}
 use Rattle.sd_proof_safety.proofs.invariant.Sides.{not_both}
 use Rattle.sd_proof_safety.specs.messages.Moments.{Tail, whole, behind, Moment, upto, when, IsIn}
 use Rattle.sd_proof_safety.proofs.messages.Tails.{rest_of}
 use Rattle.sd_proof_safety.specs.timers.Times.{AreTimed, heard_in, hears}
 use Rattle.sd_proof_safety.proofs.timers.Emissions.{reference_rises, timed_tail}
+use Rattle.sd_proof_safety.proofs.timers.UpHasPast.{up_has_past}
 use Rattle.sd_proof_safety.proofs.waits.SameReferences.{heard_is}
 use Rattle.sd_proof_safety.proofs.waits.Standing.{sound, steps_timed, leads, lives, heard_late}
 use Rattle.sd_proof_safety.proofs.silences.Phases.{Stage, stage, open_at}
@@ -200,3 +201,17 @@ module _ (setting : Setting) (x : Event) (h : List Event) (e : Event) (way : IsU
           later (when f.moment) begun (heard_at (chronicle setting (x ∷ h)) d + lag setting.net) less
           (by_way less (way_at setting (x ∷ h) e begun way f.moment (behind f.is_in) less))
       go (inr le) = earlier_ (when f.moment) begun (heard_at (chronicle setting (x ∷ h)) d + lag setting.net) le since_begun
+
+-- while members may start yet, a device that is up has heard since the beginning
+pub heard_at_first : (setting : Setting) (x : Event) (h : List Event) (e : Event) → IsNextEvent setting (x ∷ h) e → (d : ℕ)
+    → is_up (seen_of (chronicle setting (x ∷ h))) d ≡ true → reference_of e ≤ all_started setting (chronicle setting (e ∷ x ∷ h))
+    → reference_of e ≤ heard_at (chronicle setting (x ∷ h)) d + lag setting.net
+heard_at_first setting x h e comes d up le =
+    let p = up_has_past setting (chronicle setting (x ∷ h)) (steps_timed setting x h e comes) d up in
+    let heard : beginning (seen_of (chronicle setting (x ∷ h))) ≤ heard_at (chronicle setting (x ∷ h)) d = heard_late setting x h e comes d p.0 p.1 in
+    let gap : tick_gap setting.net + 1 ≤ round_gap setting.net = (sound setting x h e comes).timed.gap in
+    sum (reference_of e) (beginning (seen_of (chronicle setting (x ∷ h)))) (heard_at (chronicle setting (x ∷ h)) d) (tick_gap setting.net)
+    (rounds_gap setting.net) (round_gap setting.net) (depth setting.net * delay setting.net) le heard gap
+  where
+    sum : (r b k q a p m : ℕ) → r ≤ b + q → b ≤ k → q + 1 ≤ p → r ≤ k + (a + p + m)
+    sum r b k q a p m one two three = omega (arith, one, two, three)

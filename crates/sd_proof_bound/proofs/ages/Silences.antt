@@ -19,15 +19,14 @@ use Rattle.sd_proof_safety.specs.History.Steps.{Step, seen_of, acts_in}
 use Rattle.sd_proof_safety.specs.History.Chronicle.{chronicle}
 use Rattle.sd_proof_safety.proofs.History.Known.{admitted_up_is_known}
 use Rattle.sd_proof_safety.specs.invariant.Bounds.{IsTimedBy, depth, delay, losses, rounds_gap, tick_gap, first_up, second_up, wait_up, first_low, second_low, wait_low}
-use Rattle.sd_proof_safety.specs.invariant.Eras.{era, beginning, all_started, is_among, failed_now, heard_at}
+use Rattle.sd_proof_safety.specs.invariant.Eras.{era, all_started, is_among, failed_now, heard_at}
 use Rattle.sd_proof_safety.specs.invariant.Silences.{AreSilent}
 use Rattle.sd_proof_safety.specs.invariant.Coming.{IsNextEvent}
 use Rattle.sd_proof_safety.proofs.invariant.Facts.{IsSound}
 use Rattle.sd_proof_safety.proofs.invariant.Sides.{not_both}
 use Rattle.sd_proof_safety.specs.messages.Moments.{whole, behind, Moment, when, IsIn}
 use Rattle.sd_proof_safety.proofs.moves.Starts.{IsUnstaged}
-use Rattle.sd_proof_safety.proofs.timers.UpHasPast.{up_has_past}
-use Rattle.sd_proof_safety.proofs.waits.Standing.{sound, steps_timed, heard_late}
+use Rattle.sd_proof_safety.proofs.waits.Standing.{sound}
 use Rattle.sd_proof_safety.proofs.silences.Phases.{open_at}
 use Rattle.sd_proof_safety.proofs.silences.SoundWays.{top_of}
 use Rattle.sd_proof_bound.specs.timeouts.Settled.{the_plan, IsUnderWay, IsSettled, IsWell, Scene}
@@ -39,7 +38,7 @@ use Rattle.sd_proof_bound.proofs.traces.Sounding.{fed_by}
 use Rattle.sd_proof_bound.specs.chains.Chains.{Chain, turning, IsTurned}
 use Rattle.sd_proof_bound.proofs.chains.Chains.{fed_chain}
 use Rattle.sd_proof_bound.specs.ages.Sums.{lag, silence_at_most}
-use Rattle.sd_proof_bound.proofs.ages.Beginnings.{not_root, heard_whole, FirstFailed, failed_or_none, heard_by_failures}
+use Rattle.sd_proof_bound.proofs.ages.Beginnings.{not_root, heard_at_first, heard_whole, FirstFailed, failed_or_none, heard_by_failures}
 use Rattle.sd_proof_bound.proofs.ages.Takeovers.{takes_over_by}
 
 -- all things that failed are in the domain, and failed at the reference
@@ -120,15 +119,8 @@ module _ (setting : Setting) (silent : AreSilent setting) (x : Event) (h : List 
   -- while members may start yet
   at_first : reference_of e ≤ begun → Soon
   at_first le =
-      let p = up_has_past setting steps (steps_timed setting x h e comes) d up in
-      let heard : beginning (seen_of steps) ≤ heard_at steps d = heard_late setting x h e comes d p.0 p.1 in
-      let gap : tick_gap setting.net + 1 ≤ round_gap setting.net = (sound setting x h e comes).timed.gap in
-      sum (reference_of e) (beginning (seen_of steps)) (heard_at steps d) (tick_gap setting.net) (rounds_gap setting.net) (round_gap setting.net)
-      (depth setting.net * delay setting.net) (turning setting.net (the_plan setting))
-      (rounds_gap setting.net + 2 * (depth setting.net + 1) * delay setting.net) le heard gap
-    where
-      sum : (r b k q a p m t w : ℕ) → r ≤ b + q → b ≤ k → q + 1 ≤ p → r ≤ k + (a + p + m + t + w)
-      sum r b k q a p m t w one two three = omega (arith, one, two, three)
+      within_lag (reference_of e) (heard_at steps d) (lag setting.net) (turning setting.net (the_plan setting))
+      (rounds_gap setting.net + 2 * (depth setting.net + 1) * delay setting.net) (heard_at_first setting x h e comes d up le)
 
   way_from : (calm : ℕ) → begun ≤ calm → IsUnderWay setting (x ∷ h) e calm
   way_from calm le = record { comes = comes; unstaged = unstaged; started = le }

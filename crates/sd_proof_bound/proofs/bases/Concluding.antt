@@ -25,12 +25,12 @@ use Rattle.sd_proof_bound.proofs.bases.Sums.{Based}
 use Rattle.sd_proof_bound.proofs.bases.Holding.{all_hold_so}
 
 -- a live device is a member that is up
-record IsPresent (net : Network) (plan : Plan) (history : List Event) (d : ℕ) : Type 0 where
-  up : is_up (seen_of (steps_under net plan history)) d ≡ true
-  member : is_member plan d ≡ true
-  within : d < length net.devices
+pub record IsPresent (net : Network) (plan : Plan) (history : List Event) (d : ℕ) : Type 0 where
+  pub up : is_up (seen_of (steps_under net plan history)) d ≡ true
+  pub member : is_member plan d ≡ true
+  pub within : d < length net.devices
 
-present : (net : Network) (plan : Plan) (history : List Event) → IsPlain (alone net plan) history → (d : ℕ)
+pub present : (net : Network) (plan : Plan) (history : List Event) → IsPlain (alone net plan) history → (d : ℕ)
     → is_counted (alone net plan) (seen_of (steps_under net plan history)) d ≡ true → IsPresent net plan history d
 present net plan history plain_ d counted =
     record {

@@ -392,7 +392,9 @@ module _ (net : Network) (plan : Plan) (budget : Budget) (f : DomainId) (stays :
                         (subst (λ y. (report_at (after past call) c).eps ≤ sent_by_root net plan budget + root_halves net plan + ageing
                         (rates_of net y) budget.hold) (sym (eqb-true plan.backup_root x backup)) less);
                   };
-              direct = λ straight. absurd (both_ways (is_backup_root plan x) (straight.off x (on_itself net plan x) other) backup);
+              direct = λ straight. absurd (both_ways (acts_in (steps_under net plan (e ∷ history)) plan.backup_root)
+                  ((standing (e ∷ history) t).idle (straight.off x (on_itself net plan x) other backup))
+                  (subst (λ y. acts_in (steps_under net plan (e ∷ history)) y ≡ true) (sym (eqb-true plan.backup_root x backup)) (lives_now.acts_is ∙ acts)));
             }
 
         -- nobody else sends rounds

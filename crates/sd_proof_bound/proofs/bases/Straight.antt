@@ -17,22 +17,25 @@ use Rattle.sd_proof_safety.specs.Sched.declared.Event.{Event}
 use Rattle.sd_proof_safety.specs.Sched.Events.{started}
 use Rattle.sd_proof_safety.specs.History.World.{Setting, fails, makes, is_up, was_made, has_ever_failed, alone}
 use Rattle.sd_proof_safety.specs.History.Steps.{seen_of, act_by}
-use Rattle.sd_proof_safety.specs.History.Chronicle.{past_in, chronicle}
+use Rattle.sd_proof_safety.specs.History.Chronicle.{past_in, next_step, chronicle}
 use Rattle.sd_proof_safety.proofs.History.Known.{has_some, kept_past, makes_past}
 use Rattle.sd_proof_safety.specs.invariant.Eras.{moved}
 use Rattle.sd_proof_safety.proofs.timers.Pasts.{was_unmoved, was_not_acting}
 use Rattle.sd_proof_safety.specs.messages.Moments.{Tail, whole, behind}
 use Rattle.sd_proof_safety.proofs.messages.Tails.{rest_of}
 use Rattle.sd_proof_safety.proofs.frame.Timely.{up_if_made}
+use Rattle.sd_proof_bound.specs.Bound.{failures}
 use Rattle.sd_proof_bound.specs.Recovering.{steps_under}
 use Rattle.sd_proof_bound.proofs.histories.Plain.{IsPlain, tail_plain, plain_event}
 use Rattle.sd_proof_bound.proofs.histories.Lives.{PastBy, by_making, by_call, unchanged, past_by, made_by, called_by, called_stays_up, started_is_up, inside_of}
+use Rattle.sd_proof_bound.proofs.histories.Failures.{none_failed_before}
 use Rattle.sd_proof_bound.proofs.histories.Standing.{IsLive, Stands}
 use Rattle.sd_proof_bound.proofs.bases.Planned.{WellPlanned, LeadsRight, on_path, on_fallback}
 
--- nobody on the walk of x but the root has ever moved, and the backup root is not on it
+-- nobody on the walk of x but the root has ever moved, and the backup root is on it only while nothing has failed
 pub record IsStraight (net : Network) (plan : Plan) (history : List Event) (x : ℕ) : Type 0 where
-  pub off : (y : ℕ) → on_walk net plan x y ≡ true → is_root plan y ≡ false → is_backup_root plan y ≡ false
+  pub off : (y : ℕ) → on_walk net plan x y ≡ true → is_root plan y ≡ false → is_backup_root plan y ≡ true
+      → failures (seen_of (steps_under net plan history)) ≡ []
   pub still : (y : ℕ) → on_walk net plan x y ≡ true → is_root plan y ≡ false → (past : Past) → past_in (steps_under net plan history) y ≡ Some past
       → has_moved past ≡ false
 
@@ -126,7 +129,7 @@ module _ (net : Network) (plan : Plan) (f : DomainId) (well : WellPlanned net pl
       → IsStraight net plan history hop.parent
   path_straight unmoved idle hop primary =
       record {
-        off = λ y on other. not_backup_root hop (well.not_on_path hop primary) y on;
+        off = λ y on other is. absurd (both_ways (is_backup_root plan y) (not_backup_root hop (well.not_on_path hop primary) y on) is);
         still = λ y on other q was. never_moved unmoved idle hop primary y on other history whole q was;
       }
 
@@ -134,7 +137,11 @@ module _ (net : Network) (plan : Plan) (f : DomainId) (well : WellPlanned net pl
 
   pub fallback_straight : has_moved past ≡ true → is_acting past ≡ false → (hop : Hop) → backup_of plan plan.backup_root ≡ Some hop
       → IsStraight net plan history hop.parent
-  fallback_straight moved_ idle hop backup = record { off = λ y on other. not_backup_root hop (well.not_on_fallback hop backup) y on; still = still }
+  fallback_straight moved_ idle hop backup =
+      record {
+        off = λ y on other is. absurd (both_ways (is_backup_root plan y) (not_backup_root hop (well.not_on_fallback hop backup) y on) is);
+        still = still;
+      }
     where
       lives : IsLive net plan history plan.backup_root past
       lives = (stands history whole).live plan.backup_root past well.backup_member up there
@@ -156,7 +163,8 @@ pub straight_before : (net : Network) (plan : Plan) (e : Event) (history : List 
     → IsStraight net plan (e ∷ history) x → IsStraight net plan history x
 straight_before net plan e history plain x straight =
     record {
-      off = straight.off;
+      off = λ y on other is. (none_failed_before (next_step (alone net plan) (steps_under net plan history) e).seen (seen_of (steps_under net plan history))
+          (straight.off y on other is)).1;
       still = λ y on other q was.
           (let some = has_some (past_in (steps_under net plan (e ∷ history)) y)
           (kept_past (act_by (alone net plan) (steps_under net plan history) e) y (past_in (steps_under net plan history) y) (ap is_some was)) in

@@ -75,3 +75,32 @@ never_failed x (s ∷ seen) open_ none =
     go false is none' rest =
         let both = one (failure_of s.event) (failures_since_closing seen) none' in
         or_from (fails x s.event) (list_any (λ y. fails x y.event) seen) both.0 (rest both.1)
+
+-- Where nothing failed
+
+-- nothing failed before
+pub none_failed_before : (s : Seen) (seen : List Seen) → failures (s ∷ seen) ≡ [] → (failure_of s.event ≡ None) × (failures seen ≡ [])
+none_failed_before s seen none = go (failure_of s.event) none
+  where
+    go : (o : Option Thing) → cons_option (map_or o None (λ x. Some (x, reference_of s.event))) (failures seen) ≡ [] → (o ≡ None) × (failures seen ≡ [])
+    go None rest = (refl, rest)
+    go (Some x) rest = cc
+
+-- nothing failed in the era
+pub none_failed_now : (seen : List Seen) → failures seen ≡ [] → failures_since_closing seen ≡ []
+none_failed_now [] none = refl
+none_failed_now (s ∷ seen) none =
+    let both = none_failed_before s seen none in
+    go s.closed both.0 (none_failed_now seen both.1)
+  where
+    go : (c : Bool) → failure_of s.event ≡ None → failures_since_closing seen ≡ []
+        → filter_map (λ x. failure_of x.event) (if not c then s ∷ leading (λ x. not x.closed) seen else []) ≡ []
+    go true is rest = refl
+    go false is rest = subst (λ o. cons_option o (failures_since_closing seen) ≡ []) (sym is) rest
+
+-- and no device ever failed
+pub none_ever_failed : (x : Thing) (seen : List Seen) → failures seen ≡ [] → list_any (λ s. fails x s.event) seen ≡ false
+none_ever_failed x [] none = refl
+none_ever_failed x (s ∷ seen) none =
+    let both = none_failed_before s seen none in
+    or_from (fails x s.event) (list_any (λ y. fails x y.event) seen) (ap (λ o. map_or o false (same_thing x)) both.0) (none_ever_failed x seen both.1)

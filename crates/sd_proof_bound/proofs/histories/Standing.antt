@@ -1,17 +1,18 @@
 -- How devices stand in a part of a run that recovers, from the invariant: each clause in the words of the one plan and of the one domain.
-use Rattle.std.specs.Prelude.{◌≡◌, ℕ, zero, suc, ◌<◌, true, false, ◌&&◌, ◌||◌, not, List, [], ◌∷◌, length, map, nat_lt, Some, None, is_some, option_map, if◌then◌else◌}
+use Rattle.std.specs.Prelude.{◌≡◌, ℕ, zero, suc, ◌<◌, Bool, true, false, ◌&&◌, ◌||◌, not, List, [], ◌∷◌, length, map, nat_lt, Some, None, is_some, option_map, refl, if◌then◌else◌}
 use Rattle.std.specs.List.{list_all}
 use Rattle.std.proofs.Common.{arith, sym, ◌∙◌, ap, subst}
-use Rattle.std.proofs.lemmas.Bool.{and_parts, and_from, lt-ltb, not-true, not_from_false, not_from_true, false_from_ne_true, true_from_ne_false, both_ways}
+use Rattle.std.proofs.lemmas.Bool.{and_parts, and_from, eqb-true, lt-ltb, not-true, not_from_false, not_from_true, false_from_ne_true, true_from_ne_false, both_ways}
 use Rattle.sd_drill.specs.Num.Lists.{has, map_or, same_number}
 use Rattle.sd_drill.specs.Topo.Network.{Network, Each}
+use Rattle.sd_drill.specs.Topo.declared.Thing.{Thing}
 use Rattle.sd_drill.specs.Topo.declared.Thing.TheVariants as thing
 use Rattle.sd_drill.specs.Domain.Domains.{holds}
 use Rattle.sd_drill.specs.Domain.declared.DomainId.{DomainId}
 use Rattle.sd_drill.specs.Plan.declared.Plan.{Plan}
 use Rattle.sd_drill.specs.Plan.declared.Hop.{Hop}
 use Rattle.sd_drill.specs.Plan.Plans.{is_member, is_root, is_backup_root}
-use Rattle.sd_drill.specs.Plan.Walks.{walk, epath, is_hit}
+use Rattle.sd_drill.specs.Plan.Walks.{walk, path, epath, is_hit}
 use Rattle.sd_drill.specs.Plan.Duties.{duty_of}
 use Rattle.sd_drill.specs.CheckRoot.Roots.{fallback_devices}
 use Rattle.sd_proof_safety.specs.Core.Calls.{Past}
@@ -23,11 +24,12 @@ use Rattle.sd_proof_safety.specs.History.Steps.{Step, seen_of, acts_in}
 use Rattle.sd_proof_safety.specs.History.Chronicle.{answers_by, past_in}
 use Rattle.sd_proof_safety.proofs.History.Given.{some_is}
 use Rattle.sd_drill.specs.declared.Budget.{Budget}
-use Rattle.sd_proof_safety.specs.invariant.Eras.{plan_now, era, failed_now, device_failed_now, is_old, is_new, is_blank, live_past, moved, on_primary, belongs, is_ordinary, hit, touches, root_failed}
+use Rattle.sd_proof_safety.specs.invariant.Eras.{plan_now, era, failed_now, device_failed_now, is_old, is_new, is_blank, live_past, moved, on_primary, belongs, is_ordinary, is_among, hit, touches, path_hit, root_failed}
 use Rattle.sd_proof_safety.specs.invariant.Clauses.{is_beginning, above_backup_root, backup_root_stays, backup_root_moved, backup_root_acts}
 use Rattle.sd_proof_safety.specs.invariant.Invariant.{Core, Invariant}
 use Rattle.sd_proof_safety.specs.invariant.Guarded.{AreGuarded, IsSteady}
 use Rattle.sd_proof_safety.specs.invariant.Kept.{StaysInvariant}
+use Rattle.sd_proof_safety.proofs.entering.SoundWays.{nothing_touches}
 use Rattle.sd_proof_safety.proofs.invariant.Domains.{touched_is_hit}
 use Rattle.sd_proof_safety.proofs.invariant.Empty.{core_empty}
 use Rattle.sd_proof_safety.proofs.invariant.Parents.{live_is, IsOld, old_is}
@@ -36,11 +38,12 @@ use Rattle.sd_proof_safety.specs.messages.Moments.{Tail}
 use Rattle.sd_proof_safety.proofs.messages.Tails.{tail_all}
 use Rattle.sd_proof_safety.proofs.messages.Prefixes.{all_but_start_before}
 use Rattle.sd_proof_safety.proofs.moves.Tickings.{first_only}
+use Rattle.sd_proof_bound.specs.Bound.{failures}
 use Rattle.sd_proof_bound.specs.Recovering.{steps_under}
 use Rattle.sd_proof_bound.specs.Steady.{RecoversSteadily}
 use Rattle.sd_proof_bound.proofs.Composing.{tail_steps, tail_history}
 use Rattle.sd_proof_bound.proofs.histories.Plain.{IsPlain, tail_plain, none_any, not_in_window, none_closed, first_epoch, plan_is}
-use Rattle.sd_proof_bound.proofs.histories.Failures.{fails_within, all_within, era_within, never_failed}
+use Rattle.sd_proof_bound.proofs.histories.Failures.{fails_within, all_within, era_within, never_failed, none_failed_now}
 
 -- a device that is up, by its past
 pub record IsLive (net : Network) (plan : Plan) (history : List Event) (d : ℕ) (past : Past) : Type 0 where
@@ -63,6 +66,10 @@ pub record Stands (net : Network) (plan : Plan) (f : DomainId) (history : List E
   -- who is on its backup is hit by the domain
   pub hit : (d : ℕ) → is_ordinary plan d ≡ true → is_up (seen_of (steps_under net plan history)) d ≡ true → moved (steps_under net plan history) d ≡ true
       → is_hit net plan f d ≡ true
+  -- while nothing has failed, nobody but the root acts, and nobody has moved
+  pub idle : failures (seen_of (steps_under net plan history)) ≡ [] → acts_in (steps_under net plan history) plan.backup_root ≡ false
+  pub unmoved : failures (seen_of (steps_under net plan history)) ≡ [] → (d : ℕ) → is_member plan d ≡ true
+      → is_up (seen_of (steps_under net plan history)) d ≡ true → is_root plan d ≡ false → moved (steps_under net plan history) d ≡ false
   -- while the backup root is on its primary, so is who is up above it
   pub path : (past : Past) → is_member plan plan.backup_root ≡ true → is_up (seen_of (steps_under net plan history)) plan.backup_root ≡ true
       → past_in (steps_under net plan history) plan.backup_root ≡ Some past
@@ -198,6 +205,50 @@ module _ (net : Network) (plan : Plan) (budget : Budget) (f : DomainId) (stays :
         subst (λ p. touches (failed_now steps) (epath net p d) ≡ true) now (and_parts (hit (alone net plan) steps d) _ caused).0 in
         touched_is_hit net f (failed_now steps) (epath net plan d) (failures_held history t) touched
 
+    idle_of : failures (seen_of steps) ≡ [] → acts_in steps plan.backup_root ≡ false
+    idle_of none =
+        false_from_ne_true (acts_in steps plan.backup_root)
+        (λ acts.
+        both_ways (root_failed (alone net plan) steps)
+        (subst (λ failed. is_among failed (thing.Device (plan_now (alone net plan) steps).root) ≡ false) (sym (none_failed_now (seen_of steps) none)) refl)
+        (implied (backup_root_acts (alone net plan) steps) (root_failed (alone net plan) steps) (core history t).causes.takeover
+        (in_force (λ p. acts_in steps p.backup_root ≡ true) acts)))
+
+    none_touched : failures (seen_of steps) ≡ [] → (things : List Thing) → touches (failed_now steps) things ≡ false
+    none_touched none things =
+        subst (λ failed. touches failed things ≡ false) (sym (none_failed_now (seen_of steps) none)) (nothing_touches things)
+
+    unmoved_of : failures (seen_of steps) ≡ [] → (d : ℕ) → is_member plan d ≡ true → is_up (seen_of steps) d ≡ true → is_root plan d ≡ false
+        → moved steps d ≡ false
+    unmoved_of none d member up other = by (is_backup_root plan d) refl
+      where
+        by : (b : Bool) → is_backup_root plan d ≡ b → moved steps d ≡ false
+        by false is =
+            false_from_ne_true (moved steps d)
+            (λ put.
+            both_ways (hit (alone net plan) steps d) (none_touched none (epath net (plan_now (alone net plan) steps) d))
+            (and_parts (hit (alone net plan) steps d) _
+            (implied (is_old steps d && is_ordinary (plan_now (alone net plan) steps) d && moved steps d) _ ((core history t).causes.backups d)
+            (and_from (is_old steps d && is_ordinary (plan_now (alone net plan) steps) d) (moved steps d)
+            (and_from (is_old steps d) (is_ordinary (plan_now (alone net plan) steps) d) (old_of d member up)
+            (in_force (λ p. is_ordinary p d ≡ true)
+            (and_from (is_member plan d && not (is_root plan d)) (not (is_backup_root plan d))
+            (and_from (is_member plan d) (not (is_root plan d)) member (not_from_false (is_root plan d) other))
+            (not_from_false (is_backup_root plan d) is)))) put))).0)
+        by true is =
+            let same : plan.backup_root ≡ d = eqb-true plan.backup_root d is in
+            false_from_ne_true (moved steps d)
+            (λ put.
+            both_ways (path_hit (alone net plan) steps (plan_now (alone net plan) steps).backup_root)
+            (none_touched none (path net (plan_now (alone net plan) steps) (plan_now (alone net plan) steps).backup_root))
+            (implied
+            (is_old steps (plan_now (alone net plan) steps).backup_root && moved steps (plan_now (alone net plan) steps).backup_root)
+            (path_hit (alone net plan) steps (plan_now (alone net plan) steps).backup_root) (core history t).causes.move
+            (in_force (λ p. (is_old steps p.backup_root && moved steps p.backup_root) ≡ true)
+            (and_from (is_old steps plan.backup_root) (moved steps plan.backup_root)
+            (subst (λ x. is_old steps x ≡ true) (sym same) (old_of d member up))
+            (subst (λ x. moved steps x ≡ true) (sym same) put)))))
+
     primary_stays : (past : Past) → is_member plan plan.backup_root ≡ true → is_up (seen_of steps) plan.backup_root ≡ true
         → past_in steps plan.backup_root ≡ Some past → has_moved past ≡ false → is_acting past ≡ false
         → backup_root_stays (alone net plan) steps ≡ true
@@ -309,6 +360,8 @@ module _ (net : Network) (plan : Plan) (budget : Budget) (f : DomainId) (stays :
         root = root_acts_ history t;
         ordinary = follows history t;
         hit = hit_when_moved history t;
+        idle = idle_of history t;
+        unmoved = unmoved_of history t;
         path = path_keeps history t;
         beginning = begins_ history t;
         fallback = λ member up moved_ idle x member_x within falls.

@@ -1,0 +1,51 @@
+-- The number of a healthy fabric: while nothing has failed, no report of a live device is above it. It speaks of the root's uncertainty, the halves of the
+-- device's path, and how long a device with a whole path hears nothing.
+use Rattle.std.specs.Prelude.{◌≡◌, ℕ, ◌+◌, ◌≤◌, List, [], ◌∷◌, Some, IsTrue}
+use Rattle.sd_drill.specs.Topo.Network.{Network, rates_of}
+use Rattle.sd_drill.specs.Topo.Limits.{IsNetwork}
+use Rattle.sd_drill.specs.Plan.declared.Plan.{Plan}
+use Rattle.sd_drill.specs.Plan.Plans.{Fits}
+use Rattle.sd_drill.specs.Plan.Walks.{walk}
+use Rattle.sd_drill.specs.ages.Ages.{IsOldest, ageing}
+use Rattle.sd_drill.specs.recovery.Walks.{halves}
+use Rattle.sd_drill.specs.declared.Budget.{Budget}
+use Rattle.sd_proof_safety.specs.Clock.declared.Report.{Report}
+use Rattle.sd_proof_safety.specs.Sched.declared.Event.{Event}
+use Rattle.sd_proof_safety.specs.History.World.{is_counted, alone}
+use Rattle.sd_proof_safety.specs.History.Steps.{seen_of}
+use Rattle.sd_proof_safety.specs.History.Chronicle.{next_step}
+use Rattle.sd_proof_safety.specs.History.Admitted.{IsAdmitted}
+use Rattle.sd_proof_safety.specs.History.Lines.{asked_report}
+use Rattle.sd_proof_safety.specs.invariant.Guarded.{IsGuarded, all_but_start_hold}
+use Rattle.sd_proof_bound.specs.Bound.{no_stage, within_base, within_hold, failures}
+use Rattle.sd_proof_bound.specs.Recovering.{steps_under}
+use Rattle.sd_proof_bound.specs.ages.Sums.{lag}
+
+-- A history of any length under one guarded plan, in which nothing is staged and nothing has failed: all premises but start hold, clocks are set within
+-- the base, and acting roots hold their estimates no longer than the budget says.
+pub record RunsCalmly (net : Network) (plan : Plan) (budget : Budget) (history : List Event) : Type 0 where
+  pub network : IsNetwork net
+  pub fits : Fits net plan
+  pub guarded : IsGuarded net plan
+  pub is : IsAdmitted (alone net plan) history
+  pub premises : IsTrue (all_but_start_hold (alone net plan) (seen_of (steps_under net plan history)))
+  pub unstaged : IsTrue (no_stage (seen_of (steps_under net plan history)))
+  pub based : IsTrue (within_base budget (seen_of (steps_under net plan history)))
+  pub held : IsTrue (within_hold budget (steps_under net plan history))
+  pub unfailed : failures (seen_of (steps_under net plan history)) ≡ []
+
+-- w is the calm number of device d
+pub record IsCalm (net : Network) (plan : Plan) (budget : Budget) (d w : ℕ) : Type 0 where
+  pub oldest : ℕ
+  pub is_oldest : IsOldest (rates_of net d) (lag net) oldest
+  pub sum : w
+      ≡ budget.base + ageing (rates_of net plan.root) budget.hold + halves net d (walk net plan d) + ageing (rates_of net d) oldest
+
+-- no report of a live device is above its calm number, as long as nothing has failed up to the report
+abbrev pub CalmHolds : Network → Plan → Budget → Type 0
+CalmHolds net plan budget =
+    (d w : ℕ) → IsCalm net plan budget d w
+    → (e : Event) (history : List Event) (report : Report) → RunsCalmly net plan budget (e ∷ history)
+    → asked_report (next_step (alone net plan) (steps_under net plan history) e) ≡ Some (d, report)
+    → IsTrue (is_counted (alone net plan) (seen_of (steps_under net plan history)) d)
+    → report.eps ≤ w
