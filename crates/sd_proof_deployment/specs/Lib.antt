@@ -1,0 +1,3 @@
+pub mod Deployment
+pub mod Laws
+pub mod Receipts

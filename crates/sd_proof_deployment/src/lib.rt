@@ -1,0 +1,2 @@
+//! Deployed fleets: devices that call the exports of the C library over a network are a history.
+#![tactic(auto)]
