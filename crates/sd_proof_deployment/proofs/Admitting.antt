@@ -1,26 +1,25 @@
 -- The rules admit each moment of a deployed fleet: no cause of a refusal holds.
-use Rattle.std.specs.Prelude.{◌≡◌, ℕ, ◌+◌, ◌≤◌, Bool, true, false, ◌&&◌, ◌||◌, not, List, [], ◌∷◌, ◌++◌, length, Option, Some, None, nat_eq, nat_lt, nat_le, max, refl, ◌⊎◌, if◌then◌else◌}
-use Rattle.std.specs.List.{list_any}
-use Rattle.std.proofs.Common.{arith, sym, ◌∙◌, ap, subst, inl, inr}
+use Rattle.std.specs.Prelude.{◌≡◌, ℕ, ◌+◌, ◌≤◌, Bool, true, false, ◌&&◌, ◌||◌, not, List, [], ◌∷◌, Option, Some, None, nat_eq, nat_lt, max, refl}
+use Rattle.std.proofs.Common.{arith, sym, ◌∙◌, ap, inl, inr}
 use Rattle.std.proofs.lemmas.Bool.{and_from, or_from, eqb-true, eq-eqb, ltb-false, le-ltb, ne_eqb}
 use Rattle.sd_num.proofs.Firsts.{find_passes}
-use Rattle.sd_history.specs.Sched.Num.Lists.{map_or, same_number}
-use Rattle.sd_history.specs.Sched.declared.Event.{Event}
-use Rattle.sd_history.specs.Sched.declared.Event.TheVariants as event
-use Rattle.sd_history.specs.Sched.Events.{reference_of, is_end_event}
-use Rattle.sd_history.specs.Core.Msg.declared.Flight.{Flight}
-use Rattle.sd_history.specs.Core.Living.{Life}
-use Rattle.sd_history.specs.declared.ApplyFault.{ApplyFault}
-use Rattle.sd_history.specs.declared.ApplyFault.TheVariants as fault
-use Rattle.sd_history.specs.World.{Setting, latest_reference}
-use Rattle.sd_history.specs.Steps.{Act, Answers, Told, Step, seen_of, changed, act_by, flights, flight_count, flight_numbered, flights_by, flights_of, step_of}
-use Rattle.sd_history.specs.Refusals.{unknown_message, spent_message, wrong_device, after_end, too_many, time_falls, is_spent, was_used, was_swept}
-use Rattle.sd_history.specs.Admitted.{is_count, Admits}
-use Rattle.sd_history.specs.flights.Flights.{AreNumberedOn}
-use Rattle.sd_history.proofs.Among.{Among, either_side, found}
-use Rattle.sd_history.proofs.flights.Sending.{numbered_by, counted}
-use Rattle.sd_history.proofs.flights.Finds.{within}
-use Rattle.sd_proof_deployment.specs.Deployment.{Moment, steps_of, IsDelivered, IsCallOf, IsOrderly, MayCome, IsDeployment}
+use Rattle.sd_proof_bound.specs.History.Sched.Num.Lists.{map_or}
+use Rattle.sd_proof_bound.specs.History.Sched.declared.Event.{Event}
+use Rattle.sd_proof_bound.specs.History.Sched.declared.Event.TheVariants as event
+use Rattle.sd_proof_bound.specs.History.Sched.Events.{reference_of, is_end_event}
+use Rattle.sd_proof_bound.specs.History.Core.Msg.declared.Flight.{Flight}
+use Rattle.sd_proof_bound.specs.History.Core.Living.{Life}
+use Rattle.sd_proof_bound.specs.History.declared.ApplyFault.{ApplyFault}
+use Rattle.sd_proof_bound.specs.History.declared.ApplyFault.TheVariants as fault
+use Rattle.sd_proof_bound.specs.History.World.{Setting, latest_reference}
+use Rattle.sd_proof_bound.specs.History.Steps.{Act, Answers, Told, Step, seen_of, changed, act_by, flights, flight_count, flights_by, flights_of, step_of}
+use Rattle.sd_proof_bound.specs.History.Refusals.{unknown_message, spent_message, wrong_device, after_end, too_many, time_falls, is_spent, was_used, was_swept}
+use Rattle.sd_proof_bound.specs.History.Admitted.{is_count, Admits}
+use Rattle.sd_proof_bound.specs.History.flights.Flights.{AreNumberedOn}
+use Rattle.sd_proof_bound.proofs.ProofSafety.History.Among.{Among, either_side, found}
+use Rattle.sd_proof_bound.proofs.ProofSafety.History.flights.Sending.{numbered_by, counted}
+use Rattle.sd_proof_bound.proofs.ProofSafety.History.flights.Finds.{within}
+use Rattle.sd_proof_deployment.specs.Deployment.{Moment, steps_of, IsDelivered, IsCallOf, MayCome, IsDeployment}
 
 -- Numbers of flights
 

@@ -1,13 +1,13 @@
 -- Each run of a deployed fleet is a history: its calls are the steps of the history, and its answers are what the devices tell there.
-use Rattle.std.specs.Prelude.{◌≡◌, ◌≤◌, ◌^◌, List, [], ◌∷◌, length, map, refl}
-use Rattle.std.proofs.Common.{arith, sym, ◌∙◌, ap, subst}
-use Rattle.sd_history.specs.Core.Living.{Life}
-use Rattle.sd_history.specs.World.{Setting}
-use Rattle.sd_history.specs.Steps.{Step, act_by, step_of}
-use Rattle.sd_history.specs.Chronicle.{told_by, next_step, chronicle, IsHistory}
-use Rattle.sd_history.specs.Admitted.{Admits, IsAdmitted}
+use Rattle.std.specs.Prelude.{◌≡◌, List, [], ◌∷◌, map, refl}
+use Rattle.std.proofs.Common.{sym, ◌∙◌, ap, subst}
+use Rattle.sd_proof_bound.specs.History.Core.Living.{Life}
+use Rattle.sd_proof_bound.specs.History.World.{Setting}
+use Rattle.sd_proof_bound.specs.History.Steps.{Step, step_of}
+use Rattle.sd_proof_bound.specs.History.Chronicle.{told_by, next_step, chronicle}
+use Rattle.sd_proof_bound.specs.History.Admitted.{Admits, IsAdmitted}
 use Rattle.sd_proof_deployment.specs.Deployment.{Moment, steps_of, MayCome, IsDeployment}
-use Rattle.sd_proof_deployment.specs.Laws.{events_in, IsItsHistory, IsHistoryOf}
+use Rattle.sd_proof_deployment.specs.Laws.{events_in, IsHistoryOf}
 use Rattle.sd_proof_deployment.proofs.Telling.{call_is, Goes, moment_goes, all_live}
 use Rattle.sd_proof_deployment.proofs.Admitting.{admits}
 

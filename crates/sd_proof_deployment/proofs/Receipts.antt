@@ -1,25 +1,24 @@
 -- Of the receipts of one message over one link at most one counts: stamps only rise while the plan of the device stays, and a plan that was left does not come
 -- back.
-use Rattle.std.specs.Prelude.{◌≡◌, ℕ, ◌+◌, ◌<◌, ◌≤◌, Bool, true, false, ◌&&◌, ◌||◌, not, List, [], ◌∷◌, Option, Some, None, nat_eq, nat_lt, is_some, option_map, option_and_then, IsTrue, refl, ◌⊎◌, if◌then◌else◌}
+use Rattle.std.specs.Prelude.{◌≡◌, ℕ, ◌+◌, ◌<◌, ◌≤◌, Bool, true, false, ◌&&◌, ◌||◌, not, List, [], ◌∷◌, Option, Some, None, nat_eq, nat_lt, is_some, option_map, option_and_then, refl, ◌⊎◌, if◌then◌else◌}
 use Rattle.std.specs.List.{list_all}
-use Rattle.std.proofs.Common.{arith, sym, ◌∙◌, ap, subst, inl, inr}
-use Rattle.std.proofs.lemmas.Bool.{and_parts, and_from, or_parts, or_from, eqb-true, eq-eqb, ltb-false, le-ltb, not-true}
+use Rattle.std.proofs.Common.{arith, sym, ◌∙◌, ap, inl, inr}
+use Rattle.std.proofs.lemmas.Bool.{and_parts, or_from, not-true}
 use Rattle.std.proofs.lemmas.Bool.Decides.{nat_tests}
-use Rattle.sd_history.specs.Sched.Num.Lists.{map_or}
-use Rattle.sd_history.specs.Core.Plan.declared.Duty.{Duty}
-use Rattle.sd_history.specs.Core.Plan.declared.Edge.{Edge}
-use Rattle.sd_history.specs.Core.Msg.declared.Stamp.{Stamp}
-use Rattle.sd_history.specs.Core.Msg.declared.Message.{Message}
-use Rattle.sd_history.specs.Core.Msg.Stamps.{stamp, is_newer}
-use Rattle.sd_history.specs.Core.declared.Effect.{Effect}
-use Rattle.sd_history.specs.Core.declared.registers.Registers.{Registers}
-use Rattle.sd_history.specs.Core.declared.registers.Mode.TheVariants.{Acting}
-use Rattle.sd_history.specs.Core.declared.turns.Turn.{Turn}
-use Rattle.sd_history.specs.Core.declared.turns.Turn.TheVariants.{Emit, TakeOver, Move, Stay}
-use Rattle.sd_history.specs.Core.Calls as calls
-use Rattle.sd_history.specs.Core.Calls.{Call}
-use Rattle.sd_history.specs.Core.Words.{over_link}
-use Rattle.sd_history.specs.Core.Rules.{called, turned, turn_of, epoch_in, edge_in, entering, accepting, accepted, entered, received, committed, with_duty, quietly, is_acting_mode}
+use Rattle.sd_proof_bound.specs.History.Sched.Num.Lists.{map_or}
+use Rattle.sd_proof_bound.specs.History.Core.Plan.declared.Duty.{Duty}
+use Rattle.sd_proof_bound.specs.History.Core.Plan.declared.Edge.{Edge}
+use Rattle.sd_proof_bound.specs.History.Core.Msg.declared.Stamp.{Stamp}
+use Rattle.sd_proof_bound.specs.History.Core.Msg.declared.Message.{Message}
+use Rattle.sd_proof_bound.specs.History.Core.Msg.Stamps.{stamp, is_newer}
+use Rattle.sd_proof_bound.specs.History.Core.declared.registers.Registers.{Registers}
+use Rattle.sd_proof_bound.specs.History.Core.declared.registers.Mode.TheVariants.{Acting}
+use Rattle.sd_proof_bound.specs.History.Core.declared.turns.Turn.{Turn}
+use Rattle.sd_proof_bound.specs.History.Core.declared.turns.Turn.TheVariants.{Emit, TakeOver, Move, Stay}
+use Rattle.sd_proof_bound.specs.History.Core.Calls as calls
+use Rattle.sd_proof_bound.specs.History.Core.Calls.{Call}
+use Rattle.sd_proof_bound.specs.History.Core.Words.{over_link}
+use Rattle.sd_proof_bound.specs.History.Core.Rules.{called, turned, turn_of, epoch_in, edge_in, entering, accepting, accepted, entered, committed, with_duty, quietly, is_acting_mode}
 use Rattle.sd_proof_deployment.specs.Receipts.{counts, after_calls, is_given, gives, OthersChangeNothing, CountsOnce}
 
 -- What does not count

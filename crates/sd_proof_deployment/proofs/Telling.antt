@@ -1,22 +1,22 @@
 -- In a deployed fleet each struct stands for the life of its device, so each device tells what the words on devices say of it.
-use Rattle.std.specs.Prelude.{◌≡◌, ℕ, Bool, true, false, List, [], ◌∷◌, Option, Some, None, nat_eq, option_map, refl, option_and_then, if◌then◌else◌}
+use Rattle.std.specs.Prelude.{◌≡◌, ℕ, Bool, true, false, List, [], ◌∷◌, Some, None, nat_eq, option_map, refl, option_and_then, if◌then◌else◌}
 use Rattle.std.proofs.Common.{sym, ◌∙◌, ap, subst}
 use Rattle.std.proofs.lemmas.Bool.{eqb-true, eq-eqb}
 use Rattle.std.proofs.lemmas.Option.{same_Some}
-use Rattle.sd_history.specs.Sched.Num.Lists.{map_or, same_number}
-use Rattle.sd_history.specs.Sched.declared.Event.{Event}
-use Rattle.sd_history.specs.Sched.declared.Event.TheVariants as event
-use Rattle.sd_history.specs.Core.Calls as calls
-use Rattle.sd_history.specs.Core.Calls.{Making, Call}
-use Rattle.sd_history.specs.Core.Living.{Life}
-use Rattle.sd_history.specs.Core.Lives.{longer}
-use Rattle.sd_history.specs.Core.Standing.{alone}
-use Rattle.sd_history.specs.World.{Setting}
-use Rattle.sd_history.specs.Steps.{Act, Makes, Calls, Asks, Passes, Step, changed, act_by, step_of}
-use Rattle.sd_history.specs.Lives.{life_in, life_after}
-use Rattle.sd_history.specs.Chronicle.{told_by}
-use Rattle.sd_history.specs.Nodes.{addressed}
-use Rattle.sd_history.proofs.Tellings.{making_tells, call_tells, report_tells}
+use Rattle.sd_proof_bound.specs.History.Sched.Num.Lists.{map_or, same_number}
+use Rattle.sd_proof_bound.specs.History.Sched.declared.Event.{Event}
+use Rattle.sd_proof_bound.specs.History.Sched.declared.Event.TheVariants as event
+use Rattle.sd_proof_bound.specs.History.Core.Calls as calls
+use Rattle.sd_proof_bound.specs.History.Core.Calls.{Making, Call}
+use Rattle.sd_proof_bound.specs.History.Core.Living.{Life}
+use Rattle.sd_proof_bound.specs.History.Core.Lives.{longer}
+use Rattle.sd_proof_bound.specs.History.Core.Standing.{alone}
+use Rattle.sd_proof_bound.specs.History.World.{Setting}
+use Rattle.sd_proof_bound.specs.History.Steps.{Act, Makes, Calls, Asks, Passes, Step, changed, act_by}
+use Rattle.sd_proof_bound.specs.History.Lives.{life_in, life_after}
+use Rattle.sd_proof_bound.specs.History.Chronicle.{told_by}
+use Rattle.sd_proof_bound.specs.History.Nodes.{addressed}
+use Rattle.sd_proof_bound.proofs.ProofSafety.History.Tellings.{making_tells, call_tells, report_tells}
 use Rattle.sd_proof_deployment.specs.Deployment.{Moment, steps_of, struct_in, IsMade, IsCalled, IsAsked, Exports, IsCallOf, MayCome, IsDeployment}
 
 -- the call of an event is what the event does

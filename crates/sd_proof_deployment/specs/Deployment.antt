@@ -3,25 +3,25 @@
 --
 -- A struct may be of any kind. `StandsIn` says for which lives it stands. For the struct of the C library that is `StandsIn` of sd_device_c, and the
 -- records on exports say what the contracts of its exports say where the answer is 0. Any other answer changes nothing, and is no moment.
-use Rattle.std.specs.Prelude.{◌≡◌, ℕ, ◌≤◌, Bool, true, false, List, [], ◌∷◌, Option, Some, None, option_and_then, if◌then◌else◌}
-use Rattle.sd_history.specs.Sched.Num.Lists.{same_number, find_map_or}
-use Rattle.sd_history.specs.Sched.declared.Event.{Event}
-use Rattle.sd_history.specs.Sched.declared.Event.TheVariants as event
-use Rattle.sd_history.specs.Core.Clock.declared.Report.{Report}
-use Rattle.sd_history.specs.Core.Msg.declared.Flight.{Flight}
-use Rattle.sd_history.specs.Core.declared.Effect.{Effect}
-use Rattle.sd_history.specs.Core.Calls as calls
-use Rattle.sd_history.specs.Core.Calls.{Making, Call, Past}
-use Rattle.sd_history.specs.Core.Living.{Life}
-use Rattle.sd_history.specs.Core.Words.{effect_of, report_at}
-use Rattle.sd_history.specs.Core.Lives.{past_of, longer}
-use Rattle.sd_history.specs.Core.Standing.{alone}
-use Rattle.sd_history.specs.World.{Setting}
-use Rattle.sd_history.specs.Steps.{Act, Makes, Calls, Asks, Passes, Answers, Told, tells_nothing, tells_made, tells_called, Step, seen_of, changed, act_by, step_of, flight_numbered}
-use Rattle.sd_history.specs.Lives.{tells_report}
-use Rattle.sd_history.specs.Chronicle.{answers_by}
-use Rattle.sd_history.specs.Nodes.{addressed}
-use Rattle.sd_history.specs.Refusals.{was_used, was_swept, unknown_device, unknown_link, dead_device, dead_link, time_falls, counter_falls, not_started, started_twice, no_plan_left, window_order, not_failed, not_member}
+use Rattle.std.specs.Prelude.{◌≡◌, ℕ, ◌≤◌, true, false, List, [], ◌∷◌, Option, Some, None, option_and_then, if◌then◌else◌}
+use Rattle.sd_proof_bound.specs.History.Sched.Num.Lists.{same_number, find_map_or}
+use Rattle.sd_proof_bound.specs.History.Sched.declared.Event.{Event}
+use Rattle.sd_proof_bound.specs.History.Sched.declared.Event.TheVariants as event
+use Rattle.sd_proof_bound.specs.History.Core.Clock.declared.Report.{Report}
+use Rattle.sd_proof_bound.specs.History.Core.Msg.declared.Flight.{Flight}
+use Rattle.sd_proof_bound.specs.History.Core.declared.Effect.{Effect}
+use Rattle.sd_proof_bound.specs.History.Core.Calls as calls
+use Rattle.sd_proof_bound.specs.History.Core.Calls.{Making, Call, Past}
+use Rattle.sd_proof_bound.specs.History.Core.Living.{Life}
+use Rattle.sd_proof_bound.specs.History.Core.Words.{effect_of, report_at}
+use Rattle.sd_proof_bound.specs.History.Core.Lives.{past_of, longer}
+use Rattle.sd_proof_bound.specs.History.Core.Standing.{alone}
+use Rattle.sd_proof_bound.specs.History.World.{Setting}
+use Rattle.sd_proof_bound.specs.History.Steps.{Act, Makes, Calls, Asks, Passes, Answers, Told, tells_nothing, tells_made, tells_called, Step, seen_of, changed, act_by, step_of, flight_numbered}
+use Rattle.sd_proof_bound.specs.History.Lives.{tells_report}
+use Rattle.sd_proof_bound.specs.History.Chronicle.{answers_by}
+use Rattle.sd_proof_bound.specs.History.Nodes.{addressed}
+use Rattle.sd_proof_bound.specs.History.Refusals.{was_used, was_swept, unknown_device, unknown_link, dead_device, dead_link, time_falls, counter_falls, not_started, started_twice, no_plan_left, window_order, not_failed, not_member}
 
 -- What happened at one moment: the event, the call of an export with its arguments, the struct that the call left, and what the device told: what it
 -- sent, and what it answers of itself from then on; or its report.

@@ -1,3 +1,4 @@
 pub mod Deployment
 pub mod Laws
 pub mod Receipts
+pub mod Witness

@@ -1,11 +1,11 @@
 -- Receipts of one message: of all that come over one link at most one counts, and each other one changes nothing.
 use Rattle.std.specs.Prelude.{◌≡◌, ℕ, Bool, false, ◌||◌, List, [], ◌∷◌, nat_eq, is_some, not, IsTrue}
 use Rattle.std.specs.List.{list_all}
-use Rattle.sd_history.specs.Sched.Num.Lists.{map_or}
-use Rattle.sd_history.specs.Core.Msg.declared.Message.{Message}
-use Rattle.sd_history.specs.Core.declared.registers.Registers.{Registers}
-use Rattle.sd_history.specs.Core.Calls.{Call, Receive, Give}
-use Rattle.sd_history.specs.Core.Rules.{called, entering, accepting, quietly}
+use Rattle.sd_proof_bound.specs.History.Sched.Num.Lists.{map_or}
+use Rattle.sd_proof_bound.specs.History.Core.Msg.declared.Message.{Message}
+use Rattle.sd_proof_bound.specs.History.Core.declared.registers.Registers.{Registers}
+use Rattle.sd_proof_bound.specs.History.Core.Calls.{Call, Receive, Give}
+use Rattle.sd_proof_bound.specs.History.Core.Rules.{called, entering, accepting, quietly}
 
 -- a message over this link counts: the device takes up a duty by it, or accepts it from its parent
 abbrev pub counts : Registers → ℕ → Message → Bool
