@@ -1,1 +1,3 @@
+pub mod Words
 pub mod Complaints
+pub mod Endings

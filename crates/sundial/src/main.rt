@@ -4,58 +4,21 @@
 
 mod complaint;
 mod edge;
+mod ending;
 
-use complaint::{Complaint, complaint_of};
-use edge::{behind_first, exit_of};
+use edge::words_of;
+use ending::{end_without_words, run_to_end};
 use sd_num::NoMemory;
-use sd_outside::{FileShelf, StdSink};
-use sd_top::{Status, run};
-use std::io::ErrorKind;
 use std::process::ExitCode;
 use std::{env, io};
 
-/// The words after the program's name. Words that are no text stand in no table, so they count as
-/// none at all.
-fn words_of(rt: &HostRuntime) -> Result<Vec<String>, NoMemory> {
-    let mut words = Vec::new(rt.alloc());
-    let all = match env::args(rt) {
-        Ok(all) => all,
-        Err(error) if error.kind() == ErrorKind::OutOfMemory => return Err(NoMemory),
-        Err(_) => return Ok(words),
-    };
-    for word in all {
-        if words.push(word).is_err() {
-            return Err(NoMemory);
-        }
-    }
-    Ok(behind_first(words))
-}
-
-/// Writes a line to standard error. The run has its status already, so a line that cannot be
-/// written is left out.
-fn tell(rt: &HostRuntime, complaint: Option<Complaint<'_>>) {
-    if let Some(complaint) = complaint {
-        let _ = eprintln!(rt; "{complaint}");
-    }
-}
-
 fn main(rt: HostRuntime) -> ExitCode {
-    let status = match words_of(&rt) {
+    let mut errors = &rt;
+    match words_of(rt.alloc(), env::args(&rt)) {
         Ok(words) => {
             let words = words.as_slice();
-            let mut shelf = FileShelf::new(&rt);
-            let mut out = StdSink::new(io::writer(&rt));
-            let status = run(rt.alloc(), words, &mut shelf, &mut out);
-            tell(
-                &rt,
-                complaint_of(status, words, shelf.last_fault(), out.last_fault()),
-            );
-            status
+            run_to_end(rt.alloc(), words, &rt, io::writer(&rt), &mut errors)
         }
-        Err(NoMemory) => {
-            tell(&rt, complaint_of(Status::Memory, &[], None, None));
-            Status::Memory
-        }
-    };
-    exit_of(status)
+        Err(NoMemory) => end_without_words(&mut errors),
+    }
 }
