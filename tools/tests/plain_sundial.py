@@ -4,9 +4,8 @@
 import os
 import sys
 
-import support  # noqa: F401  (puts the package on the path)
+from support import run_tool
 
-from sundial_tools.errors import run_tool
 from sundial_tools.plain.main import main
 from sundial_tools.topology import read_topology, topology_text
 

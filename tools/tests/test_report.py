@@ -7,6 +7,7 @@ import shutil
 import subprocess
 import sys
 import unittest
+from fractions import Fraction
 from unittest import mock
 
 import case
@@ -19,9 +20,9 @@ from sundial_tools.plan import read_plan
 from sundial_tools.report.effects import Effects, fault_domains
 from sundial_tools.report.main import main
 from sundial_tools.report.replay import Replay
-from sundial_tools.report.replay_view import ReplayView, greatest
+from sundial_tools.report.replay_view import Drawn, ReplayView, greatest
 from sundial_tools.report.series import MOST_INTERVALS, MOST_REPORTS, Interval, Peaks, Percentiles, Report, Reports
-from sundial_tools.report.units import exact, human, round_steps
+from sundial_tools.report.units import clear, column, exact, human, readable, round_steps
 from sundial_tools.schedule import parse_event
 from sundial_tools.topology import parse_topology, read_topology
 
@@ -64,6 +65,11 @@ def replayed(name, schedule, command, path, plans=1):
     (path / "output").write_text(outputs(name)[command])
     here = EXAMPLES / name
     return page(here / "topology.toml", *[here / "plan.json"] * plans, "--replay", here / schedule, path / "output")
+
+
+def microseconds(text):
+    """The picoseconds of a number of microseconds, all of whose digits are there."""
+    return int(Fraction(text.replace(",", "")) * 10**6)
 
 
 def names(nodes, topology):
@@ -444,11 +450,11 @@ class Drills(unittest.TestCase):
     def test_the_greatest_come_first(self):
         bounds = [int(line[4]) for line in self.lines if line[0] == "bound"]
         for name, column in ("by-domain", 2), ("by-device", 1):
-            values = [int(row[column][:-3].replace(",", "")) for row in self.rows(name)]
+            values = [microseconds(row[column]) for row in self.rows(name)]
             self.assertEqual(values, sorted(values, reverse=True))
             self.assertEqual(values[0], max(bounds))
         first = self.tree.one("table", "heat").one("tbody").all("td", "cell")[0]
-        self.assertIn(exact(max(bounds)), first["title"])
+        self.assertIn(clear(max(bounds)), first["title"])
         self.assertLessEqual({"a8", "g8"}, set(first.classes))
 
     def test_two_scales_from_0_and_by_logarithm(self):
@@ -463,7 +469,7 @@ class Drills(unittest.TestCase):
             self.assertEqual(linear, f"--linear:{int(cell['data-value']) / max(bounds):.1%}")
             self.assertTrue(log.startswith("--log:"))
         ramps = {node.classes[-1]: node.text for node in self.tree.all("p", "ramp")}
-        self.assertTrue(ramps["linear"].startswith("0 ps "))
+        self.assertTrue(ramps["linear"].startswith("0 "))
 
     def test_each_device_has_its_worst(self):
         worst = {}
@@ -471,7 +477,7 @@ class Drills(unittest.TestCase):
             if line[0] == "bound":
                 worst[line[3]] = max(worst.get(line[3], 0), int(line[4]))
         self.assertEqual(
-            {row[0]: row[1] for row in self.rows("by-device")}, {name: exact(bound) for name, bound in worst.items()}
+            {row[0]: microseconds(row[1]) for row in self.rows("by-device")}, worst
         )
 
     def test_all_domains_are_counted(self):
@@ -524,9 +530,11 @@ class Replays(unittest.TestCase):
                     self.assertEqual(panel.all("path", "wrong"), [])
                 rows = [[cell.text for cell in row.all("td")] for row in tree.one("table", "reports").one("tbody").all("tr")]
                 self.assertEqual(
-                    sorted((row[0], row[2], row[3], row[4]) for row in rows),
-                    sorted((line[1], line[2], line[3], exact(int(line[4]))) for line in reports),
+                    sorted((row[0], row[2], microseconds(row[4])) for row in rows),
+                    sorted((line[1], line[2], int(line[4])) for line in reports),
                 )
+                heads = [node.text for node in tree.one("table", "reports").one("thead").all("th")]
+                self.assertEqual(heads, ["line", "reference, ms", "device", "clock, ms", "eps, us", "off, us", "of its eps"])
 
     def test_what_happened_is_marked_at_its_line(self):
         with directory() as path:
@@ -550,7 +558,7 @@ class Replays(unittest.TestCase):
         self.assertEqual(states["r"], {"acting"})
         self.assertEqual(states["b"], {"primary", "waiting", "acting"})
         said = tracks["b"].one("svg")["aria-label"]
-        self.assertTrue(said.startswith("b: primary from 0 ps to "), said)
+        self.assertTrue(said.startswith("b: primary from 0 to "), said)
         rows = [[cell.text for cell in row.all("td")] for row in tree.one("table", "spans").one("tbody").all("tr")]
         self.assertEqual([row[1] for row in rows if row[0] == "r"], ["acting", "down"])
         for before, after in zip(rows, rows[1:]):
@@ -587,6 +595,13 @@ class Replays(unittest.TestCase):
         self.assertEqual(view.lines, [[0, 1], [2]])
         self.assertEqual(view.colour, {0: 0, 1: 0, 2: 1})
 
+    def test_lines_that_nowhere_differ_visibly_are_one(self):
+        """Devices tick at other moments, so that their eps is known in other intervals, and a fall comes one interval later."""
+        one = Drawn([Interval(100, 100), None, Interval(140, 20), None, Interval(60, 60)])
+        self.assertTrue(one.coincides(Drawn([Interval(101, 101), Interval(121, 121), None, Interval(142, 21), Interval(61, 61)]), 2))
+        self.assertFalse(one.coincides(Drawn([Interval(100, 100), None, Interval(140, 140), None, Interval(180, 180)]), 2))
+        self.assertFalse(one.coincides(Drawn([Interval(100, 100)]), 2))
+
     def test_the_envelope_is_the_greatest_of_all(self):
         rows = [[Interval(10, 4), None, None, Interval(10, 2)], [None, Interval(5, 5), Interval(9, 1)]]
         self.assertEqual(greatest(rows), [10, 6, 9, 10])
@@ -600,13 +615,14 @@ class Replays(unittest.TestCase):
         self.assertEqual(marks["broken"], sum(line.startswith("broken") for line in said))
         self.assertEqual(marks["alarm"], sum(line.startswith("alarm") for line in said))
         listed = [[cell.text for cell in row.all("td")] for row in tree.one("table", "marks").one("tbody").all("tr")]
-        bands = " ".join(node["title"] for node in tree.one("div", "bands").all("div", "band") if node["title"])
+        signs = " ".join(node["title"] for node in tree.one("div", "track", "wrong").all("b", "mark"))
         for line in said:
             if line.startswith(("broken", "alarm")):
-                self.assertIn(line, bands)
-                self.assertIn(line, [row[3] for row in listed])
-        self.assertEqual(len(tree.all("div", "band", "void")), 1)
-        self.assertIn("spine1 reached leaf over spine1-leaf after 1,900,000 ps", " ".join(row[4] for row in listed))
+                self.assertIn(line, signs)
+                self.assertTrue([row for row in listed if row[3].startswith(line)])
+        bands = [node.classes[-1] for node in tree.one("div", "bands").all("div", "band")]
+        self.assertEqual((bands.count("void"), bands.count("broken"), bands.count("alarm")), (1, 2, 2))
+        self.assertIn("spine1 reached leaf over spine1-leaf after 1.9 us", " ".join(row[3] for row in listed))
         wrong = sum(" interval " in line for line in said)
         dots = [node for node in tree.all("path", "dots", "wrong")]
         self.assertEqual(sum(int(node["data-count"]) for node in dots), 3 * wrong)
@@ -697,7 +713,7 @@ class Verdicts(unittest.TestCase):
             tree = replayed("incident", "schedule.txt", "sundial replay topology.toml plan.json plan.json schedule.txt", path, plans=2)
         section = self.check(
             tree, "alarm", "Alarms", "2 premises broke (tick, delay), the first at line 13, and 2 alarms followed, the first at line 21",
-            "spine2, leaf, spine1 did not tick for 1,410,000,000 ps", "no promise was broken",
+            "spine2, leaf, spine1 did not tick for 1.41 ms", "no promise was broken",
         )
         self.assertEqual([link.text for link in section.all("a")][:2], ["line 13, at 1.5 ms", "line 21, at 2.9 ms"])
         self.assertEqual([link["href"] for link in section.all("a")][:2], ["#line-13", "#line-21"])
@@ -708,7 +724,7 @@ class Verdicts(unittest.TestCase):
             (path / "schedule").write_text("start 1001 0 0 0 1000\nend 1001\n")
             (path / "output").write_text("broken 1 start\ndone 2 0\n")
             tree = page(here / "topology.toml", here / "plan.json", "--replay", path / "schedule", path / "output")
-        self.check(tree, "broken", "Premises broken", "1 premise broke (start), the first at line 1", "No alarm was raised", "1,001 ps off")
+        self.check(tree, "broken", "Premises broken", "1 premise broke (start), the first at line 1", "No alarm was raised", "1.001 ns off")
 
     def test_alarms_that_should_not_be(self):
         here = EXAMPLES / "triangle"
@@ -722,7 +738,7 @@ class Verdicts(unittest.TestCase):
         here = EXAMPLES / "refused"
         for condition, texts in (
             ("loop", ["1 plan is refused: condition loop", "follow each other in a ring"]),
-            ("timing", ["Rule 4: wait is 3.499 ms (3,499,299,000 ps) at the least, and has to be at least 3.577 ms (3,576,668,000 ps): 77.37 us are missing"]),
+            ("timing", ["Rule 4: wait is 3.499299 ms at the least, and has to be at least 3.576668 ms: 77.369 us are missing"]),
         ):
             with self.subTest(condition), directory() as path:
                 (path / "check").write_text(outputs("refused")[f"sundial check topology.toml {condition}.json"])
@@ -769,7 +785,7 @@ class Pages(unittest.TestCase):
         ids = [node["id"] for node in tree.walk() if node["id"]]
         self.assertEqual(len(ids), len(set(ids)))
         links = [node["href"] for node in tree.one("nav").all("a")]
-        self.assertEqual(links, ["#verdict", "#replay", "#plans", "#drill"])
+        self.assertEqual(links, ["#verdict", "#replay", "#plans", "#drill", "#files"])
         self.assertLessEqual({link[1:] for link in links}, set(ids))
 
     def test_files_date_and_versions(self):
@@ -906,6 +922,17 @@ class Series(unittest.TestCase):
             ["0 ps", "999 ps", "3.203 us", "1 ms", "1.345 ms"],
         )
         self.assertEqual(exact(3202950), "3,202,950 ps")
+
+    def test_a_column_has_one_unit_and_all_digits(self):
+        self.assertEqual(column([1500000000, 3001900000, 0]), ("ms", ["1.5000", "3.0019", "0.0000"]))
+        self.assertEqual(column([-1200000, 100000], "+"), ("us", ["-1.2", "+0.1"]))
+        self.assertEqual(column([12 * 10**15, 1]), ("s", ["12,000.000000000000", "0.000000000001"]))
+        self.assertEqual(column([5], beside=[2000]), ("ns", ["0.005"]))
+        self.assertEqual(column([]), ("ps", []))
+
+    def test_a_sentence_in_the_units_that_fit(self):
+        self.assertEqual(readable("after 1,900,000 ps, and 400,000 to 1,000,000 ps"), "after 1.9 us, and 400 ns to 1 us")
+        self.assertEqual(readable("0 ps since line 5"), "0 since line 5")
         self.assertEqual(round_steps(0, 3.2, 8), [0, 0.5, 1, 1.5, 2, 2.5, 3])
 
 

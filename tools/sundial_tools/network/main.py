@@ -28,10 +28,10 @@ def main(words: List[str]) -> int:
             write_names(topology, text)
         return 0
     if options.source == "lint":
-        found = findings(options.topology, rate_of(options.message_loss))
+        looks_wrong = findings(options.topology, rate_of(options.message_loss))
         with whole_output(options.output) as text:
-            text.writelines(f"{it}\n" for it in found)
-        return 1 if found else 0
+            text.writelines(f"{it}\n" for it in looks_wrong)
+        return 1 if looks_wrong else 0
     if options.source == "make":
         with whole_output(options.output) as text:
             text.write(made_text(options))

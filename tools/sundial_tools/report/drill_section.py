@@ -2,13 +2,13 @@
 
 from __future__ import annotations
 
-from typing import Iterable, List
+from typing import Iterable, List, Tuple
 
 from sundial_tools.report.drill import Drill, Group, widest_devices
 from sundial_tools.report.heat_map import SHADES, HeatMap
 from sundial_tools.report.markup import Raw, element, folded
 from sundial_tools.report.tables import Cell, names_of, table
-from sundial_tools.report.units import count, exact, human
+from sundial_tools.report.units import clear, column, count, human
 from sundial_tools.topology import Topology
 
 OPEN_ROWS = 20
@@ -22,7 +22,7 @@ def drill_section(topology: Topology, drill: Drill) -> Raw:
     name = topology.devices[worst[1]].name
     facts = (
         f"{count(drill.domains, 'domain')}, {count(len(drill.devices), 'device')}. The greatest bound is "
-        f"{human(drill.worst)} ({exact(drill.worst)}), that of {name} under {first.domains[0]}; the least is {human(drill.least)}."
+        f"{clear(drill.worst)}, that of {name} under {first.domains[0]}; the least is {clear(drill.least)}."
     )
     return element(
         "section",
@@ -39,30 +39,37 @@ def _scales(drill: Drill) -> Iterable[Raw]:
     for key, text, is_first in ("linear", "scale from 0", True), ("log", "logarithmic scale", False):
         yield element("input", type="radio", name="scale", id=f"scale-{key}", class_=f"scale {key}", checked=is_first)
         yield element("label", text, for_=f"scale-{key}")
-    for key, shade, ends in ("linear", "a", ("0 ps", human(drill.worst))), ("log", "g", (human(drill.least), human(drill.worst))):
+    for key, shade, ends in ("linear", "a", ("0", human(drill.worst))), ("log", "g", (human(drill.least), human(drill.worst))):
         cells = [element("i", class_=f"cell {shade}{place}") for place in range(SHADES)]
         yield element("p", ends[0], " ", cells, " ", ends[1], " ", element("i", class_="cell hx"), " no bound", class_=f"ramp {key}")
 
 
-def _bar(bound: int, heat: HeatMap, worst: int) -> Raw:
+def _bars(bounds: List[int], heat: HeatMap, worst: int) -> Tuple[str, List[Cell]]:
+    """The unit of a column of bounds, and its cells; the bound of no device is -1."""
+    shown = column([max(0, bound) for bound in bounds])
+    return shown.unit, [(_bar(text, bound, heat, worst), bound) if bound >= 0 else "none" for bound, text in zip(bounds, shown.texts)]
+
+
+def _bar(text: str, bound: int, heat: HeatMap, worst: int) -> Raw:
     """A bar under the number: as long as its part of the greatest bound, and by logarithm."""
     linear, log = bound / max(1, worst), max(0.02, heat.share(bound))
-    return element("span", exact(bound), element("i", class_="bar", style=f"--linear:{linear:.1%};--log:{log:.1%}"))
+    return element("span", text, element("i", class_="bar", style=f"--linear:{linear:.1%};--log:{log:.1%}"))
 
 
 def _by_domain(topology: Topology, drill: Drill, heat: HeatMap) -> Raw:
     rows: List[List[Cell]] = []
-    for group in drill.groups:
+    unit, bars = _bars([group.worst for group in drill.groups], heat, drill.worst)
+    for group, bar in zip(drill.groups, bars):
         rows.append(
             [
                 _domains(group),
                 str(len(group.domains)),
-                (_bar(group.worst, heat, drill.worst), group.worst) if group.worst >= 0 else "none",
+                bar,
                 _widest(topology, drill, group),
                 str(group.unbounded),
             ]
         )
-    return _folded("The worst eps by domain", "by-domain", ("domain", "domains alike", "worst eps", "of", "without bound"), rows)
+    return _folded("The worst eps by domain", "by-domain", ("domain", "domains alike", f"worst eps, {unit}", "of", "without bound"), rows)
 
 
 def _by_device(topology: Topology, drill: Drill, heat: HeatMap) -> Raw:
@@ -71,10 +78,12 @@ def _by_device(topology: Topology, drill: Drill, heat: HeatMap) -> Raw:
     for found in drill.groups:
         for place in [place for place, bound in enumerate(found.bounds) if bound is None] if found.unbounded else ():
             unbounded_by_place[place] += len(found.domains)
-    for place, device, bound, group in widest_devices(drill):
+    widest = list(widest_devices(drill))
+    unit, bars = _bars([bound for _, _, bound, _ in widest], heat, drill.worst)
+    for (place, device, _, group), bar in zip(widest, bars):
         unbounded = unbounded_by_place[place]
-        rows.append([topology.devices[device].name, (_bar(bound, heat, drill.worst), bound), _domains(group), str(unbounded)])
-    return _folded("The worst eps by device", "by-device", ("device", "worst eps", "under", "domains without bound"), rows)
+        rows.append([topology.devices[device].name, bar, _domains(group), str(unbounded)])
+    return _folded("The worst eps by device", "by-device", ("device", f"worst eps, {unit}", "under", "domains without bound"), rows)
 
 
 def _folded(caption: str, name: str, head: "tuple[str, ...]", rows: List[List[Cell]]) -> Raw:

@@ -11,7 +11,7 @@ from typing import Iterator, List, Optional, Tuple
 
 from sundial_tools.report.drill import Drill, Group, widest_devices
 from sundial_tools.report.markup import Raw, drawing, element, region, title
-from sundial_tools.report.units import human, in_unit, unit_of
+from sundial_tools.report.units import clear, human, in_unit, unit_of
 from sundial_tools.topology import Topology
 
 MOST_CELLS, MOST_ROWS, MOST_COLUMNS = 1600, 40, 40
@@ -77,7 +77,7 @@ class HeatMap:
     def _cell(self, group: Group, place: int) -> Raw:
         bound = group.bounds[place]
         text = "none" if bound is None else in_unit(bound, self._size)
-        said = "no bound" if bound is None else f"{bound:,} ps"
+        said = "no bound" if bound is None else clear(bound)
         return element("td", text, class_=f"cell {self.shades(bound)}", title=f"{group.domains[0]}, {self._name(place)}: {said}")
 
     # The picture

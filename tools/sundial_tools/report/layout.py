@@ -100,6 +100,7 @@ def _by_rows(drawing: Drawing) -> None:
     above = {edge.boxes[1]: drawing.boxes[edge.boxes[0]] for edge in drawing.edges if edge.kind == "primary"}
     widest = max(map(_row_width, ranks.values()))
     levels: Dict[int, int] = {}
+    floors: Dict[int, float] = {}
     top = MARGIN
     for rank in sorted(ranks):
         followed = [above[box.number].x for box in ranks[rank] if box.number in above]
@@ -108,15 +109,18 @@ def _by_rows(drawing: Drawing) -> None:
         left = max(MARGIN, min(MARGIN + widest - _row_width(row), middle - _row_width(row) / 2))
         height = max(box.height for box in row)
         for box in row:
-            box.x, box.y = left + (box.width + GAP) / 2, top + height - box.height / 2
+            box.x, box.y = left + (box.width + GAP) / 2, top + box.height / 2
             left += box.width + GAP
+        floors[rank] = top + height
         drawing.width, drawing.height = widest + 2 * MARGIN, top + height + MARGIN
         deepest = _set_levels(drawing, rank, levels)
         drawing.height += deepest
         top += height + max(RANK_GAP, deepest + RANK_GAP * 0.7)
     ports = _ports(drawing)
     drawing.routes = [
-        _below(drawing, edge, levels[place]) if place in levels else _between(drawing, edge, ports[place, 0], ports[place, 1])
+        _below(drawing, edge, levels[place], floors)
+        if place in levels
+        else _between(drawing, edge, ports[place, 0], ports[place, 1], floors)
         for place, edge in enumerate(drawing.edges)
     ]
     drawing.laid_out_by = "rows"
@@ -167,20 +171,31 @@ def _ports(drawing: Drawing) -> Dict[Tuple[int, int], float]:
     return ports
 
 
-def _below(drawing: Drawing, edge: Edge, level: int) -> List[Point]:
+def _below(drawing: Drawing, edge: Edge, level: int, floors: Dict[int, float]) -> List[Point]:
     """A Bezier curve below two boxes of one rank. Its lowest point is at three quarters of its handles."""
     parent, child = (drawing.boxes[number] for number in edge.boxes)
     towards = 1.0 if parent.x < child.x else -1.0
-    sag = _sag(level) * 4 / 3
-    start = parent.x + towards * 10, parent.y + parent.height / 2
-    end = child.x - towards * 10, child.y + child.height / 2
-    return [start, (start[0] + towards * 6, start[1] + sag), (end[0] - towards * 6, end[1] + sag), end]
+    floor, sag = floors[parent.rank], _sag(level) * 4 / 3
+    begin, end = parent.x + towards * 10, child.x - towards * 10
+    curve = [(begin, floor), (begin + towards * 6, floor + sag), (end - towards * 6, floor + sag), (end, floor)]
+    return _down(parent, begin, floor) + curve + _down(child, end, floor)[::-1]
 
 
-def _between(drawing: Drawing, edge: Edge, begin: float, end: float) -> List[Point]:
-    """A Bezier curve from the side of the parent to that of the child, which is on another rank."""
+def _between(drawing: Drawing, edge: Edge, begin: float, end: float, floors: Dict[int, float]) -> List[Point]:
+    """A Bezier curve from the lower side of the upper box to the upper side of the lower one, from parent to child."""
     parent, child = (drawing.boxes[number] for number in edge.boxes)
-    down = 1 if parent.rank < child.rank else -1
-    top, bottom = parent.y + down * parent.height / 2, child.y - down * child.height / 2
-    bend = (bottom - top) / 2
-    return [(begin, top), (begin, top + bend), (end, bottom - bend), (end, bottom)]
+    if parent.rank > child.rank:
+        return _fall(child, end, floors[child.rank], parent, begin)[::-1]
+    return _fall(parent, begin, floors[parent.rank], child, end)
+
+
+def _fall(upper: Box, begin: float, floor: float, lower: Box, end: float) -> List[Point]:
+    bottom = lower.y - lower.height / 2
+    bend = (bottom - floor) / 2
+    return _down(upper, begin, floor) + [(begin, floor), (begin, floor + bend), (end, bottom - bend), (end, bottom)]
+
+
+def _down(box: Box, x: float, floor: float) -> List[Point]:
+    """What goes before a curve that begins at the floor of a row: straight down from a box that is lower than its row."""
+    bottom = box.y + box.height / 2
+    return [(x, bottom), (x, bottom), (x, floor)] if bottom < floor else []

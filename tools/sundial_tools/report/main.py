@@ -105,7 +105,7 @@ class _Report:
         if drill is not None and self._wants("drill"):
             links.append(("drill", "Drill"))
             sections.append(drill_section(self._topology, drill))
-        opening = [self._facts(), contents(links)]
+        opening = [self._facts(), contents([*links, ("files", "Files")])]
         return page(self._said.title or "Sundial: a fabric and its plans", opening, [*sections, self._files()])
 
     def _wants(self, part: str) -> bool:
@@ -116,8 +116,8 @@ class _Report:
         text = (
             f"{count(len(topology.devices), 'device')}, {count(len(topology.links), 'link')}, "
             f"{count(len(topology.domains), 'listed domain')}. Period {human(topology.period)}, "
-            f"tick {human(topology.tick)}, loss {topology.loss}, depth {topology.depth}. Times are of the reference, in the unit "
-            "that stands with them; ps are picoseconds."
+            f"tick {human(topology.tick)}, loss {topology.loss}, depth {topology.depth}. Times are of the reference. "
+            "The head of a column tells its unit; elsewhere the unit stands with the number."
         )
         made = f"Made {_today()} by sundial-report {__version__} of {os.path.basename(self._said.topology)}, {count(len(self._plans), 'plan')}"
         made += f" and {os.path.basename(self._said.replay[0])}." if self._said.replay else "."

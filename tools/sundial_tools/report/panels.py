@@ -14,7 +14,7 @@ from sundial_tools.report.replay import Mark
 from sundial_tools.report.replay_view import WIDE, ReplayView, greatest
 from sundial_tools.report.series import Interval, Report
 from sundial_tools.report.tracks import MEANING, STATES, Span, Tracks
-from sundial_tools.report.units import count, human, round_steps, unit_of
+from sundial_tools.report.units import clear, count, human, round_steps, unit_of
 
 TRACK, EPS, OFF = 20.0, 220.0, 120.0
 # Height of a state within its track: from and to. Who reads no colours tells them by these.
@@ -27,13 +27,15 @@ SIGNS = {"fail": "\u00d7", "mend": "+", "join": "\u2191", "move": "\u25b8", "tak
 MOST_SIGNS, MOST_BANDS, MOST_SINGLE_TRACKS, MOST_SAID = 400, 200, 24, 6
 STEPS = 500
 OTHERS = 99
+# Past this part of the time the text of a mark stands before it.
+LAST_TICK = 0.9
 # Into so many parts the time is divided where tracks are compared.
 ALIKE = 200
 
 
 def panels(view: ReplayView) -> Raw:
     """All panels. The script gives them zoom and a cursor."""
-    rows = [axis(view, "top"), _plan_row(view), *_tracks(view)]
+    rows = [axis(view, "top"), _broken_row(view), _plan_row(view), *_tracks(view)]
     if view.replay.peaks.of:
         rows.append(_eps(view))
     if view.reports:
@@ -41,13 +43,13 @@ def panels(view: ReplayView) -> Raw:
     rows.append(axis(view, "bottom"))
     return element(
         "div", _bands(view), rows, element("div", class_="cursor", hidden=True), class_="panels",
-        role="region", aria_label="Panels over reference time. Plus and minus zoom, the arrows move, 0 shows all", tabindex=0,
+        role="region", aria_label="Panels over reference time. Plus and minus zoom, the arrows move, 0 shows all, and the arrows with Shift move a cursor", tabindex=0,
         data_first=view.first, data_last=view.last,
     )
 
 
 def axis(view: ReplayView, where: str) -> Raw:
-    ticks = [element("span", text, style=f"--x:{share:.5f}") for share, text in view.ticks()]
+    ticks = [element("span", text, style=f"--x:{share:.5f}", class_="end" if share > LAST_TICK else None) for share, text in view.ticks()]
     return _row("axis " + where, element("span", "reference time"), element("div", ticks, class_="ticks"))
 
 
@@ -70,18 +72,29 @@ def _picture(height: float, label: str, *content: "str | Iterable[str]", class_:
 def _bands(view: ReplayView) -> Raw:
     """Where a premise broke or an alarm was raised. From the first broken premise on nothing is promised."""
     parts: List[Raw] = []
-    marks = view.replay.marks["broken"] + [mark for mark in view.replay.marks["alarm"] if mark.kind == "alarm"]
-    broken = view.replay.marks["broken"]
+    marks, broken = _wrong(view), view.replay.marks["broken"]
     if broken:
         begin = view.share(broken[0].ref)
         parts.append(element("div", class_="band void", style=f"--x:{begin:.5f};--w:{1 - begin:.5f}"))
-    places: Dict[Tuple[str, int], List[Mark]] = {}
-    for mark in marks:
-        places.setdefault((mark.kind, round(view.share(mark.ref) * STEPS)), []).append(mark)
-    for (kind, _), found in list(places.items())[:MOST_BANDS]:
-        text = "; ".join(mark.text for mark in found[:MOST_SAID])
-        parts.append(element("div", element("b", SIGNS[kind]), class_=f"band {kind}", style=f"--x:{view.share(found[0].ref):.5f}", title=text))
+    places = {(mark.kind, round(view.share(mark.ref) * STEPS)): mark for mark in reversed(marks)}
+    for (kind, _), mark in list(places.items())[:MOST_BANDS]:
+        parts.append(element("div", class_=f"band {kind}", style=f"--x:{view.share(mark.ref):.5f}"))
     return element("div", parts, class_="bands", aria_hidden="true")
+
+
+def _wrong(view: ReplayView) -> List[Mark]:
+    """Broken premises and alarms."""
+    return view.replay.marks["broken"] + [mark for mark in view.replay.marks["alarm"] if mark.kind == "alarm"]
+
+
+def _broken_row(view: ReplayView) -> Raw:
+    """What the bands are of."""
+    marks = _wrong(view)
+    if not marks:
+        return Raw("")
+    numbers = view.replay.mark_counts["broken"], count(sum(mark.kind == "alarm" for mark in marks), "alarm")
+    label = f"{count(numbers[0], 'broken premise')} and {numbers[1]}. The table of what happened has them"
+    return _row("track wrong", element("b", "broken, alarms"), _picture(TRACK, label), _signs(view, marks[:MOST_BANDS]))
 
 
 # Signs on tracks
@@ -105,8 +118,8 @@ def _signs(view: ReplayView, marks: Sequence[Mark]) -> Raw:
 
 def _said(marks: Sequence[Mark]) -> str:
     first, last = marks[0], marks[-1]
-    text = f"line {first.line} at {first.ref:,} ps: {first.text}"
-    return text if len(marks) == 1 else f"{len(marks)} times, from {text}, to line {last.line} at {last.ref:,} ps: {last.text}"
+    text = f"line {first.line} at {clear(first.ref)}: {first.text}"
+    return text if len(marks) == 1 else f"{len(marks)} times, from {text}, to line {last.line} at {clear(last.ref)}: {last.text}"
 
 
 def _plan_row(view: ReplayView) -> Raw:
@@ -220,7 +233,10 @@ def _eps(view: ReplayView) -> Raw:
 
 
 def _levels(scale: _Scale) -> List[Raw]:
-    return [element("i", human(value), style=f"top:{scale.y(value) / EPS:.1%}") for value in scale.marked()]
+    size, unit = unit_of(max(scale.marked(), default=0))
+    return [
+        element("i", f"{value / size:g} {unit}" if value else "0", style=f"top:{scale.y(value) / EPS:.1%}") for value in scale.marked()
+    ]
 
 
 def _eps_marks(view: ReplayView, scale: _Scale) -> List[Raw]:

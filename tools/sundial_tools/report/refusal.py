@@ -6,7 +6,7 @@ from typing import Dict, FrozenSet, NamedTuple, Optional, Tuple
 
 from sundial_tools.errors import ToolError
 from sundial_tools.outputs import OutputLine
-from sundial_tools.report.units import exact, human
+from sundial_tools.report.units import clear
 from sundial_tools.topology import Topology
 
 MEANING = {
@@ -55,9 +55,9 @@ class Refusal(NamedTuple):
             return ""
         least, mends = TIMING[self.rule or 1]
         return (
-            f"Rule {self.rule}: {least} is {human(self.left)} ({exact(self.left)}) at the least, and has to be "
-            f"{'more than' if self.rule == 1 else 'at least'} {human(self.right)} ({exact(self.right)}): "
-            f"{human(self.right - self.left)} are missing. {mends}"
+            f"Rule {self.rule}: {least} is {clear(self.left)} at the least, and has to be "
+            f"{'more than' if self.rule == 1 else 'at least'} {clear(self.right)}: "
+            f"{clear(self.right - self.left)} are missing. {mends}"
         )
 
 

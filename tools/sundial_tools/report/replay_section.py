@@ -72,7 +72,8 @@ def _legend(view: ReplayView) -> Raw:
     waits = view.replay.tracks.patience if view.replay.tracks is not None else 0
     note = (
         f"A line has the greatest and the last eps of a device in each {human(view.replay.peaks.step)}, computed from the schedule. "
-        f"The grey area is the greatest eps of all devices. A dot is a printed report. A device waits that heard nothing for more "
+        f"The grey area is the greatest eps of all devices. A dot is a printed report. In the last panel it shows how far "
+        f"the report was off: inside the green band, by less than its eps. A device waits if it heard nothing for more "
         f"than {human(waits)}. From the first broken premise on all panels are shaded: nothing is promised there."
     )
     return joined([element("p", states, class_="legend states"), element("p", signs, class_="note"), element("p", note, class_="note")])
@@ -83,7 +84,7 @@ def _lines(view: ReplayView) -> Raw:
     for place, devices in enumerate(view.lines):
         text = view.names(devices) + (" (one line)" if len(devices) > 1 else "")
         key = element("i", class_=f"key line c{place}")
-        items.append(element("span", key, text, class_="item device", data_devices=" ".join(map(str, devices)), tabindex=0))
+        items.append(element("span", key, text, class_="item device", data_devices=" ".join(map(str, devices))))
     more = len(view.replay.peaks.of) - view.alone
     if more > 0:
         items.append(element("span", f"and {count(more, 'device')} more under the grey area", class_="item"))

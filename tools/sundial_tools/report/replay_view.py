@@ -2,6 +2,7 @@
 
 from __future__ import annotations
 
+from itertools import zip_longest
 from typing import Dict, Iterable, List, Optional, Tuple, cast
 
 from sundial_tools.report.replay import Replay
@@ -13,6 +14,8 @@ LINES = 12
 # A panel is so wide in the units of its picture, whatever its width on the screen.
 WIDE = 1000.0
 MOST_TICKS = 8
+# Lines that nowhere differ by more than this part of the greatest eps are drawn as one.
+LEAST_APART = 200
 
 
 class ReplayView:
@@ -28,11 +31,17 @@ class ReplayView:
         self.alone = len(self.colour)
 
     def _lines(self) -> List[List[int]]:
-        same: Dict[Tuple[object, ...], List[int]] = {}
-        for device, intervals in self.replay.peaks.of.items():
-            same.setdefault(tuple(intervals), []).append(device)
-        groups = sorted(same.values(), key=lambda devices: (-self._peak(devices[0]), min(devices)))[:LINES]
-        return sorted((sorted(devices) for devices in groups), key=lambda devices: devices[0])
+        apart = max(map(self._peak, self.replay.peaks.of), default=0) / LEAST_APART
+        found: List[Tuple[Drawn, List[int]]] = []
+        for device in sorted(self.replay.peaks.of):
+            drawn = Drawn(self.replay.peaks.of[device])
+            same = next((devices for other, devices in found if other.coincides(drawn, apart)), None)
+            if same is None:
+                found.append((drawn, [device]))
+            else:
+                same.append(device)
+        widest = sorted((devices for _, devices in found), key=lambda devices: (-self._peak(devices[0]), devices[0]))[:LINES]
+        return sorted(widest)
 
     def _peak(self, device: int) -> int:
         return max((found.peak for found in self.replay.peaks.of[device] if found is not None), default=0)
@@ -66,31 +75,50 @@ class ReplayView:
         """Round times for an axis: where, and what stands there."""
         size, unit = unit_of(max(abs(self.first), abs(self.last)))
         steps = round_steps(self.first / size, self.last / size, MOST_TICKS)
-        return [(self.share(step * size), f"{step:g} {unit}") for step in steps]
+        return [(self.share(step * size), f"{step:g} {unit}" if step else "0") for step in steps]
+
+
+class Drawn:
+    """The line of a device as it is drawn: at each place what it has there, and the least and greatest near it."""
+
+    def __init__(self, intervals: List["Interval | None"]) -> None:
+        self._points: List[Tuple[float, ...]] = [
+            found or (() if value is None else (value,)) for found, value in zip(intervals, evenly(intervals))
+        ]
+        near = [self._points[max(0, place - 1) : place + 2] for place in range(len(self._points))]
+        self._near = [[value for points in found for value in points] for found in near]
+
+    def coincides(self, other: "Drawn", apart: float) -> bool:
+        """Whether the two lines are nowhere further from each other than that."""
+        return self._follows(other, apart) and other._follows(self, apart)
+
+    def _follows(self, other: "Drawn", apart: float) -> bool:
+        if len(self._points) > len(other._near) + 1:
+            return False
+        return all(
+            not near and not points or near and min(near) - apart <= min(points, default=near[0]) and max(points, default=near[0]) <= max(near) + apart
+            for points, near in zip(self._points, other._near)
+        )
+
+
+def evenly(intervals: List["Interval | None"]) -> List[Optional[float]]:
+    """The greatest eps in each interval. Between two of its events the eps of a device grows evenly. Before its first
+    event and behind its last one it is not known."""
+    values: List[Optional[float]] = [None] * len(intervals)
+    before: Optional[int] = None
+    for place, interval in enumerate(intervals):
+        if interval is None:
+            continue
+        if before is not None:
+            begin = cast(Interval, intervals[before]).last
+            for between in range(before + 1, place):
+                values[between] = begin + (interval.peak - begin) * (between - before) / (place - before)
+        values[place] = interval.peak
+        before = place
+    return values
 
 
 def greatest(intervals: Iterable[List["Interval | None"]]) -> List[Optional[float]]:
-    """The envelope: for each interval of time the greatest eps of all devices.
-
-    Between two of its events the eps of a device grows evenly. Behind its last event it is not known, and is left out.
-    """
-    found: List[Optional[float]] = []
-    for row in intervals:
-        found.extend([None] * (len(row) - len(found)))
-        before: Optional[int] = None
-        for place, interval in enumerate(row):
-            if interval is None:
-                continue
-            if before is not None and place - before > 1:
-                begin = cast(Interval, row[before]).last
-                for between in range(before + 1, place):
-                    part = (between - before) / (place - before)
-                    _raise(found, between, begin + (interval.peak - begin) * part)
-            _raise(found, place, interval.peak)
-            before = place
-    return found
-
-
-def _raise(found: List[Optional[float]], place: int, value: float) -> None:
-    known = found[place]
-    found[place] = value if known is None else max(known, value)
+    """The envelope: for each interval of time the greatest eps of all devices."""
+    known = (filter(None.__ne__, column) for column in zip_longest(*map(evenly, intervals)))
+    return [max(column, default=None) for column in known]

@@ -88,9 +88,8 @@
     for (var i = 0; i < UNITS.length; i++) if (Math.abs(value) >= UNITS[i][0]) return UNITS[i];
     return UNITS[UNITS.length - 1];
   }
-  function human(value, digits) {
-    var unit = unitOf(value);
-    return String(Number((value / unit[0]).toPrecision(digits || 5))) + " " + unit[1];
+  function inUnit(value, unit, digits) {
+    return value === 0 ? "0" : String(Number((value / unit[0]).toPrecision(digits))) + " " + unit[1];
   }
   all(document, "section.replay").forEach(function (section) {
     var panels = section.querySelector(".panels");
@@ -100,13 +99,18 @@
     var controls = section.querySelector(".controls"), shown = section.querySelector("output.shown");
     var cursor = section.querySelector(".cursor"), over = document.createElement("div");
     var from = 0, zoom = 1, at = null;
+    // One unit of times, and one of eps.
+    var timeUnit = unitOf(first + span), epsUnit = unitOf(Math.max.apply(null, [1].concat(data.lines.map(function (line) {
+      return Math.max.apply(null, line.eps);
+    }))));
+    function epsText(value) { return inUnit(value, epsUnit, 4); }
     over.className = "at";
     panels.appendChild(over);
     over.appendChild(cursor);
     controls.hidden = false;
 
     function ticks() {
-      var size = unitOf(first + span)[0], name = unitOf(first + span)[1];
+      var size = timeUnit[0], name = timeUnit[1];
       var low = (first + from * span) / size, high = (first + (from + 1 / zoom) * span) / size;
       var rough = (high - low) / Math.max(2, Math.min(8, panels.clientWidth / 130)), step = Math.pow(10, Math.floor(Math.log10(rough)));
       [1, 2, 5, 10].some(function (factor) { if (step * factor >= rough) { step *= factor; return true; } return false; });
@@ -116,8 +120,10 @@
         axis.textContent = "";
         places.forEach(function (place) {
           var tick = document.createElement("span");
-          tick.style.setProperty("--x", (place * size - first) / span);
-          tick.textContent = Number(place.toPrecision(12)) + " " + name;
+          var part = (place * size - first) / span;
+          tick.style.setProperty("--x", part);
+          tick.className = (part - from) * zoom > 1 - 60 / axis.clientWidth ? "end" : "";
+          tick.textContent = place === 0 ? "0" : Number(place.toPrecision(12)) + " " + name;
           axis.appendChild(tick);
         });
       });
@@ -125,19 +131,19 @@
     // Between two of its events the eps of a device grows evenly; before its first and behind its last it is not known.
     function epsAt(line, place) {
       if (place < 0 || place >= line.eps.length) return "unknown";
-      if (line.eps[place] !== null) return human(line.eps[place], 4);
+      if (line.eps[place] !== null) return epsText(line.eps[place]);
       var before = place, behind = place;
       while (before >= 0 && line.eps[before] === null) before--;
       while (behind < line.eps.length && line.eps[behind] === null) behind++;
       if (before < 0 || behind === line.eps.length) return "unknown";
       var begin = line.last[before];
-      return human(begin + (line.eps[behind] - begin) * (place - before) / (behind - before), 4);
+      return epsText(begin + (line.eps[behind] - begin) * (place - before) / (behind - before));
     }
     function say() {
-      var text = human(first + from * span) + " to " + human(first + (from + 1 / zoom) * span);
+      var text = inUnit(first + from * span, timeUnit, 7) + " to " + inUnit(first + (from + 1 / zoom) * span, timeUnit, 7);
       if (at !== null) {
         var ref = first + at * span, place = Math.floor((ref - data.begin) / data.step);
-        text = "at " + human(ref, 9) + ": " + data.lines.map(function (line) {
+        text = "at " + inUnit(ref, timeUnit, 9) + ": " + data.lines.map(function (line) {
           return line.name + " " + epsAt(line, place);
         }).join(", ");
       }
@@ -160,30 +166,32 @@
       all: function () { set(0, 1); }
     };
     var keys = { "+": "in", "=": "in", "-": "out", ArrowLeft: "left", ArrowRight: "right", "0": "all" };
+    var steps = { ArrowLeft: -0.01, ArrowRight: 0.01 };
+    function point(place) {
+      at = place;
+      cursor.hidden = at === null;
+      if (at !== null) cursor.style.setProperty("--x", at);
+      say();
+    }
     all(controls, "button").forEach(function (button) {
-      button.addEventListener("click", function () { at = null; cursor.hidden = true; acts[button.dataset.zoom](); });
+      button.addEventListener("click", function () { point(null); acts[button.dataset.zoom](); });
     });
     panels.addEventListener("keydown", function (event) {
-      var act = keys[event.key];
+      var act = keys[event.key], step = event.shiftKey && steps[event.key];
       if (!act || event.ctrlKey || event.metaKey || event.altKey) return;
       event.preventDefault();
-      acts[act]();
+      if (step) point(Math.min(from + 1 / zoom, Math.max(from, (at === null ? from + 0.5 / zoom : at + step / zoom))));
+      else acts[act]();
     });
     function placeOf(event) {
       var box = over.getBoundingClientRect(), part = (event.clientX - box.left) / box.width;
       return part < 0 || part > 1 ? null : from + part / zoom;
     }
     panels.addEventListener("pointermove", function (event) {
-      at = placeOf(event);
-      if (drag !== null && event.buttons & 1) {
-        set(drag.from - (event.clientX - drag.x) / over.clientWidth / zoom, zoom);
-        at = placeOf(event);
-      }
-      cursor.hidden = at === null;
-      if (at !== null) cursor.style.setProperty("--x", at);
-      say();
+      if (drag !== null && event.buttons & 1) set(drag.from - (event.clientX - drag.x) / over.clientWidth / zoom, zoom);
+      point(placeOf(event));
     });
-    panels.addEventListener("pointerleave", function () { at = null; cursor.hidden = true; say(); });
+    panels.addEventListener("pointerleave", function () { point(null); });
     var drag = null;
     panels.addEventListener("pointerdown", function (event) { drag = event.button === 0 ? { x: event.clientX, from: from } : null; });
     window.addEventListener("pointerup", function () { drag = null; });
@@ -203,6 +211,7 @@
     }
     all(section, ".legend .device").forEach(function (item) {
       var devices = numbers(item.dataset.devices);
+      item.tabIndex = 0;
       ["mouseenter", "focus"].forEach(function (kind) { item.addEventListener(kind, function () { lift(devices); }); });
       ["mouseleave", "blur"].forEach(function (kind) { item.addEventListener(kind, function () { lift(null); }); });
     });

@@ -9,6 +9,7 @@ from sundial_tools.report.boxes import HEAD, PADDING, SQUARE, Box, Drawing, Edge
 from sundial_tools.report.effects import Effect
 from sundial_tools.report.markup import Raw, drawing, element, title
 from sundial_tools.report.refusal import Refusal
+from sundial_tools.report.units import clear
 from sundial_tools.topology import Topology
 
 Point = Tuple[float, float]
@@ -64,7 +65,7 @@ class TreePicture:
             link = self._topology.links[edge.links[0]]
             bounds = link.towards(edge.devices[0])
             device = self._topology.devices[edge.devices[0]].name
-            return f"{edge.kind} of {device}: {parent} over {link.name}, {bounds.min:,} to {bounds.max:,} ps"
+            return f"{edge.kind} of {device}: {parent} over {link.name}, {clear(bounds.min)} to {clear(bounds.max)}"
         return f"{edge.kind} of {len(edge.devices)} devices: {parent}"
 
     def _edge_states(self, edge: Edge) -> List[str]:

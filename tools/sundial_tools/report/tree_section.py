@@ -22,7 +22,7 @@ LEGEND = (
     ("hop", "primary"),
     ("hop dashed", "backup"),
     ("root", "R root, B backup root"),
-    ("failed", "failed, with --domain or the choice"),
+    ("failed", "failed with the chosen domain"),
     ("moves", "moves to its backup"),
     ("cut", "cut off, or never hears again"),
 )

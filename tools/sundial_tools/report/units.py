@@ -2,7 +2,8 @@
 
 from __future__ import annotations
 
-from typing import List, Tuple
+import re
+from typing import List, NamedTuple, Sequence, Tuple
 
 UNITS: Tuple[Tuple[int, str], ...] = ((10**12, "s"), (10**9, "ms"), (10**6, "us"), (10**3, "ns"), (1, "ps"))
 
@@ -30,6 +31,8 @@ def in_unit(picoseconds: int, size: int) -> str:
 
 def clear(picoseconds: int) -> str:
     """All digits in the unit that fits, up to nine of them: 3.0019 ms. A longer number stands in picoseconds."""
+    if picoseconds == 0:
+        return "0"
     size, name = unit_of(picoseconds)
     text = f"{picoseconds // size}.{abs(picoseconds) % size:0{len(str(size)) - 1}d}".rstrip("0").rstrip(".") if size > 1 else str(picoseconds)
     return f"{text} {name}" if len(text) <= 10 and picoseconds >= 0 else exact(picoseconds)
@@ -38,6 +41,36 @@ def clear(picoseconds: int) -> str:
 def exact(picoseconds: int) -> str:
     """All digits, in groups of three: 3,202,950 ps."""
     return f"{picoseconds:,} ps"
+
+
+COUNTS = re.compile(r"([0-9][0-9,]*)(?: to ([0-9][0-9,]*))? ps\b")
+
+
+def readable(sentence: str) -> str:
+    """The same sentence, with its picoseconds in the units that fit."""
+    return COUNTS.sub(lambda found: " to ".join(clear(int(digits.replace(",", ""))) for digits in found.groups() if digits), sentence)
+
+
+class Column(NamedTuple):
+    """Exact times below each other: one unit, which the head of the column tells, and as many decimals in each."""
+
+    unit: str
+    texts: List[str]
+
+
+def column(values: Sequence[int], sign: str = "", beside: Sequence[int] = ()) -> Column:
+    """The unit fits the greatest of the values and of those of another column `beside`. `sign` stands before what is not negative."""
+    size, unit = unit_of(max(map(abs, [*values, *beside]), default=0))
+    digits, step = 0, size
+    while any(value % step for value in values):
+        digits, step = digits + 1, step // 10
+    return Column(unit, [_in_decimals(value, size, digits, sign) for value in values])
+
+
+def _in_decimals(value: int, size: int, digits: int, sign: str) -> str:
+    whole, rest = divmod(abs(value), size)
+    decimals = f".{rest * 10**digits // size:0{digits}d}" if digits else ""
+    return f"{'-' if value < 0 else sign}{whole:,}{decimals}"
 
 
 def round_steps(least: float, most: float, count: int) -> List[float]:

@@ -7,7 +7,7 @@ from typing import Dict, List, NamedTuple, Optional, Sequence, Tuple
 from sundial_tools.report.markup import Raw, element
 from sundial_tools.report.refusal import Refusal
 from sundial_tools.report.replay import Mark, Replay
-from sundial_tools.report.units import clear, count, human
+from sundial_tools.report.units import clear, count, human, readable
 
 MEANS = {
     "start": "A clock was set from outside to a time that was further off than its eps says.",
@@ -119,7 +119,7 @@ def _facts(replay: Replay) -> List[Fact]:
     """Broken premises and alarms in the order of the schedule, the first of each kind of alarm and of each device."""
     found: List[Tuple[int, int, Fact]] = []
     for place, (mark, cause) in enumerate(replay.causes):
-        found.append((mark.line, place, Fact(_where(mark), f"line-{mark.line}", mark.text, MEANS[cause.premise], f"{cause.text}.")))
+        found.append((mark.line, place, Fact(_where(mark), f"line-{mark.line}", mark.text, MEANS[cause.premise], f"{readable(cause.text)}.")))
     for place, mark in enumerate(_first_alarms(replay.alarms), len(found)):
         kind = mark.text.split(" ")[2]
         found.append((mark.line, place, Fact(_where(mark), f"line-{mark.line}", mark.text, ALARM_MEANS[kind], "")))

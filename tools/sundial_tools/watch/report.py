@@ -90,9 +90,10 @@ def _lines(window: Window, told: str, why: Why, with_reports: bool) -> Iterator[
 
 def moment(word: str) -> Moment:
     """A reference of the schedule, as 12.5s, or a date, as 2026-11-30T14:05:00Z. Answers it by the origin of the schedule."""
-    value = picoseconds(word)
-    if value is not None and (value == 0 or not word.isdigit()):
-        return lambda origin: value
+    reference = picoseconds(word)
+    if reference is not None and (reference == 0 or not word.isdigit()):
+        said = reference
+        return lambda origin: said
     try:
         date = datetime.fromisoformat(word)
     except ValueError:

@@ -19,7 +19,7 @@ from sundial_tools.schedule import Event, event_line
 from sundial_tools.things import joined_to
 from sundial_tools.topology import Bounds, Topology
 from sundial_tools.whatif.clocks import FAST, SLOW, STEADY, Clock
-from sundial_tools.whatif.wishes import Failure, Lost, Span, Wishes, us
+from sundial_tools.whatif.wishes import Failure, Lost, Span, Wishes, Wrong, us
 
 MOST_EVENTS = 2**26
 # A tick comes after this part of `tick` at the least, and after all of it at the most.
@@ -108,7 +108,7 @@ class Scenario:
         for failure in self._wishes.failures:
             self._push(failure.at, self._fail, failure)
         for wrong in self._wishes.wrong:
-            self._push(wrong.at, lambda ref, it: self._clocks[it.device].go_wrong(ref, it.ppm), wrong)
+            self._push(wrong.at, self._go_wrong, wrong)
         for place, at in enumerate(self._renewals, 2):
             self._push(at, self._open, place)
         if settings.ask:
@@ -120,6 +120,9 @@ class Scenario:
         self._left_open()
 
     # Beneath all
+
+    def _go_wrong(self, ref: int, wrong: Wrong) -> None:
+        self._clocks[wrong.device].go_wrong(ref, wrong.ppm)
 
     def _push(self, ref: int, action: Callable[[int, Any], None], what: Any) -> None:
         self._order += 1
