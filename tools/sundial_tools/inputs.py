@@ -2,6 +2,7 @@
 
 from __future__ import annotations
 
+import argparse
 import contextlib
 import os
 import shutil
@@ -15,23 +16,35 @@ NAME = "standard input"
 
 
 @contextlib.contextmanager
-def as_files(paths: Sequence[str]) -> Iterator[List[str]]:
-    """The same paths, but in place of `-` a file with what standard input brings. It is there within the block."""
-    if "-" not in paths:
-        yield list(paths)
-        return
-    if list(paths).count("-") > 1:
+def as_files(options: argparse.Namespace, *names: str, streams: Sequence[str] = ()) -> Iterator[None]:
+    """Within the block, these options name a file with what standard input brings where they said `-`.
+
+    An option is a path, several, or none. Those of `streams` may say `-` too, and stay as they are.
+    """
+    said = [path for name in (*names, *streams) for path in _paths(getattr(options, name, None))]
+    if said.count("-") > 1:
         raise ToolError("only one file can be -, which is standard input")
+    if not any("-" in _paths(getattr(options, name, None)) for name in names):
+        yield
+        return
     with tempfile.TemporaryDirectory() as folder:
         kept = os.path.join(folder, NAME)
         with open(kept, "wb") as file:
             shutil.copyfileobj(sys.stdin.buffer, file)
+        for name in names:
+            value = getattr(options, name, None)
+            paths = [kept if path == "-" else path for path in _paths(value)]
+            setattr(options, name, paths if isinstance(value, list) else paths[0] if paths else None)
         try:
-            yield [kept if path == "-" else path for path in paths]
+            yield
         except ToolError as fault:
             if fault.source != kept:
                 raise
             raise ToolError(fault.reason, NAME, fault.line) from None
+
+
+def _paths(value: "str | List[str] | None") -> List[str]:
+    return [] if value is None else [value] if isinstance(value, str) else value
 
 
 def shown(path: str) -> str:

@@ -10,7 +10,7 @@ import sys
 import unittest
 from unittest import mock
 
-from support import EXAMPLES, PROGRAM, TOOLS, directory, needs_sundial, run
+from support import EXAMPLES, NETWORK, PROGRAM, TOOLS, directory, needs_sundial, run
 
 from sundial_tools import __version__
 from sundial_tools.network.main import main as topology_main
@@ -86,14 +86,16 @@ class Alike(unittest.TestCase):
             status, out, _ = run("sundial-topology", topology_main, ["names", "-"])
         self.assertEqual((status, out.splitlines()[1]), (0, "device,0,r,,,1"))
 
-    def same_from_standard_input(self, folder, program, words):
-        """A run of the tool with each file by name, and one for each of them with `-` in its place."""
+    def same_from_standard_input(self, folder, program, words, made=None):
+        """A run of the tool with each file by name, and one for each of them with `-` in its place. It makes the folder `made`."""
         environment = {**os.environ, "SUNDIAL": program, "SOURCE_DATE_EPOCH": "0"}
 
         def ran(words, source):
             with open(source) as file:
                 command = [sys.executable, TOOLS / words[0], *words[1:]]
                 done = subprocess.run(command, cwd=folder, env=environment, stdin=file, capture_output=True, text=True, check=False)
+            if made:
+                shutil.rmtree(folder / made)
             return done.returncode, done.stdout.replace("standard input", "FILE"), done.stderr.replace("standard input", "FILE")
 
         words = words.split()
@@ -121,9 +123,34 @@ class Alike(unittest.TestCase):
                 "sundial-topology lint topology.toml",
                 "sundial-topology absent topology.toml r -p plan.json",
                 "sundial-whatif topology.toml plan.json --until 1ms",
-                "sundial-why topology.toml -l replay.txt",
+                "sundial-why topology.toml plan.json plan-2.json schedule.txt -l replay.txt",
             ):
                 self.same_from_standard_input(folder, "", words)
+
+    def test_each_text_of_a_network_from_standard_input(self):
+        with directory() as folder:
+            shutil.copytree(NETWORK, folder, dirs_exist_ok=True)
+            numbers = "--oscillators oscillators.csv --delays delays.csv --period 100us --tick 10us --loss 1 --depth 3 --root-role spine"
+            parts = " ".join(f"--{kind} netbox/{kind}.json" for kind in ("devices", "interfaces", "cables"))
+            ignored = "--ignore-role management --ignore-role pdu --ignore-role panel"
+            self.same_from_standard_input(folder, "", f"sundial-topology tables --devices devices.csv --links links.csv {numbers}")
+            self.same_from_standard_input(folder, "", f"sundial-topology netbox {parts} {ignored} {numbers}")
+
+    def test_each_text_of_logs_and_captures_from_standard_input(self):
+        with directory() as folder:
+            shutil.copytree(EXAMPLES / "ptp", folder, dirs_exist_ok=True)
+            to = "--device follower --link wire --asymmetry 20000000"
+            self.same_from_standard_input(folder, "", f"sundial-exchanges ptp topology.toml ptp4l.capture {to}")
+            self.same_from_standard_input(folder, "", f"sundial-exchanges chrony topology.toml ntpdata.csv {to}")
+            shutil.copytree(EXAMPLES / "logs", folder, dirs_exist_ok=True)
+            self.same_from_standard_input(folder, "", "sundial-record topology.toml r.jsonl b.jsonl x.jsonl --plan plan.json --counters life")
+
+    def test_each_text_of_a_watch_from_standard_input(self):
+        with directory() as folder:
+            shutil.copytree(EXAMPLES / "logs", folder, dirs_exist_ok=True)
+            words = "topology.toml r.jsonl b.jsonl x.jsonl --plan plan.json --counters life -o state --once --follow"
+            stand_in = TOOLS / "tests" / "plain_sundial.py"
+            self.same_from_standard_input(folder, str(stand_in), f"sundial-watch {words}", "state")
 
     @needs_sundial
     def test_each_text_from_standard_input_where_sundial_reads_it_too(self):

@@ -449,8 +449,8 @@ class Drills(unittest.TestCase):
 
     def test_the_greatest_come_first(self):
         bounds = [int(line[4]) for line in self.lines if line[0] == "bound"]
-        for name, column in ("by-domain", 2), ("by-device", 1):
-            values = [microseconds(row[column]) for row in self.rows(name)]
+        for name, place in ("by-domain", 2), ("by-device", 1):
+            values = [microseconds(row[place]) for row in self.rows(name)]
             self.assertEqual(values, sorted(values, reverse=True))
             self.assertEqual(values[0], max(bounds))
         first = self.tree.one("table", "heat").one("tbody").all("td", "cell")[0]

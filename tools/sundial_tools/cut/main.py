@@ -172,7 +172,7 @@ class Runs:
 
 def main(words: List[str]) -> int:
     options = _parser().parse_args(words)
-    with as_files([options.topology, *options.plan]) as (options.topology, *options.plan):
+    with as_files(options, "topology", "plan", streams=("schedule",)):
         return _cut(options)
 
 

@@ -6,6 +6,7 @@ import argparse
 import sys
 from typing import Dict, List
 
+from sundial_tools.inputs import as_files
 from sundial_tools.network.absent import write_absent
 from sundial_tools.network.assemble import Settings, assemble
 from sundial_tools.network.found import Found
@@ -19,9 +20,17 @@ from sundial_tools.safe_write import OUTPUT, whole_output
 from sundial_tools.times import picoseconds
 from sundial_tools.topology import MOST_PICOSECONDS, read_topology, topology_text
 
+# The options that name texts. Files of LLDP are not among them: the name of such a file says its host.
+TEXTS = ("topology", "plan", "devices", "links", "interfaces", "cables", "oscillators", "delays")
+
 
 def main(words: List[str]) -> int:
     options = _parser().parse_args(words)
+    with as_files(options, *TEXTS):
+        return _made(options)
+
+
+def _made(options: argparse.Namespace) -> int:
     if options.source == "names":
         topology = read_topology(options.topology)
         with whole_output(options.output) as text:

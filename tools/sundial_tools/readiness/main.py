@@ -23,15 +23,15 @@ def main(words: List[str]) -> int:
     program = sundial_program()
     if program is None:
         raise ToolError("this asks sundial: put it on the path, or name it in the variable SUNDIAL")
-    with as_files([options.topology, options.plan]) as (topology_file, plan_file):
-        return _told(options, program, topology_file, plan_file)
+    with as_files(options, "topology", "plan"):
+        return _told(options, program)
 
 
-def _told(options: argparse.Namespace, program: str, topology_file: str, plan_file: str) -> int:
-    topology = read_topology(topology_file)
-    plan = read_plan(plan_file, topology)
+def _told(options: argparse.Namespace, program: str) -> int:
+    topology = read_topology(options.topology)
+    plan = read_plan(options.plan, topology)
     hold = plan.wait_first + plan.wait_second + TICKS * topology.tick if options.hold is None else time_of(options.hold)
-    losses = Losses(program, topology, plan, (topology_file, plan_file), time_of(options.base), hold)
+    losses = Losses(program, topology, plan, (options.topology, options.plan), time_of(options.base), hold)
     with Progress("sundial-readiness", "losses") as progress, whole_output(options.output) as text:
         found = list(losses.all(progress.step))
         if options.json:

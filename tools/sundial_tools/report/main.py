@@ -32,12 +32,7 @@ PARTS = ("tree", "drill", "replay")
 
 def main(words: List[str]) -> int:
     said = _parser().parse_args(words)
-    named = [said.topology, *said.plans, *(said.replay or ()), *(path for path in (said.check, said.drill) if path)]
-    with as_files(named) as files:
-        place = dict(zip(named, files))
-        said.topology, said.plans = place[said.topology], [place[path] for path in said.plans]
-        said.replay = [place[path] for path in said.replay] if said.replay else None
-        said.check, said.drill = place.get(said.check), place.get(said.drill)
+    with as_files(said, "topology", "plans", "replay", "check", "drill"):
         return _write(said)
 
 

@@ -120,5 +120,6 @@ def evenly(intervals: List["Interval | None"]) -> List[Optional[float]]:
 
 def greatest(intervals: Iterable[List["Interval | None"]]) -> List[Optional[float]]:
     """The envelope: for each interval of time the greatest eps of all devices."""
-    known = (filter(None.__ne__, column) for column in zip_longest(*map(evenly, intervals)))
-    return [max(column, default=None) for column in known]
+    return [
+        max((value for value in at_once if value is not None), default=None) for at_once in zip_longest(*map(evenly, intervals))
+    ]

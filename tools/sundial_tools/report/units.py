@@ -60,7 +60,7 @@ class Column(NamedTuple):
 
 def column(values: Sequence[int], sign: str = "", beside: Sequence[int] = ()) -> Column:
     """The unit fits the greatest of the values and of those of another column `beside`. `sign` stands before what is not negative."""
-    size, unit = unit_of(max(map(abs, [*values, *beside]), default=0))
+    size, unit = unit_of(max((abs(value) for value in (*values, *beside)), default=0))
     digits, step = 0, size
     while any(value % step for value in values):
         digits, step = digits + 1, step // 10

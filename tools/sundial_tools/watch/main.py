@@ -8,6 +8,7 @@ import time
 from typing import Dict, List
 
 from sundial_tools.errors import ToolError
+from sundial_tools.inputs import as_files
 from sundial_tools.outputs import read_output
 from sundial_tools.plan import read_plan
 from sundial_tools.schedule import MOST_NUMBER
@@ -31,6 +32,11 @@ def _watch(words: List[str]) -> int:
     program = sundial_program()
     if not program:
         raise ToolError("sundial-watch needs sundial on the path, or the variable SUNDIAL")
+    with as_files(said, "topology", "plan", streams=("logs",)):
+        return _watched(said, program)
+
+
+def _watched(said: argparse.Namespace, program: str) -> int:
     topology = read_topology(said.topology)
     plans = [read_plan(path, topology) for path in said.plan]
     options = Options(

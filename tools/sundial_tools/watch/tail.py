@@ -126,20 +126,15 @@ class Tail(Log):
 
     def _open_file(self) -> bool:
         """Opens the log where it is there. A FIFO stays open, and what it brings goes to the spool."""
-        if self.path == "-":
-            self._fifo = os.dup(0)
-            os.set_blocking(self._fifo, False)
+        try:
+            opened = os.dup(0) if self.path == "-" else os.open(self.path, os.O_RDONLY | os.O_NONBLOCK)
+        except FileNotFoundError:
+            return False
+        if stat.S_ISREG(os.fstat(opened).st_mode):
+            self._file = opened
         else:
-            try:
-                is_file = stat.S_ISREG(os.stat(self.path).st_mode)
-                opened = os.open(self.path, os.O_RDONLY | os.O_NONBLOCK)
-            except FileNotFoundError:
-                return False
-            if is_file:
-                self._file = opened
-            else:
-                self._fifo = opened
-        if self._fifo >= 0:
+            self._fifo = opened
+            os.set_blocking(self._fifo, False)
             self._file = os.open(self._spool, os.O_RDWR | os.O_CREAT, 0o600)
         os.lseek(self._file, self._read.offset, os.SEEK_SET)
         return True

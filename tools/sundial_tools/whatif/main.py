@@ -29,7 +29,7 @@ MOST_PLANS = 64
 
 def main(words: List[str]) -> int:
     options = _parser().parse_args(words)
-    with as_files([options.topology, options.plan]) as (options.topology, options.plan):
+    with as_files(options, "topology", "plan"):
         return _drawn_and_told(options)
 
 

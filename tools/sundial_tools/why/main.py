@@ -8,6 +8,7 @@ import sys
 from typing import Dict, Iterator, List, Optional, Sequence
 
 from sundial_tools.errors import ToolError
+from sundial_tools.inputs import as_files
 from sundial_tools.outputs import OutputLine, parse_line
 from sundial_tools.plan import Plan, parse_plan
 from sundial_tools.safe_write import FOLLOW, output_of
@@ -133,6 +134,11 @@ def _plain(line: OutputLine) -> Iterator[str]:
 
 def main(words: List[str]) -> int:
     options = _parser().parse_args(words)
+    with as_files(options, "topology", "others", "absent", streams=("lines",)):
+        return _explain(options)
+
+
+def _explain(options: argparse.Namespace) -> int:
     why = Why(options.topology, options.others, options.absent)
     with contextlib.ExitStack() as stack:
         source = sys.stdin if options.lines == "-" else stack.enter_context(open(options.lines, encoding="utf-8", newline="\n"))
