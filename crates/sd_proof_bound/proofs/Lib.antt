@@ -3,6 +3,7 @@ pub mod Composing
 pub mod Bounded
 pub mod Calm
 pub mod Hearing
+pub mod Closing
 pub mod ages
 pub mod bases
 pub mod chains

@@ -10,6 +10,7 @@ pub mod Hearing
 pub mod Steady
 pub mod Tight
 pub mod Calm
+pub mod Closing
 -- Handed on: what crates above name of those below.
 pub use Rattle.sd_drill.specs as Drill
 pub use Rattle.sd_proof_safety.specs.History as History
