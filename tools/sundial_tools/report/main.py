@@ -17,6 +17,8 @@ from sundial_tools.report.drill import Drill, DrillReader
 from sundial_tools.report.drill_section import drill_section
 from sundial_tools.report.markup import Raw, element
 from sundial_tools.report.page import contents, page, source, sources_table
+from sundial_tools.report.readiness import Readiness, read_readiness
+from sundial_tools.report.readiness_section import readiness_section
 from sundial_tools.report.refusal import Refusal, refusal_of
 from sundial_tools.report.replay import Replay, ReplayReader
 from sundial_tools.report.replay_section import replay_section
@@ -27,12 +29,12 @@ from sundial_tools.safe_write import Progress, whole_output
 from sundial_tools.schedule import open_schedule
 from sundial_tools.topology import Topology, read_topology
 
-PARTS = ("tree", "drill", "replay")
+PARTS = ("tree", "drill", "replay", "readiness")
 
 
 def main(words: List[str]) -> int:
     said = _parser().parse_args(words)
-    with as_files(said, "topology", "plans", "replay", "check", "drill"):
+    with as_files(said, "topology", "plans", "replay", "check", "drill", "readiness"):
         return _write(said)
 
 
@@ -47,13 +49,14 @@ def _write(said: argparse.Namespace) -> int:
 def _parser() -> argparse.ArgumentParser:
     parser = argparse.ArgumentParser(
         prog="sundial-report",
-        description="Makes one HTML page of a topology with its plans, a drill and a replay. It opens with a verdict.",
+        description="Makes one HTML page of a topology with its plans, a drill, a replay and readiness. It opens with a verdict.",
         epilog="The page needs no network and no other file. See docs/REPORT.md.",
     )
     parser.add_argument("topology", metavar="TOPOLOGY")
     parser.add_argument("plans", metavar="PLAN", nargs="+", help="the plans, in the order of the command")
     parser.add_argument("--check", metavar="FILE", help="what `sundial check` printed: a refusal is marked")
     parser.add_argument("--drill", metavar="FILE", help="what `sundial drill` printed over the first plan")
+    parser.add_argument("--readiness", metavar="FILE", help="what `sundial-readiness --json` printed over the first plan")
     parser.add_argument(
         "--replay",
         nargs=2,
@@ -63,7 +66,7 @@ def _parser() -> argparse.ArgumentParser:
     parser.add_argument("--domain", metavar="DOMAIN", help="show the trees under this domain, as 'listed rack0'")
     parser.add_argument("--layout", choices=("rows", "dot"), default="rows", help="how the trees are laid out: in rows, or by dot of graphviz (default: rows)")
     parser.add_argument(
-        "--only", metavar="PART", choices=PARTS, action="append", help="only this part: tree, drill or replay"
+        "--only", metavar="PART", choices=PARTS, action="append", help="only this part: tree, drill, replay or readiness"
     )
     parser.add_argument("--title", metavar="TEXT", help="the heading of the page")
     parser.add_argument("--output", "-o", metavar="FILE", help="where the page goes (default: standard output)")
@@ -85,9 +88,9 @@ class _Report:
 
     def page(self) -> str:
         self._check()
-        drill, replay = self._drill(), self._replay()
+        drill, replay, readiness = self._drill(), self._replay(), self._readiness()
         shown = replay if replay is not None and replay.refused_plan is None else None
-        accepted = self._accepted or drill is not None
+        accepted = self._accepted or drill is not None or readiness is not None
         refusals = [self._refusals[place] for place in sorted(self._refusals)]
         links: List[Tuple[str, str]] = [("verdict", "Verdict")]
         sections: List[Raw] = [verdict(refusals, shown, accepted).html()]
@@ -100,6 +103,9 @@ class _Report:
         if drill is not None and self._wants("drill"):
             links.append(("drill", "Drill"))
             sections.append(drill_section(self._topology, drill))
+        if readiness is not None and self._wants("readiness"):
+            links.append(("readiness", "Readiness"))
+            sections.append(readiness_section(readiness))
         opening = [self._facts(), contents([*links, ("files", "Files")])]
         return page(self._said.title or "Sundial: a fabric and its plans", opening, [*sections, self._files()])
 
@@ -121,7 +127,7 @@ class _Report:
     def _files(self) -> Raw:
         said, sources = self._said, [source(f"topology, version {self._topology.version}", self._said.topology)]
         sources += [source(f"plan {place}, version 1", path) for place, path in enumerate(said.plans, 1)]
-        for what, path in ("check", said.check), ("drill", said.drill):
+        for what, path in ("check", said.check), ("drill", said.drill), ("sundial-readiness", said.readiness):
             sources += [source(f"output of {what}", path)] if path else []
         if said.replay:
             sources += [source("schedule", said.replay[0]), source("output of replay or order", said.replay[1])]
@@ -176,6 +182,13 @@ class _Report:
                 raise ToolError(f"sundial refused its input: {text}", name)
             self._refused(line, text, name)
         return drill
+
+    def _readiness(self) -> Optional[Readiness]:
+        name = self._said.readiness
+        if name is None:
+            return None
+        with open(name, encoding="utf-8", newline="\n") as file:
+            return read_readiness(file, self._topology, name)
 
     def _replay(self) -> Optional[Replay]:
         if self._said.replay is None:

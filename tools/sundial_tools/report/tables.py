@@ -30,7 +30,7 @@ def _cell(cell: Cell) -> Raw:
 
 
 def _is_number(cell: Cell) -> bool:
-    return isinstance(cell, tuple) or NUMBER.fullmatch(cell) is not None
+    return isinstance(cell, tuple) or (not isinstance(cell, Raw) and NUMBER.fullmatch(cell) is not None)
 
 
 def names_of(topology: Topology, devices: Sequence[int]) -> str:

@@ -90,6 +90,6 @@ def round_steps(least: float, most: float, count: int) -> List[float]:
     return steps
 
 
-def count(number: int, thing: str) -> str:
+def count(number: int, thing: str, things: str = "") -> str:
     """A number and what it counts: 1 device, 2 devices."""
-    return f"{number:,} {thing}" if number == 1 else f"{number:,} {thing}s"
+    return f"{number:,} {thing}" if number == 1 else f"{number:,} {things or thing + 's'}"

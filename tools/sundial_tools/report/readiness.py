@@ -1,0 +1,88 @@
+"""Reads what `sundial-readiness --json` wrote. Losses that do the same are kept once."""
+
+from __future__ import annotations
+
+from typing import Any, Dict, Iterable, List, NamedTuple, Optional, Tuple
+
+from sundial_tools.errors import ToolError
+from sundial_tools.json_text import parse_json
+from sundial_tools.outputs import parse_line
+from sundial_tools.report.refusal import MEANING
+from sundial_tools.topology import Topology
+
+KEYS: Dict[str, Tuple[type, ...]] = {
+    "kind": (str,), "name": (str,), "takes_over": (bool,), "moving": (list,), "bound_ps": (int, type(None)),
+    "bound_device": (str, type(None)), "without_bound": (int,), "cut_off": (list,), "planned_again": (bool,),
+    "refusal": (str, type(None)), "next_root": (str, type(None)), "next_backup_root": (str, type(None)),
+}
+
+
+class Outcome(NamedTuple):
+    """What a loss does. `bound` is the greatest of the drill, in picoseconds, and `at` the device that has it; None where
+    no device has one. `refusal` is empty where what is left can be planned again, with the two roots of `next_roots`."""
+
+    takes_over: bool
+    moving: Tuple[str, ...]
+    bound: Optional[int]
+    at: Optional[str]
+    without_bound: int
+    cut_off: Tuple[str, ...]
+    refusal: str
+    next_roots: Tuple[str, ...]
+
+    @property
+    def meaning(self) -> str:
+        """The condition that the next plan breaks, in words."""
+        line = parse_line(f"refused plan 1 {self.refusal}") if self.refusal else None
+        return "" if line is None else MEANING.get(line.kind.removeprefix("refused "), "")
+
+
+class Readiness(NamedTuple):
+    """Each outcome with its losses, as `link a`. Those come first after which nothing can be planned, then the widest."""
+
+    outcomes: Tuple[Tuple[Outcome, Tuple[str, ...]], ...]
+
+    @property
+    def losses(self) -> int:
+        return sum(len(names) for _, names in self.outcomes)
+
+    @property
+    def planned_again(self) -> int:
+        return sum(len(names) for outcome, names in self.outcomes if not outcome.refusal)
+
+
+def read_readiness(lines: Iterable[str], topology: Topology, source: str) -> Readiness:
+    found: Dict[Outcome, List[str]] = {}
+    known = {
+        "listed": {domain.name for domain in topology.domains}, "device": set(topology.device_numbers),
+        "link": set(topology.link_numbers),
+    }
+    for number, text in enumerate(lines, 1):
+        said = _row(text, source, number)
+        if said["name"] not in known.get(said["kind"], ()):
+            raise ToolError(f"the topology has no {said['kind']} {said['name']}", source, number)
+        found.setdefault(_outcome(said), []).append(f"{said['kind']} {said['name']}")
+    if not found:
+        raise ToolError("there is no loss: it is no output of sundial-readiness --json", source)
+    order = sorted(found, key=lambda outcome: (not outcome.refusal, -(outcome.bound or 0), -len(outcome.moving)))
+    return Readiness(tuple((outcome, tuple(found[outcome])) for outcome in order))
+
+
+def _row(text: str, source: str, number: int) -> Dict[str, Any]:
+    try:
+        said = parse_json(text, source)
+    except ToolError as fault:
+        raise ToolError(fault.reason, source, number) from None
+    if not isinstance(said, dict) or any(type(said.get(key)) not in kinds for key, kinds in KEYS.items()):
+        raise ToolError("no line of sundial-readiness --json", source, number)
+    if any(not isinstance(name, str) for key in ("moving", "cut_off") for name in said[key]):
+        raise ToolError("no line of sundial-readiness --json", source, number)
+    return said
+
+
+def _outcome(said: Dict[str, Any]) -> Outcome:
+    roots = tuple(said[key] for key in ("next_root", "next_backup_root") if said[key])
+    return Outcome(
+        said["takes_over"], tuple(said["moving"]), said["bound_ps"], said["bound_device"], said["without_bound"],
+        tuple(said["cut_off"]), "" if said["planned_again"] else said["refusal"] or "not said why", roots,
+    )
