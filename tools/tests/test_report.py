@@ -13,10 +13,11 @@ from unittest import mock
 import case
 from examples import EXAMPLES, outputs
 from page_tree import parse
-from support import TOOLS, directory, run
+from support import PROGRAM, TOOLS, directory, needs_sundial, run
 
 from sundial_tools.fleet.fleet import Fleet
 from sundial_tools.plan import read_plan
+from sundial_tools.readiness.main import main as readiness_main
 from sundial_tools.report.effects import Effects, fault_domains
 from sundial_tools.report.main import main
 from sundial_tools.report.replay import Replay
@@ -689,6 +690,71 @@ class Replays(unittest.TestCase):
                 self.assertEqual(status, 1)
                 self.assertIn(reason, err)
                 self.assertFalse((path / "page").exists())
+
+
+class ReadinessOfLosses(unittest.TestCase):
+    """The section of what `sundial-readiness --json` printed."""
+
+    HERE = EXAMPLES / "fabric"
+
+    def row(self, name, **more):
+        said = {
+            "kind": "device", "name": name, "takes_over": False, "moving": ["leaf1"], "bound_ps": 5583603, "bound_device": "spine3",
+            "without_bound": 1, "cut_off": [], "planned_again": True, "refusal": None, "next_root": "spine1", "next_backup_root": "spine2",
+        }
+        return {**said, **more}
+
+    def made(self, *rows):
+        with directory() as path:
+            (path / "readiness").write_text("".join(json.dumps(row) + "\n" for row in rows))
+            return tool(self.HERE / "topology.toml", self.HERE / "plan.json", "--readiness", path / "readiness")
+
+    def test_what_cannot_be_planned_again_comes_first_and_losses_alike_are_one_row(self):
+        refused = "reach device spine1 chain leaf1"
+        status, out, err = self.made(
+            self.row("leaf2"), self.row("leaf3"), self.row("leaf4"), self.row("leaf5"), self.row("spine1", takes_over=True, moving=["leaf1", "leaf2"], next_root="spine2"),
+            self.row("leaf1-spine2", kind="link", planned_again=False, refusal=refused, next_root=None, next_backup_root=None),
+            self.row("feed-a", kind="listed", bound_ps=None, bound_device=None, cut_off=["leaf1", "leaf2"]),
+        )
+        self.assertEqual((status, err), (0, ""))
+        tree = parse(out)
+        section = tree.one("section", "readiness")
+        self.assertEqual(section.one("p", "facts").text, "6 of 7 losses can be planned again. After 1 the rule of renew finds no plan: they come first.")
+        heads = [node.text for node in section.one("thead").all("th")]
+        self.assertEqual(heads, ["loss", "alike", "may move", "greatest eps, us", "at", "without bound", "cut off", "planned again"])
+        rows = [[cell.text for cell in row.all("td")] for row in section.one("tbody").all("tr")]
+        self.assertEqual(rows[0], ["link leaf1-spine2", "1", "1", "5.583603", "spine3", "1", "", f"no: {refused}With the domain down, the first of these devices never hears again."])
+        self.assertEqual(rows[1][:4] + rows[1][7:], ["device spine1", "1", "2, takes over", "5.583603", "yes: spine2, spine2"])
+        self.assertEqual(rows[2][0], "device leaf2, device leaf3, device leaf4and 1 moredevice leaf5")
+        self.assertEqual(rows[3][:7], ["listed feed-a", "1", "1", "none", "", "1", "leaf1, leaf2"])
+        self.assertEqual(tree.one("section", "verdict")["data-verdict"], "accepted")
+        self.assertIn("#readiness", [node["href"] for node in tree.one("nav").all("a")])
+
+    def test_what_is_no_readiness(self):
+        for row, reason in (
+            (self.row("leaf99"), "readiness:1: the topology has no device leaf99"),
+            (self.row("leaf1", kind="rack"), "readiness:1: the topology has no rack leaf1"),
+            (self.row("leaf1", bound_ps="5"), "readiness:1: no line of sundial-readiness --json"),
+            (self.row("leaf1", moving=[1]), "readiness:1: no line of sundial-readiness --json"),
+            ([], "readiness:1: no line of sundial-readiness --json"),
+        ):
+            status, out, err = self.made(row)
+            self.assertEqual((status, out), (1, ""))
+            self.assertTrue(err.rstrip().endswith(reason), (err, reason))
+        self.assertIn("there is no loss", self.made()[2])
+
+    @needs_sundial
+    def test_the_section_has_what_the_tool_printed(self):
+        with directory() as path, mock.patch.dict(os.environ, {"SUNDIAL": str(PROGRAM)}):
+            words = [self.HERE / "topology.toml", self.HERE / "plan.json"]
+            status, out, err = run("sundial-readiness", readiness_main, [*words, "--json"])
+            self.assertEqual(status, 0, err)
+            (path / "readiness").write_text(out)
+            tree = page(*words, "--readiness", path / "readiness", "--only", "readiness")
+        rows = [[cell.text for cell in row.all("td")] for row in tree.one("table", "losses").one("tbody").all("tr")]
+        self.assertEqual(sum(int(row[1]) for row in rows), 46)
+        self.assertEqual(sum(int(row[1]) for row in rows if row[7].startswith("yes")), 38)
+        self.assertEqual([node.classes[0] for node in tree.one("main").children], ["verdict", "readiness", "sources"])
 
 
 class Verdicts(unittest.TestCase):
