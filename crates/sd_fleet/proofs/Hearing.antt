@@ -1,14 +1,11 @@
 -- A receipt by a device that has nobody below it, while no window is open: whatever the device sends, no flight comes of it.
-use Rattle.std.specs.Prelude.{◌≡◌, ℕ, ◌+◌, Bool, true, false, ◌&&◌, ◌||◌, [], ◌++◌, length, filter, nat_eq, None, Result, Ok, Err, refl, if◌then◌else◌}
+use Rattle.std.specs.Prelude.{◌≡◌, ℕ, ◌+◌, Bool, true, false, ◌&&◌, ◌||◌, [], ◌++◌, length, filter, nat_eq, None, Ok, refl, if◌then◌else◌}
 use Rattle.std.specs.Result.{result_ok}
 use Rattle.std.proofs.Common.{sym, ◌∙◌, ap, subst, inl, inr}
-use Rattle.std.proofs.lemmas.Bool.{and_parts, eqb-true, cases_Bool}
+use Rattle.std.proofs.lemmas.Bool.{eqb-true, cases_Bool}
 use Rattle.sd_num.specs.Lists.{map_or}
 use Rattle.sd_plan.specs.Tables.{TableRow}
 use Rattle.sd_msg.specs.declared.Flight.{Flight}
-use Rattle.sd_msg.specs.declared.TakeFault.{TakeFault}
-use Rattle.sd_msg.specs.declared.TakeFault.TheVariants as fault
-use Rattle.sd_msg.specs.Books.{for_device}
 use Rattle.sd_core.specs.declared.Effect.{Effect}
 use Rattle.sd_core.specs.declared.Effect.TheVariants.{Quiet, Send}
 use Rattle.sd_sched.specs.declared.Event.TheVariants as event
@@ -45,15 +42,6 @@ heard_accepted r reference d counter message accepted timed =
       left = all.1.1.1.1.1.1.1.1.1.1.1.1.1.1.1.1.0;
     })
     timed
-
--- the flight that is on its way to the device is the one that it takes
-pub timed_taken : (reference d : ℕ) (look : Result Flight TakeFault) → is_on_time reference d look ≡ true → for_device d look ≡ look
-timed_taken reference d (Ok f) timed = ap (λ b. if b then Ok f else Err fault.WrongDevice) (and_parts _ (nat_eq f.receiver d) timed).1
-timed_taken reference d (Err e) timed = cc
-
-pub timed_there : (reference d : ℕ) (look : Result Flight TakeFault) (e : TakeFault) → is_on_time reference d look ≡ true → look ≡ Err e → ⊥
-timed_there reference d (Ok f) e timed is = cc
-timed_there reference d (Err x) e timed is = cc
 
 module _ (r : Registers) (reference d counter : ℕ) (shut : is_open r.membership.world.window ≡ false)
     (alone : ends_below r.membership r.membership.world.epoch d ≡ []) where

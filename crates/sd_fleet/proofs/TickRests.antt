@@ -1,5 +1,5 @@
 -- A tick while no window is open, at which its device sends nothing and answers as before.
-use Rattle.std.specs.Prelude.{◌≡◌, ℕ, ◌+◌, ◌<◌, ◌^◌, false, length, filter, Some, None, refl}
+use Rattle.std.specs.Prelude.{◌≡◌, ℕ, zero, suc, ◌+◌, ◌<◌, ◌^◌, ◌&&◌, ◌||◌, false, List, [], ◌∷◌, length, filter, slice_set, slice_index_or, nat_eq, Some, None, refl, if◌then◌else◌}
 use Rattle.std.proofs.Common.{arith, sym, ◌∙◌, ap, subst}
 use Rattle.std.proofs.lemmas.List.{append-nil}
 use Rattle.sd_num.specs.Lists.{at_place}
@@ -8,19 +8,42 @@ use Rattle.sd_core.specs.declared.Effect.TheVariants.{Quiet}
 use Rattle.sd_sched.specs.declared.Event.{Event}
 use Rattle.sd_sched.specs.declared.Event.TheVariants as event
 use Rattle.sd_fleet_state.specs.declared.membership.AnswerSummary.{AnswerSummary}
-use Rattle.sd_fleet_state.specs.world.Registers.{is_open}
+use Rattle.sd_fleet_state.specs.declared.world.device.DeviceState.{DeviceState}
+use Rattle.sd_fleet_state.specs.world.Registers.{is_open, untouched, up_at, joins_at}
 use Rattle.sd_fleet_state.specs.membership.Plans.{AreTables}
 use Rattle.sd_fleet_state.specs.membership.Memberships as memberships
-use Rattle.sd_fleet_state.specs.membership.Memberships.{registers_after, registers_resting}
+use Rattle.sd_fleet_state.specs.membership.Memberships.{registers_after, registers_resting, is_in_force}
 use Rattle.sd_fleet_state.proofs.membership.Observing.{same_answers}
 use Rattle.sd_fleet.specs.Registers.{Registers, kept}
 use Rattle.sd_fleet.specs.Causes.{refusal_in}
 use Rattle.sd_fleet.specs.Doing.{replied}
 use Rattle.sd_fleet.specs.Sound.{IsSound}
 use Rattle.sd_fleet.specs.Stepping.{IsAfter, outcome_in, outcome_resting}
+use Rattle.sd_fleet.specs.Staying.{StaysAt}
 use Rattle.sd_fleet.proofs.Admitted.{events_left}
 use Rattle.sd_fleet.proofs.Outcoming.{same_outcome}
 use Rattle.sd_fleet.proofs.Steady.{not_closed, stays_shut, nobody_enters}
+
+-- a reading changes nothing else of a device
+same_but_reading : {A : Type 0} (f : DeviceState → A) → ((s : DeviceState) (n : ℕ) → f (record s { reading = n }) ≡ f s) → (devices : List DeviceState)
+    (d counter : ℕ) → f (slice_index_or (slice_set devices d (record (slice_index_or devices d untouched) { reading = counter })) d untouched)
+    ≡ f (slice_index_or devices d untouched)
+same_but_reading f same [] d counter = refl
+same_but_reading f same (s ∷ devices) zero counter = same s counter
+same_but_reading f same (s ∷ devices) (suc d) counter = same_but_reading f same devices d counter
+
+-- so the device stands as before
+pub stays_at : (old new : memberships.Registers) (reference d counter : ℕ) → new ≡ registers_resting old (event.Tick reference d counter) → StaysAt old new d
+stays_at old new reference d counter is =
+    let rested : memberships.Registers = registers_resting old (event.Tick reference d counter) in
+    let up : up_at rested.world d ≡ up_at old.world d = same_but_reading (λ s. s.up) (λ s n. refl) old.world.devices d counter in
+    subst (λ (r : memberships.Registers). StaysAt old r d) (sym is)
+    (record {
+      answers = ap (λ b. if b then at_place old.answers d None (λ a. a) else None) up;
+      counted = ap (λ b. b && (is_in_force old d || joins_at rested.world d)) up
+          ∙ ap (λ n. up_at old.world d && (is_in_force old d || (is_open old.world.window && nat_eq n old.world.windows)))
+          (same_but_reading (λ s. s.joined) (λ s n. refl) old.world.devices d counter);
+    })
 
 module _ (old : Registers) (reference d counter : ℕ) where
   abbrev ticked : Event

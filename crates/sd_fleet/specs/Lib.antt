@@ -10,6 +10,7 @@ pub mod FabricStanding
 pub mod Outcomes
 pub mod Room
 pub mod Stepping
+pub mod Staying
 pub mod Calling
 pub mod Nodes
 pub mod Hearing

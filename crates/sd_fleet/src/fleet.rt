@@ -17,6 +17,7 @@ ghost use Rattle.sd_fleet.specs.Nodes.{Acts};
 ghost use Rattle.sd_fleet.specs.Room.{most_sent_of, most_sent_in};
 ghost use Rattle.sd_fleet.specs.Sound.{IsSound};
 ghost use Rattle.sd_fleet.specs.Stepping.{OnlyRoomGrew, outcome_resting};
+ghost use Rattle.sd_fleet.specs.Staying.{StaysAt};
 ghost use Rattle.sd_fleet.specs.Hearing.{outcome_hearing};
 ghost use Rattle.sd_fleet.specs.Calling.{IsLimited};
 ghost use Rattle.sd_fleet.specs.Bounds.{AreNodes, context_of};
@@ -319,6 +320,8 @@ impl<N: Node> Fleet<N> {
             → StandsFor N.Node self.old setting run
             → IsAccepted N.Node self.new setting run (events_of.Tick reference d counter)
             (outcome_resting self.old.fabric d) }
+        ensures stays { IsTrue result
+            → StaysAt self.old.fabric.membership self.new.fabric.membership d }
         ensures same { result ≡ false → self.new ≡ self.old }
     {
         if !self.fabric.admits_tick(reference, d, counter) {
@@ -343,6 +346,8 @@ impl<N: Node> Fleet<N> {
             → IsAccepted N.Node self.new setting run
             (events_of.Recv reference d counter message)
             (outcome_hearing self.old.fabric d flight)) }
+        ensures stays { IfSome result
+            (λ flight. StaysAt self.old.fabric.membership self.new.fabric.membership d) }
         ensures same { result ≡ None → self.new ≡ self.old }
     {
         if !self.fabric.admits_alone(reference, d, counter) {
@@ -366,13 +371,8 @@ impl<N: Node> Fleet<N> {
         requires within { IsTrue (is_within (events_of.Tick reference d counter)) }
         requires prepared { IsPrepared self.old.fabric (events_of.Tick reference d counter) }
         requires shut { is_open self.old.fabric.membership.world.window ≡ false }
-        ensures accepted { (setting : Setting) (run : List (NodeStep N))
-            → StandsFor N.Node self.old setting run
-            → IsAccepted N.Node self.new setting run (events_of.Tick reference d counter)
+        ensures { HasHappened N.Node self.old self.new (events_of.Tick reference d counter)
             outcome.new }
-        ensures limited { IfSome outcome.new.report (λ told. IsLimited told.1) }
-        ensures few { outcome.new.sent
-            ≤ most_sent_in self.old.fabric (events_of.Tick reference d counter) }
     {
         let context = context_of_call(&self.fabric, d);
         let mut answers = unanswered();
@@ -389,13 +389,8 @@ impl<N: Node> Fleet<N> {
         requires prepared { IsPrepared self.old.fabric
             (events_of.Recv reference d counter message) }
         requires shut { is_open self.old.fabric.membership.world.window ≡ false }
-        ensures accepted { (setting : Setting) (run : List (NodeStep N))
-            → StandsFor N.Node self.old setting run
-            → IsAccepted N.Node self.new setting run (events_of.Recv reference d counter message)
-            outcome.new }
-        ensures limited { IfSome outcome.new.report (λ told. IsLimited told.1) }
-        ensures few { outcome.new.sent
-            ≤ most_sent_in self.old.fabric (events_of.Recv reference d counter message) }
+        ensures { HasHappened N.Node self.old self.new
+            (events_of.Recv reference d counter message) outcome.new }
     {
         let context = context_of_call(&self.fabric, d);
         self.fabric.take(d, message, &mut outcome.taken);

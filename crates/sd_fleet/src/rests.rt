@@ -9,6 +9,7 @@ ghost use Rattle.sd_fleet.specs.Causes.{refusal_in};
 ghost use Rattle.sd_fleet.specs.Doing.{replied};
 ghost use Rattle.sd_fleet.specs.Sound.{IsSound};
 ghost use Rattle.sd_fleet.specs.Stepping.{IsAfter};
+ghost use Rattle.sd_fleet.specs.Staying.{StaysAt};
 
 use crate::Fabric;
 
@@ -35,6 +36,7 @@ impl Fabric {
             → at_place self.old.membership.answers d None (λ a. a) ≡ Some answers
             → IsAfter self.old (events_of.Tick reference d counter) (replied Quiet answers)
             self.new }
+        ensures stays { StaysAt self.old.membership self.new.membership d }
         ensures sound { IsSound self.new }
     {
         self.book.purge(reference);

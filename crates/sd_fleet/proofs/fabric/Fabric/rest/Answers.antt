@@ -10,8 +10,9 @@ use Rattle.sd_fleet.specs.Doing.{replied}
 use Rattle.sd_fleet.specs.FabricView.{registers_seen}
 use Rattle.sd_fleet.specs.Sound.{IsSound}
 use Rattle.sd_fleet.specs.Stepping.{IsAfter}
+use Rattle.sd_fleet.specs.Staying.{StaysAt}
 use Rattle.sd_fleet.proofs.FabricKeeping.{named_answers}
-use Rattle.sd_fleet.proofs.TickRests.{after_rest, sound_rest}
+use Rattle.sd_fleet.proofs.TickRests.{after_rest, sound_rest, stays_at}
 use Rattle.sd_fleet.proofs.fabric.Fabric.rest.Goals as goal
 
 pub note_rest-requires-clause-room : goal.note_rest-requires-clause-room
@@ -42,6 +43,11 @@ invariant_of-self c = sound c
 
 pub returns-clause-sound : goal.returns-clause-sound
 returns-clause-sound c = sound c
+
+pub returns-clause-stays : goal.returns-clause-stays
+returns-clause-stays c =
+    subst (λ (r : Registers). StaysAt r.membership c.note_rest.new.self c.args.d) c.self.view_is
+    (stays_at (old c).membership c.note_rest.new.self c.args.reference c.args.d c.args.counter c.note_rest.ensures.tick)
 
 pub returns-clause-after : goal.returns-clause-after
 returns-clause-after c =

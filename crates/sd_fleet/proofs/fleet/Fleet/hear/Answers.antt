@@ -1,7 +1,9 @@
 -- The flight was taken, its device received it, and the time went on: a step of the history.
-use Rattle.std.proofs.Common.{◌≡◌, ◌∙◌, sym}
+use Rattle.std.proofs.Common.{◌≡◌, ◌∙◌, sym, subst}
 use Rattle.std.specs.Vec.{with_items}
 use Rattle.std.proofs.lemmas.List.{with_items_is}
+use Rattle.sd_fleet.specs.Staying.{StaysAt}
+use Rattle.sd_fleet.specs.FleetState.membership.Memberships as membership
 use Rattle.sd_fleet.proofs.Hearing.{heard_accepted}
 use Rattle.sd_fleet.proofs.NodeHears.{IsHeard, length_heard, nodes_hearing, goes_hearing}
 use Rattle.sd_fleet.proofs.Stepping.{can_receive}
@@ -64,3 +66,7 @@ returns-clause-accepted g c =
     setting run stands.is_run stands.fabric stands.nodes
     in
     record { next = on.step; happens = on.happens; comes = on.comes; stands = record { is_run = on.is_run; fabric = on.stands; nodes = on.nodes } })
+
+pub returns-clause-stays : goal.returns-clause-stays
+returns-clause-stays g c =
+    subst (λ (m : membership.Registers). StaysAt m c.rest.new.self.membership c.args.d) c.receive-flight.ensures.left.membership c.rest.ensures.stays

@@ -98,27 +98,26 @@ invariant_of-self g c =
           c.tick.ensures.after;
     }
 
-pub returns-clause-accepted : goal.returns-clause-accepted
-returns-clause-accepted g c =
-    λ setting run stands.
-    (let on =
-    goes_further g.N.Node c.args.self.now.fabric c.tick.new.self (happened g c) c.args.self.now.nodes.items c.deref_mut.result.now
-    c.step_at-effect.new.nodes (with_items c.args.self.now.nodes c.step_at-effect.new.nodes).items c.context_of_call-context.result (reply g c)
-    c.tick.new.outcome c.deref_mut.ensures.value (acts g c) (left_is g c) c.args.self.now.are_nodes c.requires.prepared.accepted
-    (tick_tells c.args.reference c.args.d c.args.counter c.step_at-effect.result c.step_at-effect.new.answers)
-    (after g c) (comes g c) setting run stands.is_run stands.fabric stands.nodes
-    in
-    record { next = on.step; happens = on.happens; comes = on.comes; stands = record { is_run = on.is_run; fabric = on.stands; nodes = on.nodes } })
-
-pub returns-clause-limited : goal.returns-clause-limited
-returns-clause-limited g c =
-    outcome_limited g.N.Node c.args.self.now.fabric (happened g c) c.deref_mut.result.now c.step_at-effect.new.nodes c.context_of_call-context.result
-    (act_in c.args.self.now.fabric (happened g c)) (reply g c) c.tick.new.outcome
-    (context_few c.args.self.now.fabric (event.Tick 0 c.args.d 0) c.context_of_call-context.result c.context_of_call-context.ensures.context
-    c.context_of_call-context.ensures.sound)
-    refl (acts g c) (comes g c)
-
-pub returns-clause-few : goal.returns-clause-few
-returns-clause-few g c =
-    sent_most c.args.self.now.fabric (happened g c) (reply g c) c.tick.new.outcome c.requires.prepared.accepted
-    (tick_tells c.args.reference c.args.d c.args.counter c.step_at-effect.result c.step_at-effect.new.answers) (comes g c)
+pub returns : goal.returns
+returns g c =
+    record {
+      accepted =
+          λ setting run stands.
+          (let on =
+          goes_further g.N.Node c.args.self.now.fabric c.tick.new.self (happened g c) c.args.self.now.nodes.items c.deref_mut.result.now
+          c.step_at-effect.new.nodes (with_items c.args.self.now.nodes c.step_at-effect.new.nodes).items c.context_of_call-context.result (reply g c)
+          c.tick.new.outcome c.deref_mut.ensures.value (acts g c) (left_is g c) c.args.self.now.are_nodes c.requires.prepared.accepted
+          (tick_tells c.args.reference c.args.d c.args.counter c.step_at-effect.result c.step_at-effect.new.answers)
+          (after g c) (comes g c) setting run stands.is_run stands.fabric stands.nodes
+          in
+          record { next = on.step; happens = on.happens; comes = on.comes; stands = record { is_run = on.is_run; fabric = on.stands; nodes = on.nodes } });
+      limited =
+          outcome_limited g.N.Node c.args.self.now.fabric (happened g c) c.deref_mut.result.now c.step_at-effect.new.nodes c.context_of_call-context.result
+          (act_in c.args.self.now.fabric (happened g c)) (reply g c) c.tick.new.outcome
+          (context_few c.args.self.now.fabric (event.Tick 0 c.args.d 0) c.context_of_call-context.result c.context_of_call-context.ensures.context
+          c.context_of_call-context.ensures.sound)
+          refl (acts g c) (comes g c);
+      few =
+          sent_most c.args.self.now.fabric (happened g c) (reply g c) c.tick.new.outcome c.requires.prepared.accepted
+          (tick_tells c.args.reference c.args.d c.args.counter c.step_at-effect.result c.step_at-effect.new.answers) (comes g c);
+    }
