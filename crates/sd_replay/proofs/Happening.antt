@@ -77,13 +77,13 @@ module _ {N V : Type 0} (g : Ghosts N) (o : observers.Ghosts V) (before : Fleet 
 
   -- what was found of it is of the topology
   pub devices_merely : (found : Findings)
-      → ((setting : Setting) (run : List (NodeStep N)) → fleets.IsAccepted g after setting run e outcome → HasSeen monitors setting (steps_of run)
+      → ((setting : Setting) (run : List (NodeStep N)) → fleets.StandsFor g before setting run → HasSeen monitors setting (steps_of run)
       → IsOf setting.net found)
       → ∥ HasRun g o before monitors event_output observer ∥₁ → IsOf (network event_output.topology) found
   devices_merely found of there =
       of_merely (network event_output.topology) found
       (∥∥₁_map there (λ has.
-      subst (λ net. IsOf net found) (sym has.stands.tells.net) (of has.setting has.steps (accepts has.setting has.steps has.stands.made) has.stands.has_seen)))
+      subst (λ net. IsOf net found) (sym has.stands.tells.net) (of has.setting has.steps has.stands.made has.stands.has_seen)))
 
   -- where there is a report, the observer has room for it
   pub ready_merely : (told : ℕ × Report) → outcome.report ≡ Some told → (IsTrue (is_ask e) → 1 ≤ o.room observer)
@@ -101,10 +101,10 @@ module _ {N V : Type 0} (g : Ghosts N) (o : observers.Ghosts V) (before : Fleet 
 pub record IsDone {N V : Type 0} (g : Ghosts N) (o : observers.Ghosts V) (before after : Fleet N g) (monitors onlooked : Monitors)
     (event_output noted : EventOutput) (observer told : V) (e : Event) (outcome : Outcome) (found : Findings) : Type 0 where
   pub accepts : (setting : Setting) (run : List (NodeStep N)) → fleets.StandsFor g before setting run → fleets.IsAccepted g after setting run e outcome
-  pub has_seen : (setting : Setting) (run : List (NodeStep N)) (accepted : fleets.IsAccepted g after setting run e outcome)
-      → HasSeen monitors setting (steps_of run) → HasSeen onlooked setting (accepted.next.step ∷ steps_of run)
-  pub finds : (setting : Setting) (run : List (NodeStep N)) (accepted : fleets.IsAccepted g after setting run e outcome)
-      → HasSeen monitors setting (steps_of run) → found_lines found ≡ lines_of setting (accepted.next.step ∷ steps_of run)
+  pub has_seen : (setting : Setting) (run : List (NodeStep N)) (made : fleets.StandsFor g before setting run)
+      → HasSeen monitors setting (steps_of run) → HasSeen onlooked setting ((accepts setting run made).next.step ∷ steps_of run)
+  pub finds : (setting : Setting) (run : List (NodeStep N)) (made : fleets.StandsFor g before setting run)
+      → HasSeen monitors setting (steps_of run) → found_lines found ≡ lines_of setting ((accepts setting run made).next.step ∷ steps_of run)
   pub report : found.report ≡ outcome.report
   pub topology : noted.topology ≡ event_output.topology
   pub tally : noted.tally ≡ tally_with event_output.tally found
@@ -147,9 +147,9 @@ module _ {N V : Type 0} (g : Ghosts N) (o : observers.Ghosts V) (before after : 
       record {
         sound = stands.sound;
         made = accepted.stands;
-        has_seen = done.has_seen setting run accepted stands.has_seen;
+        has_seen = done.has_seen setting run stands.made stands.has_seen;
         tells =
-            tells_next setting step (steps_of run) accepted.stands.fabric.accepted found (done.finds setting run accepted stands.has_seen)
+            tells_next setting step (steps_of run) accepted.stands.fabric.accepted found (done.finds setting run stands.made stands.has_seen)
             (done.report ∙ ap (λ (out : Outcome). out.report) accepted.comes) event_output noted stands.tells done.topology done.tally done.lines
             (done.ended ∙ ap (λ (out : Outcome). out.ended) accepted.comes);
         told = told_on outcome.report refl done.tells;

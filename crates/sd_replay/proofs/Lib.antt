@@ -10,8 +10,8 @@ pub mod ParentTable
 pub mod Flights
 pub mod Looking
 pub mod Observing
-pub mod Resting
-pub mod Hearing
+pub mod Staying
+pub mod Quick
 pub mod Going
 pub mod Happening
 -- Handed on: what crates above name of those below.

@@ -11,7 +11,7 @@ use Rattle.sd_sched.specs.declared.Event.{Event}
 use Rattle.sd_topo.specs.Network.{Network}
 use Rattle.sd_history.specs.declared.BrokenSet.{BrokenSet}
 use Rattle.sd_history.specs.World.{Setting, Seen}
-use Rattle.sd_history.specs.Steps.{seen_of}
+use Rattle.sd_history.specs.Steps.{Step, seen_of}
 use Rattle.sd_history.specs.Premises.{breaks}
 use Rattle.sd_history.specs.Nodes.{NodeStep, steps_of}
 use Rattle.sd_history.proofs.Known.{named_is_known}
@@ -26,7 +26,7 @@ use Rattle.sd_premise.proofs.Asking.{can_observe}
 use Rattle.sd_replay.specs.Sights.{sight_by}
 use Rattle.sd_replay.specs.declared.alarms.Alarms.{Alarms}
 use Rattle.sd_replay.specs.declared.monitors.Monitors.{Monitors}
-use Rattle.sd_replay.specs.Standing.{new_loop, new_roots, IsStepOf, HasStep}
+use Rattle.sd_replay.specs.Standing.{new_loop, new_roots, IsStepOf, IsStepTo, HasStep}
 use Rattle.sd_replay.specs.Troubles.{found_with}
 use Rattle.sd_replay.proofs.Looking.{sight_is, AreFound}
 
@@ -35,44 +35,49 @@ pub named : (count : ℕ) (o : Option ℕ) → ((d : ℕ) → o ≡ Some d → d
 named count None within = tt
 named count (Some d) within = within d refl
 
-module _ {N : Type 0} (g : Ghosts N) (fleet : Fleet N g) (setting : Setting) (run : List (NodeStep N)) (e : Event) (outcome : Outcome)
-    (accepted : IsAccepted g fleet setting run e outcome) (sent : List Flight)
-    (collected : sent ≡ filter (λ f. f.reaches) accepted.next.step.sent) where
+-- an accepted event made the next step
+pub step_to : {N : Type 0} (g : Ghosts N) (fleet : Fleet N g) (setting : Setting) (run : List (NodeStep N)) (e : Event) (outcome : Outcome)
+    (accepted : IsAccepted g fleet setting run e outcome) → IsStepTo setting accepted.next.step (steps_of run) e outcome
+step_to g fleet setting run e outcome accepted =
+    record { accepted = accepted.stands.fabric.accepted; happens = accepted.happens; comes = accepted.comes }
+
+module _ (setting : Setting) (s : Step) (earlier : List Step) (e : Event) (outcome : Outcome) (step : IsStepTo setting s earlier e outcome)
+    (sent : List Flight) (collected : sent ≡ filter (λ f. f.reaches) s.sent) where
   abbrev sight : Seen
   sight = sight_by e outcome sent
 
-  seen_is : sight ≡ accepted.next.step.seen
-  seen_is = sight_is setting accepted.next.step (steps_of run) e outcome sent accepted.stands.fabric.accepted accepted.happens accepted.comes collected
+  seen_is : sight ≡ s.seen
+  seen_is = sight_is setting s earlier e outcome sent step.accepted step.happens step.comes collected
 
   -- it can follow what was seen before
-  pub can_show : CanFollow setting (seen_of (steps_of run)) sight
-  can_show = subst (CanFollow setting (seen_of (steps_of run))) (sym seen_is)
-      (can_follow setting accepted.next.step (steps_of run) accepted.stands.fabric.accepted)
+  pub can_show : CanFollow setting (seen_of earlier) sight
+  can_show = subst (CanFollow setting (seen_of earlier)) (sym seen_is)
+      (can_follow setting s earlier step.accepted)
 
-  pub can_see : (monitors : Premises) → premises.StandsFor monitors setting (seen_of (steps_of run)) → length sent ≤ premises.room_of monitors
+  pub can_see : (monitors : Premises) → premises.StandsFor monitors setting (seen_of earlier) → length sent ≤ premises.room_of monitors
       → premises.CanObserve monitors sight
-  can_see monitors stands room = can_observe monitors setting (seen_of (steps_of run)) sight stands can_show room
+  can_see monitors stands room = can_observe monitors setting (seen_of earlier) sight stands can_show room
 
   -- the premises stand for what was seen with the step
-  pub seen_on : (monitors : Premises) → premises.StandsFor monitors setting (sight ∷ seen_of (steps_of run))
-      → premises.StandsFor monitors setting (seen_of (accepted.next.step ∷ steps_of run))
-  seen_on monitors stands = subst (λ (s : Seen). premises.StandsFor monitors setting (s ∷ seen_of (steps_of run))) seen_is stands
+  pub seen_on : (monitors : Premises) → premises.StandsFor monitors setting (sight ∷ seen_of earlier)
+      → premises.StandsFor monitors setting (seen_of (s ∷ earlier))
+  seen_on monitors stands = subst (λ (x : Seen). premises.StandsFor monitors setting (x ∷ seen_of earlier)) seen_is stands
 
-  broken_on : (broken : BrokenSet) → broken ≡ breaks setting (sight ∷ seen_of (steps_of run))
-      → broken ≡ breaks setting (seen_of (accepted.next.step ∷ steps_of run))
-  broken_on broken is = subst (λ (s : Seen). broken ≡ breaks setting (s ∷ seen_of (steps_of run))) seen_is is
+  broken_on : (broken : BrokenSet) → broken ≡ breaks setting (sight ∷ seen_of earlier)
+      → broken ≡ breaks setting (seen_of (s ∷ earlier))
+  broken_on broken is = subst (λ (x : Seen). broken ≡ breaks setting (x ∷ seen_of earlier)) seen_is is
 
   -- what was found of it, by what the premises and the table of parents tell
-  pub found_on : (broken : BrokenSet) (alarms : Alarms) → broken ≡ breaks setting (sight ∷ seen_of (steps_of run))
-      → alarms.looped ≡ new_loop setting accepted.next.step (steps_of run) → alarms.roots ≡ new_roots setting accepted.next.step (steps_of run)
-      → AreFound setting accepted.next.step (steps_of run) (found_with (record { broken = broken; alarms = alarms }) e outcome)
+  pub found_on : (broken : BrokenSet) (alarms : Alarms) → broken ≡ breaks setting (sight ∷ seen_of earlier)
+      → alarms.looped ≡ new_loop setting s earlier → alarms.roots ≡ new_roots setting s earlier
+      → AreFound setting s earlier (found_with (record { broken = broken; alarms = alarms }) e outcome)
   found_on broken alarms told looped acting =
       record {
         broken = broken_on broken told;
         looped = looped;
         roots = acting;
-        report = ap (λ (o : Outcome). o.report) accepted.comes;
-        reference = ap reference_of (sym accepted.happens);
+        report = ap (λ (o : Outcome). o.report) step.comes;
+        reference = ap reference_of (sym step.happens);
       }
 
 -- its step, for a device that it names

@@ -1,6 +1,7 @@
 -- For which runs a replay stands, and how it goes on.
-use Rattle.std.specs.Prelude.{◌≡◌, ℕ, Bool, false, ◌||◌, List, ◌∷◌, Some, None, Ok, Err, IsTrue}
+use Rattle.std.specs.Prelude.{◌≡◌, ℕ, Bool, false, ◌||◌, List, ◌∷◌, Option, Some, None, Ok, Err, IsTrue}
 use Rattle.sd_core.specs.declared.node.Node.{Ghosts}
+use Rattle.sd_msg.specs.declared.Flight.{Flight}
 use Rattle.sd_msg.specs.declared.observer.Observer as observers
 use Rattle.sd_sched.specs.declared.Event.{Event}
 use Rattle.sd_sched.specs.Lines.{event_of_line}
@@ -40,16 +41,17 @@ pub record IsSteppedTo {N V : Type 0} (g : Ghosts N) (o : observers.Ghosts V) (r
   pub stepped : IsStepped g o replay setting run e
   pub comes : outcome ≡ outcome_of stepped.next.step
 
--- what an event comes to with which only the time goes on, where its device acts as root or not
-abbrev pub idle_outcome : Bool → Outcome
-idle_outcome acted =
-    record { report = None; taken = None; first_sent = 0; sent = 0; activated = None; acted = acted; closed = false; ended = false }
+-- what an event comes to that sends nothing and after which its device answers as before: it receives this flight, if any, and its device acts
+-- as root or not
+abbrev pub idle_outcome : Option Flight → Bool → Outcome
+idle_outcome taken acted =
+    record { report = None; taken = taken; first_sent = 0; sent = 0; activated = None; acted = acted; closed = false; ended = false }
 
--- the event was accepted, and only the time went on
-pub record IsRested {N V : Type 0} (g : Ghosts N) (o : observers.Ghosts V) (replay : Replay N V g o) (setting : Setting) (run : List (NodeStep N))
-    (e : Event) : Type 0 where
+-- the event was accepted, and came to nothing else than that
+pub record IsIdle {N V : Type 0} (g : Ghosts N) (o : observers.Ghosts V) (replay : Replay N V g o) (setting : Setting) (run : List (NodeStep N))
+    (e : Event) (taken : Option Flight) : Type 0 where
   pub stepped : IsStepped g o replay setting run e
-  pub idle : outcome_of stepped.next.step ≡ idle_outcome stepped.next.step.seen.acted
+  pub idle : outcome_of stepped.next.step ≡ idle_outcome taken stepped.next.step.seen.acted
 
 -- only a tick, a receipt and an ask take memory
 abbrev pub may_take : Event → Bool

@@ -15,9 +15,11 @@ use Rattle.sd_history.specs.World.{Setting, is_counted}
 use Rattle.sd_history.specs.Steps.{Step, seen_of, acts_in}
 use Rattle.sd_history.specs.Nodes.{NodeStep, steps_of}
 use Rattle.sd_history.specs.Refusals.{after_end}
-use Rattle.sd_history.specs.Lines.{counted_parent, first_on_loop, roots, reports}
+use Rattle.sd_history.specs.Accepted.{AreSteps}
+use Rattle.sd_history.specs.Lines.{counted_parent, first_on_loop, roots, reports, lines_of}
 use Rattle.sd_history.specs.Text.{bytes_of}
 use Rattle.sd_fleet.specs.declared.Outcome.{Outcome}
+use Rattle.sd_fleet.specs.Outcomes.{outcome_of}
 use Rattle.sd_fleet.specs.declared.fleet.Fleet.{Fleet}
 use Rattle.sd_fleet.specs.Registers.{Registers}
 use Rattle.sd_fleet.specs.Stepping.{outcome_resting}
@@ -30,6 +32,9 @@ use Rattle.sd_proof_safety.specs.invariant.Coming.{IsFair}
 use Rattle.sd_replay.specs.declared.monitors.Monitors.{Monitors}
 use Rattle.sd_replay.specs.declared.event_output.EventOutput.{EventOutput}
 use Rattle.sd_replay.specs.Tallies.{tally_of}
+use Rattle.sd_replay.specs.Troubles.{found_by}
+use Rattle.sd_replay.specs.lines.Findings.{IsOf, found_lines}
+use Rattle.sd_replay.specs.declared.trouble.Trouble.{Trouble}
 
 -- Loops and roots
 
@@ -90,16 +95,46 @@ pub record HasStep {N : Type 0} (g : Ghosts N) (monitors : Monitors) (fleet : Fl
   pub accepted : fleets.IsAccepted g fleet setting run e outcome
   pub has_seen : HasSeen monitors setting (steps_of run)
 
--- and the step is a tick at which its device rests
-pub record HasRested {N : Type 0} (g : Ghosts N) (monitors : Monitors) (fleet : Fleet N g) (reference device counter : ℕ) : Type 0 where
-  pub kept : Registers
-  pub step : HasStep g monitors fleet (Tick reference device counter) (outcome_resting kept device)
+-- Quick events
 
--- and the step is the receipt of this flight by a device that answers as before
-pub record HasHeard {N : Type 0} (g : Ghosts N) (monitors : Monitors) (fleet : Fleet N g) (reference device counter : ℕ) (flight : Flight) : Type 0 where
+-- the step is the next one, of this event, and came to this
+pub record IsStepTo (setting : Setting) (s : Step) (earlier : List Step) (e : Event) (outcome : Outcome) : Type 0 where
+  pub accepted : AreSteps setting (s ∷ earlier)
+  pub happens : s.seen.event ≡ e
+  pub comes : outcome ≡ outcome_of s
+
+-- the device stands after the step as it did before
+abbrev pub StandsAsBefore : Setting → Step → List Step → ℕ → Type 0
+StandsAsBefore setting s earlier d = parent_row_in setting (s ∷ earlier) d ≡ parent_row_in setting earlier d
+
+-- the step is a tick at which its device rests
+pub record IsRest (reference device counter : ℕ) (setting : Setting) (s : Step) (earlier : List Step) : Type 0 where
+  pub kept : Registers
+  pub step : IsStepTo setting s earlier (Tick reference device counter) (outcome_resting kept device)
+  pub row : StandsAsBefore setting s earlier device
+
+-- the step is the receipt of this flight by a device that answers as before and sends nothing that can come
+pub record IsHearing (reference device counter : ℕ) (flight : Flight) (setting : Setting) (s : Step) (earlier : List Step) : Type 0 where
   pub message : ℕ
   pub kept : Registers
-  pub step : HasStep g monitors fleet (Recv reference device counter message) (outcome_hearing kept device flight)
+  pub step : IsStepTo setting s earlier (Recv reference device counter message) (outcome_hearing kept device flight)
+  pub row : StandsAsBefore setting s earlier device
+
+-- there is such a step after those that the monitors have seen
+pub record CanLook (monitors : Monitors) (IsSuch : Setting → Step → List Step → Type 0) : Type 0 where
+  pub setting : Setting
+  pub s : Step
+  pub earlier : List Step
+  pub such : IsSuch setting s earlier
+  pub has_seen : HasSeen monitors setting earlier
+
+-- The monitors look at a step of this kind, of which no report is told: they have seen it then, and the trouble is what it brings.
+pub record Looks (IsSuch : Setting → Step → List Step → Type 0) (reference : ℕ) (old new : Monitors) (trouble : Trouble) : Type 0 where
+  pub stands : (setting : Setting) (s : Step) (earlier : List Step) → IsSuch setting s earlier → HasSeen old setting earlier → HasSeen new setting (s ∷ earlier)
+  pub found : (setting : Setting) (s : Step) (earlier : List Step) → IsSuch setting s earlier → HasSeen old setting earlier
+      → found_lines (found_by trouble None reference) ≡ lines_of setting (s ∷ earlier)
+  pub devices : (setting : Setting) (s : Step) (earlier : List Step) → IsSuch setting s earlier → HasSeen old setting earlier
+      → IsOf setting.net (found_by trouble None reference)
 
 -- the event output tells of these steps
 pub record HasPrinted (event_output : EventOutput) (setting : Setting) (steps : List Step) : Type 0 where

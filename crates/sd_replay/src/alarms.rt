@@ -20,6 +20,12 @@ pub(crate) struct Alarms {
     pub(crate) roots: Option<(u32, u32)>,
 }
 
+/// Nothing is new.
+pub(crate) const NO_ALARMS: Alarms = Alarms {
+    looped: None,
+    roots: None,
+};
+
 /// What there is now, where there was nothing of its kind before.
 fn newly<T: Copy>(before: Option<T>, now: Option<T>) -> Option<T>
     ensures { result ≡ (if is_some before then None else now) }
@@ -104,10 +110,7 @@ pub(crate) fn alarms_of<N: Node>(
         → result.roots ≡ new_roots setting made.next.step (steps_of run) }
 {
     if all_kept(parent_table, fleet, named, closed) {
-        return Alarms {
-            looped: None,
-            roots: None,
-        };
+        return NO_ALARMS;
     }
     alarms_anew(parent_table, fleet, named, closed)
 }

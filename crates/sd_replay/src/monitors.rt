@@ -1,20 +1,16 @@
 //! Who looks on: judges the premises, and looks for loops of parents and several roots.
-ghost use Rattle.std.specs.Prelude.{◌≡◌, ◌<◌, ◌≤◌, ◌+◌, ◌^◌, ℕ, List, [], ◌∷◌, length, None, OnOk, IfOk};
+ghost use Rattle.std.specs.Prelude.{◌≡◌, ◌<◌, ◌≤◌, ◌+◌, ◌^◌, List, [], ◌∷◌, length, OnOk, IfOk};
 ghost use Rattle.sd_topo.specs.Topologies.{network};
-ghost use Rattle.sd_sched.specs.declared.Event.TheVariants as events_of;
 ghost use Rattle.sd_history.specs.World.{Setting};
 ghost use Rattle.sd_history.specs.Steps.{Step};
 ghost use Rattle.sd_history.specs.Nodes.{NodeStep, steps_of};
 ghost use Rattle.sd_history.specs.Lines.{lines_of};
-ghost use Rattle.sd_fleet.specs.Registers.{Registers};
 ghost use Rattle.sd_fleet.specs.Standing.{IsAccepted};
-ghost use Rattle.sd_fleet.specs.Stepping.{outcome_resting};
-ghost use Rattle.sd_fleet.specs.Hearing.{outcome_hearing};
 ghost use Rattle.sd_premise.specs.FleetState.membership.Plans.{AreSound};
 ghost use Rattle.sd_replay.specs.lines.Findings.{IsOf, found_lines};
-ghost use Rattle.sd_replay.specs.Troubles.{found_by, found_with};
+ghost use Rattle.sd_replay.specs.Troubles.{found_with};
 
-use crate::alarms::alarms_of;
+use crate::alarms::{NO_ALARMS, alarms_of};
 use crate::judging::judge;
 use crate::sights::collect;
 use crate::trouble::Trouble;
@@ -39,7 +35,7 @@ pub(crate) struct Monitors {
 }
 
 impl Monitors {
-    ghost use Rattle.sd_replay.specs.Standing.{HasSeen, HasStep, HasRested, HasHeard, room_of};
+    ghost use Rattle.sd_replay.specs.Standing.{HasSeen, HasStep, IsRest, IsHearing, CanLook, Looks, room_of};
 
     /// Before any event.
     pub(crate) fn new(alloc: Global, topo: &Topology, plans: &[Plan]) -> Result<Monitors, NoMemory>
@@ -115,74 +111,30 @@ impl Monitors {
         Trouble { broken, alarms }
     }
 
-    /// As `look`, of a tick at which its device rests.
+    /// As `look`, of a tick at which its device rests. The device stands as it is kept, so there is
+    /// no new loop and no new root.
     #[inline(always)]
-    pub(crate) fn rest<N: Node>(
-        &mut self,
-        fleet: &Fleet<N>,
-        reference: u64,
-        d: u32,
-        counter: u64,
-    ) -> Trouble
-        requires step { ∥ HasRested N.Node self.old fleet.now reference d counter ∥₁ }
-        ensures stands { (kept : Registers) (setting : Setting) (run : List (NodeStep N))
-            (accepted : IsAccepted N.Node fleet.now setting run
-            (events_of.Tick reference d counter) (outcome_resting kept d))
-            → HasSeen self.old setting (steps_of run)
-            → HasSeen self.new setting (accepted.next.step ∷ steps_of run) }
-        ensures found { (kept : Registers) (setting : Setting) (run : List (NodeStep N))
-            (accepted : IsAccepted N.Node fleet.now setting run
-            (events_of.Tick reference d counter) (outcome_resting kept d))
-            → HasSeen self.old setting (steps_of run)
-            → found_lines (found_by result None reference)
-            ≡ lines_of setting (accepted.next.step ∷ steps_of run) }
-        ensures devices { (kept : Registers) (setting : Setting) (run : List (NodeStep N))
-            → IsAccepted N.Node fleet.now setting run
-            (events_of.Tick reference d counter) (outcome_resting kept d)
-            → HasSeen self.old setting (steps_of run)
-            → IsOf setting.net (found_by result None reference) }
+    pub(crate) fn rest(&mut self, reference: u64, d: u32, counter: u64) -> Trouble
+        requires step { ∥ CanLook self.old (IsRest reference d counter) ∥₁ }
+        ensures { Looks (IsRest reference d counter) reference self.old self.new result }
     {
         Trouble {
             broken: self.premises.tick(reference, d, counter, &[]),
-            alarms: alarms_of(&mut self.parent_table, fleet, Some(d), false),
+            alarms: NO_ALARMS,
         }
     }
 
     /// As `look`, of the receipt of this flight by a device that answers as before and sends
     /// nothing that can come.
     #[inline(always)]
-    pub(crate) fn hear<N: Node>(
-        &mut self,
-        fleet: &Fleet<N>,
-        reference: u64,
-        d: u32,
-        counter: u64,
-        flight: &Flight,
-    ) -> Trouble
-        requires step { ∥ HasHeard N.Node self.old fleet.now reference d counter flight.now ∥₁ }
-        ensures stands { (message : ℕ) (kept : Registers) (setting : Setting)
-            (run : List (NodeStep N))
-            (accepted : IsAccepted N.Node fleet.now setting run
-            (events_of.Recv reference d counter message) (outcome_hearing kept d flight.now))
-            → HasSeen self.old setting (steps_of run)
-            → HasSeen self.new setting (accepted.next.step ∷ steps_of run) }
-        ensures found { (message : ℕ) (kept : Registers) (setting : Setting)
-            (run : List (NodeStep N))
-            (accepted : IsAccepted N.Node fleet.now setting run
-            (events_of.Recv reference d counter message) (outcome_hearing kept d flight.now))
-            → HasSeen self.old setting (steps_of run)
-            → found_lines (found_by result None reference)
-            ≡ lines_of setting (accepted.next.step ∷ steps_of run) }
-        ensures devices { (message : ℕ) (kept : Registers) (setting : Setting)
-            (run : List (NodeStep N))
-            → IsAccepted N.Node fleet.now setting run
-            (events_of.Recv reference d counter message) (outcome_hearing kept d flight.now)
-            → HasSeen self.old setting (steps_of run)
-            → IsOf setting.net (found_by result None reference) }
+    pub(crate) fn hear(&mut self, reference: u64, d: u32, counter: u64, flight: &Flight) -> Trouble
+        requires step { ∥ CanLook self.old (IsHearing reference d counter flight.now) ∥₁ }
+        ensures { Looks (IsHearing reference d counter flight.now) reference self.old self.new
+            result }
     {
         Trouble {
             broken: self.premises.receive(reference, d, counter, flight, &[]),
-            alarms: alarms_of(&mut self.parent_table, fleet, Some(d), false),
+            alarms: NO_ALARMS,
         }
     }
 }

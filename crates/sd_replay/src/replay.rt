@@ -1,9 +1,10 @@
 //! The replay: what happens with a line of a schedule.
-ghost use Rattle.std.specs.Prelude.{◌≡◌, ◌≤◌, ◌<◌, ◌^◌, ℕ, List, [], length, false, Some, Err, IsTrue, OnOk, IfOk, OnErr, IfErr, IfSome};
+ghost use Rattle.std.specs.Prelude.{◌≡◌, ◌≤◌, ◌<◌, ◌^◌, ℕ, List, [], length, false, Some, None, Err, IsTrue, OnOk, IfOk, OnErr, IfErr, IfSome};
 ghost use Rattle.sd_topo.specs.Topologies.{network};
 ghost use Rattle.sd_topo.specs.Network.{Each as OfEach};
 ghost use Rattle.sd_plan.specs.Plans.{Fits};
 ghost use Rattle.sd_proof_safety.specs.Checker.Verdicts.{IsAccepted};
+ghost use Rattle.sd_sched.specs.declared.Event.TheVariants as events_of;
 ghost use Rattle.sd_sched.specs.Lines.{event_of_line};
 ghost use Rattle.sd_sched.specs.Spelled.{is_within};
 ghost use Rattle.sd_sched.specs.Events.{is_ask};
@@ -25,7 +26,7 @@ use crate::sights::acts_named;
 use crate::{PlanList, ReplayFault, Tally};
 use sd_core::Node;
 use sd_fleet::{Fleet, Outcome};
-use sd_msg::Observer;
+use sd_msg::{Flight, Observer};
 use sd_num::NoMemory;
 use sd_plan::Plan;
 use sd_sched::{Event, read_line};
@@ -53,6 +54,13 @@ fn fleet_and_monitors<N: Node>(
     Ok((fleet, monitors))
 }
 
+/// What came of an event that sends nothing and after which its device answers as before.
+#[derive(Clone, Copy)]
+struct Idle {
+    /// The flight that it received.
+    taken: Option<Flight>,
+}
+
 /// The replay of a schedule by a fleet of nodes of one kind.
 ///
 /// An event costs what it costs the fleet and the premises, and a look at the device that it names.
@@ -70,7 +78,7 @@ pub struct Replay<N: Node, V: Observer> {
 }
 
 impl<N: Node, V: Observer> Replay<N, V> {
-    ghost use Rattle.sd_replay.specs.Replaying.{StandsFor, IsStepped, IsSteppedTo, IsRested, IsFault, IsLineFault, lines_in, may_take};
+    ghost use Rattle.sd_replay.specs.Replaying.{StandsFor, IsStepped, IsSteppedTo, IsIdle, IsFault, IsLineFault, lines_in, may_take};
     ghost use Rattle.sd_replay.specs.Calm.{StaysCalm};
 
     /// A replay before any event, with the first plan in force. It takes the room for the lines of
@@ -155,13 +163,10 @@ impl<N: Node, V: Observer> Replay<N, V> {
             → StandsFor N.Node V.Observer self.new setting run
             × IsFault fault setting (steps_of run) event.now) }
     {
-        if self.rest(event) {
-            return Ok(());
+        match self.idle(event) {
+            Some(_) => Ok(()),
+            None => self.advance(alloc, event),
         }
-        if self.hear(event) {
-            return Ok(());
-        }
-        self.advance(alloc, event)
     }
 
     /// As `step_event`. What the event came to is written into an outcome that the caller lends, and
@@ -191,7 +196,7 @@ impl<N: Node, V: Observer> Replay<N, V> {
             × IsFault fault setting (steps_of run) event.now) }
         ensures same { OnErr result (outcome.new ≡ outcome.old) }
     {
-        if self.rest_to(event, outcome) {
+        if self.idle_to(event, outcome) {
             return Ok(());
         }
         match self.advance(alloc, event) {
@@ -203,71 +208,81 @@ impl<N: Node, V: Observer> Replay<N, V> {
         }
     }
 
-    /// A tick at which its device rests happens, if the event is one, as most are. It is for
-    /// `advance` where it is another or is refused, or a window is open.
+    /// An event happens that sends nothing and after which its device answers as before, if it is one,
+    /// as nearly all are. It is for `advance` where it is another or is refused, or a window is open.
     // Numbers go from the fleet to the premises and the lines; no outcome is made.
     #[inline(always)]
-    fn rest(&mut self, event: &Event) -> bool
+    fn idle(&mut self, event: &Event) -> Option<Idle>
         requires within { IsTrue (is_within event.now) }
-        ensures accepted { IsTrue result → (setting : Setting) (run : List (NodeStep N))
+        ensures accepted { IfSome result (λ idle. (setting : Setting) (run : List (NodeStep N))
             → StandsFor N.Node V.Observer self.old setting run
-            → IsRested N.Node V.Observer self.new setting run event.now }
-        ensures stands { result ≡ false → (setting : Setting) (run : List (NodeStep N))
+            → IsIdle N.Node V.Observer self.new setting run event.now idle.taken) }
+        ensures stands { result ≡ None → (setting : Setting) (run : List (NodeStep N))
             → StandsFor N.Node V.Observer self.old setting run
             → StandsFor N.Node V.Observer self.new setting run }
     {
-        let Event::Tick {
-            reference,
-            device,
-            counter,
-        } = *event
-        else {
-            return false;
-        };
-        if !self.fleet.rest(reference, device, counter) {
-            return false;
+        match *event {
+            Event::Tick {
+                reference,
+                device,
+                counter,
+            } => self.rest(reference, device, counter),
+            Event::Recv {
+                reference,
+                device,
+                counter,
+                message,
+            } => self.hear(reference, device, counter, message),
+            _ => None,
         }
-        let trouble = self.monitors.rest(&self.fleet, reference, device, counter);
-        self.event_output.note(&trouble, &None, reference, false);
-        true
     }
 
-    /// A receipt by a device that answers as before and has nobody below it happens, if the event
-    /// is one, as most receipts are. It is for `advance` where it is another or is refused, or a
-    /// window is open.
+    /// As `idle`, of a tick at which its device rests.
     #[inline(always)]
-    fn hear(&mut self, event: &Event) -> bool
-        requires within { IsTrue (is_within event.now) }
-        ensures accepted { IsTrue result → (setting : Setting) (run : List (NodeStep N))
+    fn rest(&mut self, reference: u64, d: u32, counter: u64) -> Option<Idle>
+        requires within { IsTrue (is_within (events_of.Tick reference d counter)) }
+        ensures accepted { IfSome result (λ idle. (setting : Setting) (run : List (NodeStep N))
             → StandsFor N.Node V.Observer self.old setting run
-            → IsStepped N.Node V.Observer self.new setting run event.now }
-        ensures stands { result ≡ false → (setting : Setting) (run : List (NodeStep N))
+            → IsIdle N.Node V.Observer self.new setting run (events_of.Tick reference d counter)
+            idle.taken) }
+        ensures stands { result ≡ None → (setting : Setting) (run : List (NodeStep N))
             → StandsFor N.Node V.Observer self.old setting run
             → StandsFor N.Node V.Observer self.new setting run }
     {
-        let Event::Recv {
-            reference,
-            device,
-            counter,
-            message,
-        } = *event
-        else {
-            return false;
-        };
-        let Some(flight) = self.fleet.hear(reference, device, counter, message) else {
-            return false;
-        };
-        let trouble = self
-            .monitors
-            .hear(&self.fleet, reference, device, counter, &flight);
+        if !self.fleet.rest(reference, d, counter) {
+            return None;
+        }
+        let trouble = self.monitors.rest(reference, d, counter);
         self.event_output.note(&trouble, &None, reference, false);
-        true
+        Some(Idle { taken: None })
     }
 
-    /// As `rest`. Where the event happens, what it came to is written into an outcome that the
+    /// As `idle`, of a receipt by a device that has nobody below it.
+    #[inline(always)]
+    fn hear(&mut self, reference: u64, d: u32, counter: u64, message: u64) -> Option<Idle>
+        requires within { IsTrue (is_within (events_of.Recv reference d counter message)) }
+        ensures accepted { IfSome result (λ idle. (setting : Setting) (run : List (NodeStep N))
+            → StandsFor N.Node V.Observer self.old setting run
+            → IsIdle N.Node V.Observer self.new setting run
+            (events_of.Recv reference d counter message) idle.taken) }
+        ensures stands { result ≡ None → (setting : Setting) (run : List (NodeStep N))
+            → StandsFor N.Node V.Observer self.old setting run
+            → StandsFor N.Node V.Observer self.new setting run }
+    {
+        let Some(flight) = self.fleet.hear(reference, d, counter, message) else {
+            return None;
+        };
+        let trouble = self.monitors.hear(reference, d, counter, &flight);
+        self.event_output.note(&trouble, &None, reference, false);
+        Some(Idle {
+            taken: Some(flight),
+        })
+    }
+
+    /// As `idle`. Where the event happens, what it came to is written into an outcome that the
     /// caller lends.
     #[inline(always)]
-    fn rest_to(&mut self, event: &Event, outcome: &mut Outcome) -> bool
+    fn idle_to(&mut self, event: &Event, outcome: &mut Outcome) -> bool
         requires within { IsTrue (is_within event.now) }
         ensures accepted { IsTrue result → (setting : Setting) (run : List (NodeStep N))
             → StandsFor N.Node V.Observer self.old setting run
@@ -278,11 +293,12 @@ impl<N: Node, V: Observer> Replay<N, V> {
         ensures same { result ≡ false → outcome.new ≡ outcome.old }
     {
         let acted = acts_named(&self.fleet, event);
-        if !self.rest(event) {
+        let Some(idle) = self.idle(event) else {
             return false;
-        }
+        };
         *outcome = Outcome {
             acted,
+            taken: idle.taken,
             ..Outcome::nothing()
         };
         true

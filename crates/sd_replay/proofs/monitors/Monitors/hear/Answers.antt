@@ -1,77 +1,70 @@
 -- The premises see the receipt of a flight that sends nothing, and no window closes.
-use Rattle.std.proofs.Common.{refl}
+use Rattle.std.proofs.Common.{[], refl}
 use Rattle.std.proofs.Props.{props}
 use Rattle.std.proofs.Math.Logic.{∥∥₁_elim}
+use Rattle.sd_history.specs.Steps.{seen_of}
 use Rattle.sd_sched.specs.declared.Event.TheVariants.{Recv}
 use Rattle.sd_fleet.specs.Hearing.{outcome_hearing}
-use Rattle.sd_history.specs.Steps.{seen_of}
-use Rattle.sd_history.specs.Nodes.{steps_of}
+use Rattle.sd_replay.specs.Sights.{sight_by}
 use Rattle.sd_replay.proofs.Looking.{lines_are, found_of}
-use Rattle.sd_replay.proofs.Observing.{named_within, parents_within, acting_within}
-use Rattle.sd_replay.proofs.Hearing.{made_hearing, sees_hear, finds_hear, can_hear}
+use Rattle.sd_replay.proofs.Quick.{shown, can_ask, seen, table_stays, found}
 use Rattle.sd_replay.proofs.monitors.Monitors.hear.Goals as goal
 
 pub receive-requires-clause-device : goal.receive-requires-clause-device
-receive-requires-clause-device g c =
+receive-requires-clause-device c =
     ∥∥₁_elim c.requires.step (search props)
-    (λ has. (can_hear g.N.Node c.args.self.now c.args.fleet.now c.args.reference c.args.d c.args.counter c.args.flight.now has).named.device)
+    (λ can.
+    (can_ask can.setting can.s can.earlier (Recv c.args.reference c.args.d c.args.counter can.such.message)
+    (outcome_hearing can.such.kept c.args.d c.args.flight.now) can.such.step refl c.args.self.now.premises can.has_seen.premises).named.device)
 
 pub receive-requires-clause-link : goal.receive-requires-clause-link
-receive-requires-clause-link g c =
+receive-requires-clause-link c =
     ∥∥₁_elim c.requires.step (search props)
-    (λ has. (can_hear g.N.Node c.args.self.now c.args.fleet.now c.args.reference c.args.d c.args.counter c.args.flight.now has).taken c.args.flight.now refl)
+    (λ can.
+    (can_ask can.setting can.s can.earlier (Recv c.args.reference c.args.d c.args.counter can.such.message)
+    (outcome_hearing can.such.kept c.args.d c.args.flight.now) can.such.step refl c.args.self.now.premises can.has_seen.premises).taken
+    c.args.flight.now refl)
 
 pub receive-requires-clause-events : goal.receive-requires-clause-events
-receive-requires-clause-events g c =
+receive-requires-clause-events c =
     ∥∥₁_elim c.requires.step (search props)
-    (λ has. (can_hear g.N.Node c.args.self.now c.args.fleet.now c.args.reference c.args.d c.args.counter c.args.flight.now has).events)
+    (λ can.
+    (can_ask can.setting can.s can.earlier (Recv c.args.reference c.args.d c.args.counter can.such.message)
+    (outcome_hearing can.such.kept c.args.d c.args.flight.now) can.such.step refl c.args.self.now.premises can.has_seen.premises).events)
 
-pub alarms_of-requires-clause-device : goal.alarms_of-requires-clause-device
-alarms_of-requires-clause-device g c =
-    ∥∥₁_elim c.requires.step (search props)
-    (λ has.
-    named_within g.N.Node c.args.self.now c.args.fleet.now (Recv c.args.reference c.args.d c.args.counter has.message) (outcome_hearing has.kept c.args.d c.args.flight.now)
-    has.step
-    c.args.d refl)
-
-pub alarms_of-requires-clause-parents : goal.alarms_of-requires-clause-parents
-alarms_of-requires-clause-parents g c =
-    ∥∥₁_elim c.requires.step (search props)
-    (λ has.
-    parents_within g.N.Node c.args.self.now c.args.fleet.now (Recv c.args.reference c.args.d c.args.counter has.message) (outcome_hearing has.kept c.args.d c.args.flight.now)
-    has.step)
-
-pub alarms_of-requires-clause-acting : goal.alarms_of-requires-clause-acting
-alarms_of-requires-clause-acting g c =
-    ∥∥₁_elim c.requires.step (search props)
-    (λ has.
-    acting_within g.N.Node c.args.self.now c.args.fleet.now (Recv c.args.reference c.args.d c.args.counter has.message) (outcome_hearing has.kept c.args.d c.args.flight.now)
-    has.step)
-
-pub returns-clause-stands : goal.returns-clause-stands
-returns-clause-stands g c = λ message kept setting run accepted has_seen.
+pub returns : goal.returns
+returns c =
     record {
-      premises =
-          sees_hear g.N.Node c.args.fleet.now setting run c.args.reference c.args.d c.args.counter message kept c.args.flight.now accepted c.args.self.now.premises c.receive.new.self
-          (c.receive.ensures.stands setting (seen_of (steps_of run))) has_seen.premises;
-      parent_table =
-          c.alarms_of.ensures.stands setting run
-          (made_hearing g.N.Node c.args.fleet.now setting run c.args.reference c.args.d c.args.counter message kept c.args.flight.now accepted) has_seen.parent_table;
+      stands = λ setting s earlier is has_seen.
+          record {
+            premises =
+                seen setting s earlier (Recv c.args.reference c.args.d c.args.counter is.message) (outcome_hearing is.kept c.args.d c.args.flight.now)
+                is.step refl c.receive.new.self
+                (c.receive.ensures.stands setting (seen_of earlier) (sight_by (Recv c.args.reference c.args.d c.args.counter is.message) (outcome_hearing is.kept c.args.d c.args.flight.now) [])
+                (record { message = is.message; receipt = record { event = refl; stays = refl }; taken = refl; activated = refl; sends = refl })
+                (shown setting s earlier (Recv c.args.reference c.args.d c.args.counter is.message)
+                (outcome_hearing is.kept c.args.d c.args.flight.now) is.step refl)
+                has_seen.premises);
+            parent_table =
+                table_stays setting s earlier (Recv c.args.reference c.args.d c.args.counter is.message)
+                (outcome_hearing is.kept c.args.d c.args.flight.now) is.step refl c.args.d refl refl is.row c.args.self.now.parent_table
+                has_seen.parent_table;
+          };
+      found = λ setting s earlier is has_seen.
+          lines_are setting s earlier _
+          (found setting s earlier (Recv c.args.reference c.args.d c.args.counter is.message) (outcome_hearing is.kept c.args.d c.args.flight.now)
+          is.step refl c.args.d refl refl is.row c.args.self.now.parent_table has_seen.parent_table c.receive.result
+          (c.receive.ensures.breaks setting (seen_of earlier) (sight_by (Recv c.args.reference c.args.d c.args.counter is.message) (outcome_hearing is.kept c.args.d c.args.flight.now) [])
+          (record { message = is.message; receipt = record { event = refl; stays = refl }; taken = refl; activated = refl; sends = refl })
+          (shown setting s earlier (Recv c.args.reference c.args.d c.args.counter is.message) (outcome_hearing is.kept c.args.d c.args.flight.now)
+          is.step refl) has_seen.premises));
+      devices = λ setting s earlier is has_seen.
+          found_of setting s earlier _
+          (found setting s earlier (Recv c.args.reference c.args.d c.args.counter is.message) (outcome_hearing is.kept c.args.d c.args.flight.now)
+          is.step refl c.args.d refl refl is.row c.args.self.now.parent_table has_seen.parent_table c.receive.result
+          (c.receive.ensures.breaks setting (seen_of earlier) (sight_by (Recv c.args.reference c.args.d c.args.counter is.message) (outcome_hearing is.kept c.args.d c.args.flight.now) [])
+          (record { message = is.message; receipt = record { event = refl; stays = refl }; taken = refl; activated = refl; sends = refl })
+          (shown setting s earlier (Recv c.args.reference c.args.d c.args.counter is.message) (outcome_hearing is.kept c.args.d c.args.flight.now)
+          is.step refl) has_seen.premises))
+          is.step.accepted;
     }
-
-pub returns-clause-found : goal.returns-clause-found
-returns-clause-found g c = λ message kept setting run accepted has_seen.
-    let made = made_hearing g.N.Node c.args.fleet.now setting run c.args.reference c.args.d c.args.counter message kept c.args.flight.now accepted in
-    lines_are setting accepted.next.step (steps_of run) _
-    (finds_hear g.N.Node c.args.fleet.now setting run c.args.reference c.args.d c.args.counter message kept c.args.flight.now accepted c.args.self.now.premises c.receive.result
-    c.alarms_of.result (c.receive.ensures.breaks setting (seen_of (steps_of run))) has_seen.premises
-    (c.alarms_of.ensures.looped setting run made has_seen.parent_table) (c.alarms_of.ensures.roots setting run made has_seen.parent_table))
-
-pub returns-clause-devices : goal.returns-clause-devices
-returns-clause-devices g c = λ message kept setting run accepted has_seen.
-    let made = made_hearing g.N.Node c.args.fleet.now setting run c.args.reference c.args.d c.args.counter message kept c.args.flight.now accepted in
-    found_of setting accepted.next.step (steps_of run) _
-    (finds_hear g.N.Node c.args.fleet.now setting run c.args.reference c.args.d c.args.counter message kept c.args.flight.now accepted c.args.self.now.premises c.receive.result
-    c.alarms_of.result (c.receive.ensures.breaks setting (seen_of (steps_of run))) has_seen.premises
-    (c.alarms_of.ensures.looped setting run made has_seen.parent_table) (c.alarms_of.ensures.roots setting run made has_seen.parent_table))
-    accepted.stands.fabric.accepted

@@ -1,69 +1,57 @@
--- The premises see a calm tick that sends nothing, and no window closes.
-use Rattle.std.proofs.Common.{refl}
+-- The premises see a tick that sends nothing, and no window closes.
+use Rattle.std.proofs.Common.{[], refl}
 use Rattle.std.proofs.Props.{props}
 use Rattle.std.proofs.Math.Logic.{∥∥₁_elim}
+use Rattle.sd_history.specs.Steps.{seen_of}
 use Rattle.sd_sched.specs.declared.Event.TheVariants.{Tick}
 use Rattle.sd_fleet.specs.Stepping.{outcome_resting}
-use Rattle.sd_history.specs.Steps.{seen_of}
-use Rattle.sd_history.specs.Nodes.{steps_of}
+use Rattle.sd_replay.specs.Sights.{sight_by}
 use Rattle.sd_replay.proofs.Looking.{lines_are, found_of}
-use Rattle.sd_replay.proofs.Observing.{named_within, parents_within, acting_within}
-use Rattle.sd_replay.proofs.Resting.{made_resting, sees_rest, finds_rest, can_rest}
+use Rattle.sd_replay.proofs.Quick.{shown, can_ask, seen, table_stays, found}
 use Rattle.sd_replay.proofs.monitors.Monitors.rest.Goals as goal
 
 pub tick-requires-clause-device : goal.tick-requires-clause-device
-tick-requires-clause-device g c =
+tick-requires-clause-device c =
     ∥∥₁_elim c.requires.step (search props)
-    (λ has. (can_rest g.N.Node c.args.self.now c.args.fleet.now c.args.reference c.args.d c.args.counter has).named.device)
+    (λ can.
+    (can_ask can.setting can.s can.earlier (Tick c.args.reference c.args.d c.args.counter) (outcome_resting can.such.kept c.args.d) can.such.step refl
+    c.args.self.now.premises can.has_seen.premises).named.device)
 
 pub tick-requires-clause-events : goal.tick-requires-clause-events
-tick-requires-clause-events g c =
+tick-requires-clause-events c =
     ∥∥₁_elim c.requires.step (search props)
-    (λ has. (can_rest g.N.Node c.args.self.now c.args.fleet.now c.args.reference c.args.d c.args.counter has).events)
+    (λ can.
+    (can_ask can.setting can.s can.earlier (Tick c.args.reference c.args.d c.args.counter) (outcome_resting can.such.kept c.args.d) can.such.step refl
+    c.args.self.now.premises can.has_seen.premises).events)
 
-pub alarms_of-requires-clause-device : goal.alarms_of-requires-clause-device
-alarms_of-requires-clause-device g c =
-    ∥∥₁_elim c.requires.step (search props)
-    (λ has.
-    named_within g.N.Node c.args.self.now c.args.fleet.now (Tick c.args.reference c.args.d c.args.counter) (outcome_resting has.kept c.args.d) has.step
-    c.args.d refl)
-
-pub alarms_of-requires-clause-parents : goal.alarms_of-requires-clause-parents
-alarms_of-requires-clause-parents g c =
-    ∥∥₁_elim c.requires.step (search props)
-    (λ has.
-    parents_within g.N.Node c.args.self.now c.args.fleet.now (Tick c.args.reference c.args.d c.args.counter) (outcome_resting has.kept c.args.d) has.step)
-
-pub alarms_of-requires-clause-acting : goal.alarms_of-requires-clause-acting
-alarms_of-requires-clause-acting g c =
-    ∥∥₁_elim c.requires.step (search props)
-    (λ has.
-    acting_within g.N.Node c.args.self.now c.args.fleet.now (Tick c.args.reference c.args.d c.args.counter) (outcome_resting has.kept c.args.d) has.step)
-
-pub returns-clause-stands : goal.returns-clause-stands
-returns-clause-stands g c = λ kept setting run accepted has_seen.
+pub returns : goal.returns
+returns c =
     record {
-      premises =
-          sees_rest g.N.Node c.args.fleet.now setting run c.args.reference c.args.d c.args.counter kept accepted c.args.self.now.premises c.tick.new.self
-          (c.tick.ensures.stands setting (seen_of (steps_of run))) has_seen.premises;
-      parent_table =
-          c.alarms_of.ensures.stands setting run
-          (made_resting g.N.Node c.args.fleet.now setting run c.args.reference c.args.d c.args.counter kept accepted) has_seen.parent_table;
+      stands = λ setting s earlier is has_seen.
+          record {
+            premises =
+                seen setting s earlier (Tick c.args.reference c.args.d c.args.counter) (outcome_resting is.kept c.args.d) is.step refl c.tick.new.self
+                (c.tick.ensures.stands setting (seen_of earlier) (sight_by (Tick c.args.reference c.args.d c.args.counter) (outcome_resting is.kept c.args.d) [])
+                (record { tick = record { event = refl; stays = refl }; taken = refl; activated = refl; sends = refl })
+                (shown setting s earlier (Tick c.args.reference c.args.d c.args.counter) (outcome_resting is.kept c.args.d) is.step refl)
+                has_seen.premises);
+            parent_table =
+                table_stays setting s earlier (Tick c.args.reference c.args.d c.args.counter) (outcome_resting is.kept c.args.d) is.step refl c.args.d refl
+                refl is.row c.args.self.now.parent_table has_seen.parent_table;
+          };
+      found = λ setting s earlier is has_seen.
+          lines_are setting s earlier _
+          (found setting s earlier (Tick c.args.reference c.args.d c.args.counter) (outcome_resting is.kept c.args.d) is.step refl c.args.d refl refl is.row
+          c.args.self.now.parent_table has_seen.parent_table c.tick.result
+          (c.tick.ensures.breaks setting (seen_of earlier) (sight_by (Tick c.args.reference c.args.d c.args.counter) (outcome_resting is.kept c.args.d) [])
+          (record { tick = record { event = refl; stays = refl }; taken = refl; activated = refl; sends = refl })
+          (shown setting s earlier (Tick c.args.reference c.args.d c.args.counter) (outcome_resting is.kept c.args.d) is.step refl) has_seen.premises));
+      devices = λ setting s earlier is has_seen.
+          found_of setting s earlier _
+          (found setting s earlier (Tick c.args.reference c.args.d c.args.counter) (outcome_resting is.kept c.args.d) is.step refl c.args.d refl refl is.row
+          c.args.self.now.parent_table has_seen.parent_table c.tick.result
+          (c.tick.ensures.breaks setting (seen_of earlier) (sight_by (Tick c.args.reference c.args.d c.args.counter) (outcome_resting is.kept c.args.d) [])
+          (record { tick = record { event = refl; stays = refl }; taken = refl; activated = refl; sends = refl })
+          (shown setting s earlier (Tick c.args.reference c.args.d c.args.counter) (outcome_resting is.kept c.args.d) is.step refl) has_seen.premises))
+          is.step.accepted;
     }
-
-pub returns-clause-found : goal.returns-clause-found
-returns-clause-found g c = λ kept setting run accepted has_seen.
-    let made = made_resting g.N.Node c.args.fleet.now setting run c.args.reference c.args.d c.args.counter kept accepted in
-    lines_are setting accepted.next.step (steps_of run) _
-    (finds_rest g.N.Node c.args.fleet.now setting run c.args.reference c.args.d c.args.counter kept accepted c.args.self.now.premises c.tick.result
-    c.alarms_of.result (c.tick.ensures.breaks setting (seen_of (steps_of run))) has_seen.premises
-    (c.alarms_of.ensures.looped setting run made has_seen.parent_table) (c.alarms_of.ensures.roots setting run made has_seen.parent_table))
-
-pub returns-clause-devices : goal.returns-clause-devices
-returns-clause-devices g c = λ kept setting run accepted has_seen.
-    let made = made_resting g.N.Node c.args.fleet.now setting run c.args.reference c.args.d c.args.counter kept accepted in
-    found_of setting accepted.next.step (steps_of run) _
-    (finds_rest g.N.Node c.args.fleet.now setting run c.args.reference c.args.d c.args.counter kept accepted c.args.self.now.premises c.tick.result
-    c.alarms_of.result (c.tick.ensures.breaks setting (seen_of (steps_of run))) has_seen.premises
-    (c.alarms_of.ensures.looped setting run made has_seen.parent_table) (c.alarms_of.ensures.roots setting run made has_seen.parent_table))
-    accepted.stands.fabric.accepted

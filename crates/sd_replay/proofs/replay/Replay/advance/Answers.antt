@@ -52,7 +52,8 @@ note-requires-clause-devices g c =
     (sym c.reference-reference.ensures)
     (devices_merely g.N.Node g.V.Observer c.ready.new.self.fleet c.ready.new.self.monitors c.ready.new.self.event_output c.ready.new.self.observer
     c.happen.new.self c.args.event.now c.happen.new.outcome c.happen.ensures.accepted
-    (found_with c.look-trouble.result c.args.event.now c.happen.new.outcome) c.look-trouble.ensures.devices c.ready.new.self.run)
+    (found_with c.look-trouble.result c.args.event.now c.happen.new.outcome)
+    (λ setting run made. c.look-trouble.ensures.devices setting run (c.happen.ensures.accepted setting run made)) c.ready.new.self.run)
 
 pub seen-requires-clause-ready : goal.seen-requires-clause-ready
 seen-requires-clause-ready g c =
@@ -74,8 +75,8 @@ told g c =
     let some : c.happen.new.outcome.report ≡ Some (c.in-Some.d, c.in-Some.report) = cc (c.in-Some.is, c.in-Some.d-is, c.in-Some.report-is) in
     record {
       accepts = c.happen.ensures.accepted;
-      has_seen = c.look-trouble.ensures.stands;
-      finds = c.look-trouble.ensures.found;
+      has_seen = λ setting run made. c.look-trouble.ensures.stands setting run (c.happen.ensures.accepted setting run made);
+      finds = λ setting run made. c.look-trouble.ensures.found setting run (c.happen.ensures.accepted setting run made);
       report = refl;
       topology = c.note.ensures.topology;
       tally =
@@ -107,8 +108,8 @@ untold : (g : Over) (c : goal.In_default-report g)
 untold g c =
     record {
       accepts = c.happen.ensures.accepted;
-      has_seen = c.look-trouble.ensures.stands;
-      finds = c.look-trouble.ensures.found;
+      has_seen = λ setting run made. c.look-trouble.ensures.stands setting run (c.happen.ensures.accepted setting run made);
+      finds = λ setting run made. c.look-trouble.ensures.found setting run (c.happen.ensures.accepted setting run made);
       report = refl;
       topology = c.note.ensures.topology;
       tally =

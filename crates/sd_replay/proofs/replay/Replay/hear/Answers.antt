@@ -1,12 +1,17 @@
 -- The fleet has made the step, the monitors look at it, and it is noted; nothing is told.
-use Rattle.std.proofs.Common.{◌∙◌, None, refl, sym, subst}
+use Rattle.std.proofs.Common.{◌∙◌, None, Some, refl, sym, ap, subst}
 use Rattle.std.proofs.Math.Logic.{∥∥₁_map}
 use Rattle.sd_sched.specs.declared.Event.TheVariants.{Recv}
+use Rattle.sd_fleet.specs.declared.Outcome.{Outcome}
 use Rattle.sd_fleet.specs.Standing as fleets
+use Rattle.sd_replay.specs.Replaying.{idle_outcome}
 use Rattle.sd_fleet.specs.Hearing.{outcome_hearing}
+use Rattle.sd_history.specs.Nodes.{steps_of}
+use Rattle.sd_replay.specs.Standing.{IsHearing}
 use Rattle.sd_replay.specs.Troubles.{found_by}
 use Rattle.sd_replay.proofs.Going.{with_fleet, stands_prepared}
-use Rattle.sd_replay.proofs.Happening.{IsDone, has_step, tally_merely, devices_merely, stands_on, run_on}
+use Rattle.sd_replay.proofs.Happening.{IsDone, tally_merely, devices_merely, stands_on, run_on}
+use Rattle.sd_replay.proofs.Staying.{is_hearing, can_look}
 use Rattle.sd_replay.proofs.replay.Replay.hear.Given.{Over}
 use Rattle.sd_replay.proofs.replay.Replay.hear.Goals.{After-note}
 use Rattle.sd_replay.proofs.replay.Replay.hear.Goals as goal
@@ -17,7 +22,7 @@ invariant_of-self g c =
       run =
           ∥∥₁_map c.args.self.now.run
           (with_fleet g.N.Node g.V.Observer c.args.self.now.fleet c.hear.new.self c.args.self.now.monitors c.args.self.now.event_output
-          c.args.self.now.observer (λ setting run. subst (λ f. fleets.StandsFor g.N.Node f setting run) (sym (c.hear.ensures.same c.in_default-hear.is))));
+          c.args.self.now.observer (λ setting run. subst (λ f. fleets.StandsFor g.N.Node f setting run) (sym (c.hear.ensures.same c.in_default.is))));
     }
 
 pub hear-trouble-requires : goal.hear-trouble-requires
@@ -25,40 +30,45 @@ hear-trouble-requires g c =
     record {
       step =
           ∥∥₁_map c.args.self.now.run
-          (λ has.
-          record {
-            message = c.in-Recv.message;
-            kept = c.args.self.now.fleet.fabric;
-            step =
-                has_step g.N.Node g.V.Observer c.args.self.now.fleet c.args.self.now.monitors c.args.self.now.event_output c.args.self.now.observer
-                c.hear.new.self (Recv c.in-Recv.reference c.in-Recv.device c.in-Recv.counter c.in-Recv.message)
-                (outcome_hearing c.args.self.now.fleet.fabric c.in-Recv.device c.in-Some.flight) (c.in-Some.ensures.accepted) has;
-          });
+          (can_look g.N.Node g.V.Observer c.args.self.now.fleet c.hear.new.self c.args.self.now.monitors c.args.self.now.event_output
+          c.args.self.now.observer (Recv c.args.reference c.args.d c.args.counter c.args.message) (outcome_hearing c.args.self.now.fleet.fabric c.args.d c.in-Some.flight)
+          (IsHearing c.args.reference c.args.d c.args.counter c.in-Some.flight) (c.in-Some.ensures.accepted)
+          (is_hearing g.N.Node c.args.self.now.fleet c.hear.new.self c.args.reference c.args.d c.args.counter c.args.message
+          c.in-Some.flight c.in-Some.ensures.accepted c.in-Some.ensures.stays));
     }
 
 pub note-requires-clause-room : goal.note-requires-clause-room
 note-requires-clause-room g c =
     tally_merely g.N.Node g.V.Observer c.args.self.now.fleet c.args.self.now.monitors c.args.self.now.event_output c.args.self.now.observer c.hear.new.self
-    (Recv c.in-Recv.reference c.in-Recv.device c.in-Recv.counter c.in-Recv.message) (outcome_hearing c.args.self.now.fleet.fabric c.in-Recv.device c.in-Some.flight)
+    (Recv c.args.reference c.args.d c.args.counter c.args.message) (outcome_hearing c.args.self.now.fleet.fabric c.args.d c.in-Some.flight)
     (c.in-Some.ensures.accepted) c.args.self.now.run
 
 pub note-requires-clause-devices : goal.note-requires-clause-devices
 note-requires-clause-devices g c =
     devices_merely g.N.Node g.V.Observer c.args.self.now.fleet c.args.self.now.monitors c.args.self.now.event_output c.args.self.now.observer c.hear.new.self
-    (Recv c.in-Recv.reference c.in-Recv.device c.in-Recv.counter c.in-Recv.message) (outcome_hearing c.args.self.now.fleet.fabric c.in-Recv.device c.in-Some.flight)
-    (c.in-Some.ensures.accepted) (found_by c.hear-trouble.result None c.in-Recv.reference)
-    (c.hear-trouble.ensures.devices c.in-Recv.message c.args.self.now.fleet.fabric) c.args.self.now.run
+    (Recv c.args.reference c.args.d c.args.counter c.args.message) (outcome_hearing c.args.self.now.fleet.fabric c.args.d c.in-Some.flight)
+    (c.in-Some.ensures.accepted) (found_by c.hear-trouble.result None c.args.reference)
+    (λ setting run made.
+    c.hear-trouble.ensures.devices setting (c.in-Some.ensures.accepted setting run made).next.step (steps_of run)
+    (is_hearing g.N.Node c.args.self.now.fleet c.hear.new.self c.args.reference c.args.d c.args.counter c.args.message
+    c.in-Some.flight c.in-Some.ensures.accepted c.in-Some.ensures.stays setting run made)) c.args.self.now.run
 
 -- what was done
 done : (g : Over) (c : After-note g)
     → IsDone g.N.Node g.V.Observer c.args.self.now.fleet c.hear.new.self c.args.self.now.monitors c.hear-trouble.new.self c.args.self.now.event_output
-    c.note.new.self c.args.self.now.observer c.args.self.now.observer (Recv c.in-Recv.reference c.in-Recv.device c.in-Recv.counter c.in-Recv.message)
-    (outcome_hearing c.args.self.now.fleet.fabric c.in-Recv.device c.in-Some.flight) (found_by c.hear-trouble.result None c.in-Recv.reference)
+    c.note.new.self c.args.self.now.observer c.args.self.now.observer (Recv c.args.reference c.args.d c.args.counter c.args.message)
+    (outcome_hearing c.args.self.now.fleet.fabric c.args.d c.in-Some.flight) (found_by c.hear-trouble.result None c.args.reference)
 done g c =
     record {
       accepts = c.in-Some.ensures.accepted;
-      has_seen = c.hear-trouble.ensures.stands c.in-Recv.message c.args.self.now.fleet.fabric;
-      finds = c.hear-trouble.ensures.found c.in-Recv.message c.args.self.now.fleet.fabric;
+      has_seen = λ setting run made.
+          c.hear-trouble.ensures.stands setting (c.in-Some.ensures.accepted setting run made).next.step (steps_of run)
+          (is_hearing g.N.Node c.args.self.now.fleet c.hear.new.self c.args.reference c.args.d c.args.counter c.args.message
+          c.in-Some.flight c.in-Some.ensures.accepted c.in-Some.ensures.stays setting run made);
+      finds = λ setting run made.
+          c.hear-trouble.ensures.found setting (c.in-Some.ensures.accepted setting run made).next.step (steps_of run)
+          (is_hearing g.N.Node c.args.self.now.fleet c.hear.new.self c.args.reference c.args.d c.args.counter c.args.message
+          c.in-Some.flight c.in-Some.ensures.accepted c.in-Some.ensures.stays setting run made);
       report = refl;
       topology = c.note.ensures.topology;
       tally = c.note.ensures.tally;
@@ -73,26 +83,30 @@ invariant_of-self-2 g c =
       run =
           ∥∥₁_map c.args.self.now.run
           (run_on g.N.Node g.V.Observer c.args.self.now.fleet c.hear.new.self c.args.self.now.monitors c.hear-trouble.new.self c.args.self.now.event_output
-          c.note.new.self c.args.self.now.observer c.args.self.now.observer (Recv c.in-Recv.reference c.in-Recv.device c.in-Recv.counter c.in-Recv.message)
-          (outcome_hearing c.args.self.now.fleet.fabric c.in-Recv.device c.in-Some.flight) (found_by c.hear-trouble.result None c.in-Recv.reference) (done g c));
+          c.note.new.self c.args.self.now.observer c.args.self.now.observer (Recv c.args.reference c.args.d c.args.counter c.args.message)
+          (outcome_hearing c.args.self.now.fleet.fabric c.args.d c.in-Some.flight) (found_by c.hear-trouble.result None c.args.reference) (done g c));
     }
 
-pub returns-in_default-hear-clause-stands : goal.returns-in_default-hear-clause-stands
-returns-in_default-hear-clause-stands g c = λ no setting run.
+pub returns-in_default-clause-stands : goal.returns-in_default-clause-stands
+returns-in_default-clause-stands g c = λ no setting run.
     stands_prepared g.N.Node g.V.Observer c.args.self.now.fleet c.hear.new.self c.args.self.now.monitors c.args.self.now.event_output
-    c.args.self.now.observer setting run (λ s r. subst (λ f. fleets.StandsFor g.N.Node f s r) (sym (c.hear.ensures.same c.in_default-hear.is)))
+    c.args.self.now.observer setting run (λ s r. subst (λ f. fleets.StandsFor g.N.Node f s r) (sym (c.hear.ensures.same c.in_default.is)))
 
 pub returns-clause-accepted : goal.returns-clause-accepted
 unfolding done
-returns-clause-accepted g c = λ yes setting run stands.
+returns-clause-accepted g c = λ setting run stands.
     let accepted = c.in-Some.ensures.accepted setting run stands.made in
     record {
-      next = accepted.next;
-      happens = accepted.happens ∙ sym c.in-Recv.is;
-      stands =
-          stands_on g.N.Node g.V.Observer c.args.self.now.fleet c.hear.new.self c.args.self.now.monitors c.hear-trouble.new.self
-          c.args.self.now.event_output c.note.new.self c.args.self.now.observer c.args.self.now.observer
-          (Recv c.in-Recv.reference c.in-Recv.device c.in-Recv.counter c.in-Recv.message)
-          (outcome_hearing c.args.self.now.fleet.fabric c.in-Recv.device c.in-Some.flight)
-          (found_by c.hear-trouble.result None c.in-Recv.reference) (done g c.before) setting run stands;
+      stepped =
+          record {
+            next = accepted.next;
+            happens = accepted.happens;
+            stands =
+                stands_on g.N.Node g.V.Observer c.args.self.now.fleet c.hear.new.self c.args.self.now.monitors c.hear-trouble.new.self
+                c.args.self.now.event_output c.note.new.self c.args.self.now.observer c.args.self.now.observer
+                (Recv c.args.reference c.args.d c.args.counter c.args.message)
+                (outcome_hearing c.args.self.now.fleet.fabric c.args.d c.in-Some.flight)
+                (found_by c.hear-trouble.result None c.args.reference) (done g c.before) setting run stands;
+          };
+      idle = sym accepted.comes ∙ ap (idle_outcome (Some c.in-Some.flight)) (ap (λ (o : Outcome). o.acted) accepted.comes);
     }

@@ -1,4 +1,4 @@
--- The outcome says whether the device acted before the event; nothing else came of it.
+-- The outcome says whether the device acted before the event, and which flight it received; nothing else came of it.
 use Rattle.std.proofs.Common.{◌∙◌, length, sym, ap}
 use Rattle.sd_sched.specs.Events.{device_of}
 use Rattle.sd_history.specs.Steps.{Step, acted_by}
@@ -7,20 +7,20 @@ use Rattle.sd_history.proofs.Known.{named_is_known}
 use Rattle.sd_fleet.specs.declared.Outcome.{Outcome}
 use Rattle.sd_replay.specs.Replaying.{idle_outcome}
 use Rattle.sd_replay.proofs.Observing.{named}
-use Rattle.sd_replay.proofs.replay.Replay.rest_to.Goals as goal
+use Rattle.sd_replay.proofs.replay.Replay.idle_to.Goals as goal
 
 pub returns-clause-accepted : goal.returns-clause-accepted
 returns-clause-accepted g c = λ yes setting run stands.
-    let rested = c.rest.ensures.accepted c.if-not-rest.false setting run stands in
-    let happens = rested.stepped.happens in
-    let are = rested.stepped.stands.made.fabric.accepted in
+    let idle = c.in-Some.ensures.accepted setting run stands in
+    let happens = idle.stepped.happens in
+    let are = idle.stepped.stands.made.fabric.accepted in
     let acted = c.acts_named-acted.ensures setting run stands.made
     (named (length setting.net.devices) (device_of c.args.event.now)
-    (λ d at. named_is_known setting (steps_of run) rested.stepped.next.step.seen.event d are.1 (ap device_of happens ∙ at))) in
+    (λ d at. named_is_known setting (steps_of run) idle.stepped.next.step.seen.event d are.1 (ap device_of happens ∙ at))) in
     record {
-      stepped = rested.stepped;
+      stepped = idle.stepped;
       comes =
-          ap (λ (o : Outcome). record o { acted = c.acts_named-acted.result }) c.nothing.ensures
-          ∙ ap idle_outcome (acted ∙ sym (ap (λ (s : Step). s.seen.acted) are.2 ∙ ap (acted_by (steps_of run)) happens))
-          ∙ sym rested.idle;
+          ap (λ (o : Outcome). record o { acted = c.acts_named-acted.result; taken = c.in-Some.idle.taken }) c.nothing.ensures
+          ∙ ap (idle_outcome c.in-Some.idle.taken) (acted ∙ sym (ap (λ (s : Step). s.seen.acted) are.2 ∙ ap (acted_by (steps_of run)) happens))
+          ∙ sym idle.idle;
     }

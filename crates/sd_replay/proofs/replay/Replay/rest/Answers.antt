@@ -5,10 +5,13 @@ use Rattle.sd_sched.specs.declared.Event.TheVariants.{Tick}
 use Rattle.sd_fleet.specs.declared.Outcome.{Outcome}
 use Rattle.sd_fleet.specs.Standing as fleets
 use Rattle.sd_fleet.specs.Stepping.{outcome_resting}
+use Rattle.sd_history.specs.Nodes.{steps_of}
 use Rattle.sd_replay.specs.Replaying.{idle_outcome}
+use Rattle.sd_replay.specs.Standing.{IsRest}
 use Rattle.sd_replay.specs.Troubles.{found_by}
 use Rattle.sd_replay.proofs.Going.{with_fleet, stands_prepared}
-use Rattle.sd_replay.proofs.Happening.{IsDone, has_step, tally_merely, devices_merely, stands_on, run_on}
+use Rattle.sd_replay.proofs.Happening.{IsDone, tally_merely, devices_merely, stands_on, run_on}
+use Rattle.sd_replay.proofs.Staying.{is_rest, can_look}
 use Rattle.sd_replay.proofs.replay.Replay.rest.Given.{Over}
 use Rattle.sd_replay.proofs.replay.Replay.rest.Goals.{After-note}
 use Rattle.sd_replay.proofs.replay.Replay.rest.Goals as goal
@@ -27,39 +30,45 @@ rest-trouble-requires g c =
     record {
       step =
           ∥∥₁_map c.args.self.now.run
-          (λ has.
-          record {
-            kept = c.args.self.now.fleet.fabric;
-            step =
-                has_step g.N.Node g.V.Observer c.args.self.now.fleet c.args.self.now.monitors c.args.self.now.event_output c.args.self.now.observer
-                c.rest.new.self (Tick c.in-Tick.reference c.in-Tick.device c.in-Tick.counter)
-                (outcome_resting c.args.self.now.fleet.fabric c.in-Tick.device) (c.rest.ensures.accepted c.if-not-rest.false) has;
-          });
+          (can_look g.N.Node g.V.Observer c.args.self.now.fleet c.rest.new.self c.args.self.now.monitors c.args.self.now.event_output
+          c.args.self.now.observer (Tick c.args.reference c.args.d c.args.counter) (outcome_resting c.args.self.now.fleet.fabric c.args.d)
+          (IsRest c.args.reference c.args.d c.args.counter) (c.rest.ensures.accepted c.if-not-rest.false)
+          (is_rest g.N.Node c.args.self.now.fleet c.rest.new.self c.args.reference c.args.d c.args.counter
+          (c.rest.ensures.accepted c.if-not-rest.false) (c.rest.ensures.stays c.if-not-rest.false)));
     }
 
 pub note-requires-clause-room : goal.note-requires-clause-room
 note-requires-clause-room g c =
     tally_merely g.N.Node g.V.Observer c.args.self.now.fleet c.args.self.now.monitors c.args.self.now.event_output c.args.self.now.observer c.rest.new.self
-    (Tick c.in-Tick.reference c.in-Tick.device c.in-Tick.counter) (outcome_resting c.args.self.now.fleet.fabric c.in-Tick.device)
+    (Tick c.args.reference c.args.d c.args.counter) (outcome_resting c.args.self.now.fleet.fabric c.args.d)
     (c.rest.ensures.accepted c.if-not-rest.false) c.args.self.now.run
 
 pub note-requires-clause-devices : goal.note-requires-clause-devices
 note-requires-clause-devices g c =
     devices_merely g.N.Node g.V.Observer c.args.self.now.fleet c.args.self.now.monitors c.args.self.now.event_output c.args.self.now.observer c.rest.new.self
-    (Tick c.in-Tick.reference c.in-Tick.device c.in-Tick.counter) (outcome_resting c.args.self.now.fleet.fabric c.in-Tick.device)
-    (c.rest.ensures.accepted c.if-not-rest.false) (found_by c.rest-trouble.result None c.in-Tick.reference)
-    (c.rest-trouble.ensures.devices c.args.self.now.fleet.fabric) c.args.self.now.run
+    (Tick c.args.reference c.args.d c.args.counter) (outcome_resting c.args.self.now.fleet.fabric c.args.d)
+    (c.rest.ensures.accepted c.if-not-rest.false) (found_by c.rest-trouble.result None c.args.reference)
+    (λ setting run made.
+    c.rest-trouble.ensures.devices setting (c.rest.ensures.accepted c.if-not-rest.false setting run made).next.step (steps_of run)
+    (is_rest g.N.Node c.args.self.now.fleet c.rest.new.self c.args.reference c.args.d c.args.counter
+    (c.rest.ensures.accepted c.if-not-rest.false) (c.rest.ensures.stays c.if-not-rest.false) setting run made)) c.args.self.now.run
 
 -- what was done
 done : (g : Over) (c : After-note g)
     → IsDone g.N.Node g.V.Observer c.args.self.now.fleet c.rest.new.self c.args.self.now.monitors c.rest-trouble.new.self c.args.self.now.event_output
-    c.note.new.self c.args.self.now.observer c.args.self.now.observer (Tick c.in-Tick.reference c.in-Tick.device c.in-Tick.counter)
-    (outcome_resting c.args.self.now.fleet.fabric c.in-Tick.device) (found_by c.rest-trouble.result None c.in-Tick.reference)
+    c.note.new.self c.args.self.now.observer c.args.self.now.observer (Tick c.args.reference c.args.d c.args.counter)
+    (outcome_resting c.args.self.now.fleet.fabric c.args.d) (found_by c.rest-trouble.result None c.args.reference)
 done g c =
     record {
       accepts = c.rest.ensures.accepted c.if-not-rest.false;
-      has_seen = c.rest-trouble.ensures.stands c.args.self.now.fleet.fabric;
-      finds = c.rest-trouble.ensures.found c.args.self.now.fleet.fabric;
+      has_seen = λ setting run made.
+          c.rest-trouble.ensures.stands setting (c.rest.ensures.accepted c.if-not-rest.false setting run made).next.step (steps_of run)
+          (is_rest g.N.Node c.args.self.now.fleet c.rest.new.self c.args.reference c.args.d c.args.counter
+          (c.rest.ensures.accepted c.if-not-rest.false) (c.rest.ensures.stays c.if-not-rest.false) setting run made);
+      finds = λ setting run made.
+          c.rest-trouble.ensures.found setting (c.rest.ensures.accepted c.if-not-rest.false setting run made).next.step (steps_of run)
+          (is_rest g.N.Node c.args.self.now.fleet c.rest.new.self c.args.reference c.args.d c.args.counter
+          (c.rest.ensures.accepted c.if-not-rest.false) (c.rest.ensures.stays c.if-not-rest.false) setting run made);
       report = refl;
       topology = c.note.ensures.topology;
       tally = c.note.ensures.tally;
@@ -74,8 +83,8 @@ invariant_of-self-2 g c =
       run =
           ∥∥₁_map c.args.self.now.run
           (run_on g.N.Node g.V.Observer c.args.self.now.fleet c.rest.new.self c.args.self.now.monitors c.rest-trouble.new.self c.args.self.now.event_output
-          c.note.new.self c.args.self.now.observer c.args.self.now.observer (Tick c.in-Tick.reference c.in-Tick.device c.in-Tick.counter)
-          (outcome_resting c.args.self.now.fleet.fabric c.in-Tick.device) (found_by c.rest-trouble.result None c.in-Tick.reference) (done g c));
+          c.note.new.self c.args.self.now.observer c.args.self.now.observer (Tick c.args.reference c.args.d c.args.counter)
+          (outcome_resting c.args.self.now.fleet.fabric c.args.d) (found_by c.rest-trouble.result None c.args.reference) (done g c));
     }
 
 pub returns-then-not-rest-clause-stands : goal.returns-then-not-rest-clause-stands
@@ -85,18 +94,18 @@ returns-then-not-rest-clause-stands g c = λ no setting run.
 
 pub returns-clause-accepted : goal.returns-clause-accepted
 unfolding done
-returns-clause-accepted g c = λ yes setting run stands.
+returns-clause-accepted g c = λ setting run stands.
     let accepted = c.rest.ensures.accepted c.if-not-rest.false setting run stands.made in
     record {
       stepped =
           record {
             next = accepted.next;
-            happens = accepted.happens ∙ sym c.in-Tick.is;
+            happens = accepted.happens;
             stands =
                 stands_on g.N.Node g.V.Observer c.args.self.now.fleet c.rest.new.self c.args.self.now.monitors c.rest-trouble.new.self
                 c.args.self.now.event_output c.note.new.self c.args.self.now.observer c.args.self.now.observer
-                (Tick c.in-Tick.reference c.in-Tick.device c.in-Tick.counter) (outcome_resting c.args.self.now.fleet.fabric c.in-Tick.device)
-                (found_by c.rest-trouble.result None c.in-Tick.reference) (done g c.before) setting run stands;
+                (Tick c.args.reference c.args.d c.args.counter) (outcome_resting c.args.self.now.fleet.fabric c.args.d)
+                (found_by c.rest-trouble.result None c.args.reference) (done g c.before) setting run stands;
           };
-      idle = sym accepted.comes ∙ ap idle_outcome (ap (λ (o : Outcome). o.acted) accepted.comes);
+      idle = sym accepted.comes ∙ ap (idle_outcome None) (ap (λ (o : Outcome). o.acted) accepted.comes);
     }
