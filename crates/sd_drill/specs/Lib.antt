@@ -3,6 +3,7 @@ pub mod Bounds
 pub mod Budgets
 pub mod Spared
 pub mod Times
+pub mod Bounding
 pub mod Printed
 pub mod ages
 pub mod recovery

@@ -1,6 +1,7 @@
 //! A plan under drill: one domain after another.
-ghost use Rattle.std.specs.Prelude.{◌≡◌, ◌≤◌, ◌<◌, ◌+◌, length, IsTrue, IfOk, OnOk};
+ghost use Rattle.std.specs.Prelude.{◌≡◌, ◌≤◌, ◌<◌, ◌+◌, length, IsTrue, IfOk};
 ghost use Rattle.sd_drill.specs.Bounds.{AreBounds};
+ghost use Rattle.sd_drill.specs.Bounding.{CanBound, HasBound};
 ghost use Rattle.sd_drill.specs.Budgets.{IsBudget};
 ghost use Rattle.sd_drill.specs.Drill.{IsListed};
 ghost use Rattle.sd_drill.specs.Spared as words;
@@ -8,7 +9,6 @@ ghost use Rattle.sd_drill.specs.Times.{AreGrowths, AreKnown, AreTimes, IsBoundOf
 ghost use Rattle.sd_checker.specs.CheckHit.Outages.{net_of, plan_of};
 ghost use Rattle.sd_checker.specs.CheckLoop.Loops.{HasNoCycle};
 ghost use Rattle.sd_drill.specs.recovery.Recoveries.{IsRecovery};
-ghost use Rattle.sd_drill.specs.recovery.Searches.{IsReadyFor};
 
 use crate::Budget;
 use crate::bounds::WorstList;
@@ -92,18 +92,11 @@ fn find_bound(
     outage: &Outage<'_>,
     d: u32,
 ) -> Result<Option<u128>, NoMemory>
-    requires times { AreTimes (net_of outage.now) (plan_of outage.now) times }
-    requires known { AreKnown (net_of outage.now) (plan_of outage.now) times.budget known.old }
-    requires acyclic { HasNoCycle (net_of outage.now) (plan_of outage.now) outage.now.domain }
-    requires ready { IsReadyFor (net_of outage.now) (plan_of outage.now) outage.now.domain
-        known.old.recoveries }
+    requires can { CanBound (net_of outage.now) (plan_of outage.now) outage.now.domain times
+        known.old }
     requires device { d < length (net_of outage.now).devices }
-    ensures bound { IfOk result
-        (IsListed (net_of outage.now) (plan_of outage.now) times.budget outage.now.domain d) }
-    ensures known { AreKnown (net_of outage.now) (plan_of outage.now) times.budget known.new }
-    ensures ready { OnOk result
-        (IsReadyFor (net_of outage.now) (plan_of outage.now) outage.now.domain
-        known.new.recoveries) }
+    ensures { HasBound (net_of outage.now) (plan_of outage.now) outage.now.domain times.budget d
+        result known.new }
 {
     let recovery = known.recoveries.of(outage, d)?;
     Ok(bound_by(times, &mut known.growths, outage, d, recovery))
@@ -116,20 +109,13 @@ fn note_bound(
     outage: &Outage<'_>,
     d: u32,
 ) -> Result<Option<u128>, NoMemory>
-    requires times { AreTimes (net_of outage.now) (plan_of outage.now) times }
-    requires known { AreKnown (net_of outage.now) (plan_of outage.now) times.budget known.old }
-    requires acyclic { HasNoCycle (net_of outage.now) (plan_of outage.now) outage.now.domain }
-    requires ready { IsReadyFor (net_of outage.now) (plan_of outage.now) outage.now.domain
-        known.old.recoveries }
+    requires can { CanBound (net_of outage.now) (plan_of outage.now) outage.now.domain times
+        known.old }
     requires device { d < length (net_of outage.now).devices }
     requires spared { IsTrue
         (words.is_spared (net_of outage.now) (plan_of outage.now) outage.now.domain d) }
-    ensures bound { IfOk result
-        (IsListed (net_of outage.now) (plan_of outage.now) times.budget outage.now.domain d) }
-    ensures known { AreKnown (net_of outage.now) (plan_of outage.now) times.budget known.new }
-    ensures ready { OnOk result
-        (IsReadyFor (net_of outage.now) (plan_of outage.now) outage.now.domain
-        known.new.recoveries) }
+    ensures { HasBound (net_of outage.now) (plan_of outage.now) outage.now.domain times.budget d
+        result known.new }
 {
     let bound = find_bound(times, known, outage, d)?;
     known.spared.note(d, bound);
@@ -144,18 +130,11 @@ fn bound_of(
     outage: &Outage<'_>,
     d: u32,
 ) -> Result<Option<u128>, NoMemory>
-    requires times { AreTimes (net_of outage.now) (plan_of outage.now) times }
-    requires known { AreKnown (net_of outage.now) (plan_of outage.now) times.budget known.old }
-    requires acyclic { HasNoCycle (net_of outage.now) (plan_of outage.now) outage.now.domain }
-    requires ready { IsReadyFor (net_of outage.now) (plan_of outage.now) outage.now.domain
-        known.old.recoveries }
+    requires can { CanBound (net_of outage.now) (plan_of outage.now) outage.now.domain times
+        known.old }
     requires device { d < length (net_of outage.now).devices }
-    ensures bound { IfOk result
-        (IsListed (net_of outage.now) (plan_of outage.now) times.budget outage.now.domain d) }
-    ensures known { AreKnown (net_of outage.now) (plan_of outage.now) times.budget known.new }
-    ensures ready { OnOk result
-        (IsReadyFor (net_of outage.now) (plan_of outage.now) outage.now.domain
-        known.new.recoveries) }
+    ensures { HasBound (net_of outage.now) (plan_of outage.now) outage.now.domain times.budget d
+        result known.new }
 {
     if !is_spared(outage, d) {
         return find_bound(times, known, outage, d);
@@ -173,11 +152,8 @@ fn all_bounds(
     known: &mut BoundCache,
     outage: &Outage<'_>,
 ) -> Result<WorstList, NoMemory>
-    requires times { AreTimes (net_of outage.now) (plan_of outage.now) times }
-    requires known { AreKnown (net_of outage.now) (plan_of outage.now) times.budget known.old }
-    requires acyclic { HasNoCycle (net_of outage.now) (plan_of outage.now) outage.now.domain }
-    requires ready { IsReadyFor (net_of outage.now) (plan_of outage.now) outage.now.domain
-        known.old.recoveries }
+    requires can { CanBound (net_of outage.now) (plan_of outage.now) outage.now.domain times
+        known.old }
     ensures bounds { IfOk result
         (AreBounds (net_of outage.now) (plan_of outage.now) times.budget outage.now.domain) }
     ensures known { AreKnown (net_of outage.now) (plan_of outage.now) times.budget known.new }

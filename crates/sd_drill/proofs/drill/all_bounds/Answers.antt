@@ -17,7 +17,11 @@ loop-d-preserved c =
           (listed_more (IsListed (net_of o) (plan_of o) c.args.times.budget o.domain) old c.in_ok-bound.bound c.loop-d.d c.loop-d.invariant.size
           c.loop-d.invariant.listed c.in_ok-bound.ensures.bound);
       size = ap (λ (xs : List (Option ℕ)). length xs) items ∙ length_push old c.in_ok-bound.bound ∙ omega (arith, c.loop-d.invariant.size);
-      known = c.bound_of.ensures.known;
-      ready = c.in_ok-bound.ensures.ready;
+      can = record {
+        timed = c.requires.can.timed;
+        known = c.bound_of.ensures.known;
+        acyclic = c.requires.can.acyclic;
+        ready = c.in_ok-bound.ensures.ready;
+      };
       room = c.push_reserved.ensures.capacity ∙ c.loop-d.invariant.room;
     }

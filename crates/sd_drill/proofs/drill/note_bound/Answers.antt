@@ -5,8 +5,8 @@ use Rattle.sd_drill.specs.Spared.{AreSparedBounds}
 use Rattle.sd_drill.proofs.recovery.Sparing.{bound_spared, bounds_noted}
 use Rattle.sd_drill.proofs.drill.note_bound.Goals as goal
 
-pub returns-clause-known : goal.returns-clause-known
-returns-clause-known c =
+pub returns : goal.returns
+returns c =
     let o = c.args.outage.now in
     let net = net_of o in
     let plan = plan_of o in
@@ -15,10 +15,14 @@ returns-clause-known c =
     let found = c.find_bound.ensures.known in
     let before = c.find_bound.new.known.spared.known.items in
     record {
-      growths = found.growths;
-      spared = subst (λ (xs : List (Option ℕ)). AreSparedBounds net plan budget xs) (sym c.note.ensures)
-          (bounds_noted net plan budget before c.args.d c.in_ok-bound.bound c.requires.device found.spared
-          (bound_spared net plan (forest_of net plan index.fits index.structured) budget o.domain c.args.d c.in_ok-bound.bound c.requires.device
-          c.requires.spared c.in_ok-bound.ensures.bound));
-      room = found.room;
+      bound = c.in_ok-bound.ensures.bound;
+      known = record {
+        growths = found.growths;
+        spared = subst (λ (xs : List (Option ℕ)). AreSparedBounds net plan budget xs) (sym c.note.ensures)
+            (bounds_noted net plan budget before c.args.d c.in_ok-bound.bound c.requires.device found.spared
+            (bound_spared net plan (forest_of net plan index.fits index.structured) budget o.domain c.args.d c.in_ok-bound.bound c.requires.device
+            c.requires.spared c.in_ok-bound.ensures.bound));
+        room = found.room;
+      };
+      ready = c.in_ok-bound.ensures.ready;
     }
