@@ -168,7 +168,7 @@ fn replay_of(alloc: Global, network: &Network) -> Result<Replay<Device, NoObserv
 
 /// A topology with its plans.
 #[derive(Clone, Copy)]
-struct Ground<'a> {
+struct PlannedTopology<'a> {
     topo: &'a Topology,
     plans: &'a [Plan],
 }
@@ -177,11 +177,11 @@ struct Ground<'a> {
 fn run_on(
     rt: &(impl AllocGlobal + Abort),
     replay: &mut Replay<Device, NoObserver>,
-    ground: Ground<'_>,
+    planned: PlannedTopology<'_>,
     kind: Kind<'_>,
     tally: &mut Tally,
 ) -> Result<(), Fail> {
-    let site = Site::of(rt.alloc(), ground.topo, ground.plans)?;
+    let site = Site::of(rt.alloc(), planned.topo, planned.plans)?;
     run_over(rt, replay, &site, kind, tally)
 }
 
@@ -195,11 +195,11 @@ fn run_in(
 ) -> Result<(), Fail> {
     let topo = read_topology(rt.alloc(), network.topology.as_bytes())?;
     let plans = accepted_plans(rt.alloc(), &topo, network.plans)?;
-    let ground = Ground {
+    let planned = PlannedTopology {
         topo: &topo,
         plans: plans.as_slice(),
     };
-    run_on(rt, replay, ground, kind, tally)
+    run_on(rt, replay, planned, kind, tally)
 }
 
 /// One history over a network.
