@@ -419,6 +419,8 @@ impl<N: Node> Fleet<N> {
     }
 
     /// The flight of a number, or why there is none: `Unknown` or `Spent`.
+    // A flight is large: inlined, it is not copied once more.
+    #[inline(always)]
     pub fn flight(&self, number: u64) -> Result<Flight, TakeFault>
         ensures { (setting : Setting) (run : List (NodeStep N))
             → StandsFor N.Node self.now setting run → result ≡ look_in (steps_of run) number }

@@ -100,6 +100,8 @@ pub(crate) fn update_rows<N: Node>(
 }
 
 /// Adds the flight that was found, if one was.
+// A flight is large: inlined, it is copied once.
+#[inline(always)]
 fn add_found(sent: &mut Vec<Flight>, found: Result<Flight, TakeFault>)
     requires { length sent.old.items < vec_capacity sent.old }
     ensures items { sent.new.items ≡ sent.old.items ++ option_to_list (result_ok found) }
