@@ -13,6 +13,7 @@ pub mod Observing
 pub mod Staying
 pub mod Quick
 pub mod Going
+pub mod Tried
 pub mod Happening
 -- Handed on: what crates above name of those below.
 pub use Rattle.sd_topo.proofs as Topo

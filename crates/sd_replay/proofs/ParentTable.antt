@@ -16,7 +16,6 @@ use Rattle.sd_sched.specs.Events.{device_of}
 use Rattle.sd_history.specs.World.{Setting}
 use Rattle.sd_history.specs.Steps.{Step}
 use Rattle.sd_history.specs.Accepted.{AreSteps}
-use Rattle.sd_history.specs.Lines as lines
 use Rattle.sd_history.specs.Lines.{RootsAlarm, counted_parent, first_on_loop, roots, loop_lines, root_lines}
 use Rattle.sd_replay.proofs.Loops.{UpIsKnown, parents_known, first_is}
 use Rattle.sd_watch.specs.parent_table.ParentTable as parent_table

@@ -1,6 +1,6 @@
 -- What the monitors see and find of a step of which no report is told, that sends nothing that can come, and with which its device stands as
 -- before.
-use Rattle.std.specs.Prelude.{◌≡◌, ℕ, ◌<◌, false, List, [], ◌∷◌, length, filter, None, Some, refl}
+use Rattle.std.specs.Prelude.{◌≡◌, ℕ, ◌<◌, false, List, [], ◌∷◌, length, filter, None, Some}
 use Rattle.std.proofs.Common.{sym, ap, ◌∙◌, arith}
 use Rattle.std.proofs.lemmas.List.{nil_from_length}
 use Rattle.sd_sched.specs.declared.Event.{Event}

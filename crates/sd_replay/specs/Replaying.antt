@@ -1,5 +1,5 @@
 -- For which runs a replay stands, and how it goes on.
-use Rattle.std.specs.Prelude.{◌≡◌, ℕ, Bool, false, ◌||◌, List, ◌∷◌, Option, Some, None, Ok, Err, IsTrue}
+use Rattle.std.specs.Prelude.{◌≡◌, ℕ, Bool, false, ◌||◌, List, ◌∷◌, Option, Some, None, Ok, Err, IsTrue, IfSome}
 use Rattle.sd_core.specs.declared.node.Node.{Ghosts}
 use Rattle.sd_msg.specs.declared.Flight.{Flight}
 use Rattle.sd_msg.specs.declared.observer.Observer as observers
@@ -13,6 +13,7 @@ use Rattle.sd_history.specs.Refusals.{refusal}
 use Rattle.sd_fleet.specs.declared.Outcome.{Outcome}
 use Rattle.sd_fleet.specs.Doing.{may_send}
 use Rattle.sd_fleet.specs.Outcomes.{outcome_of}
+use Rattle.sd_replay.specs.declared.replay.Idle.{Idle}
 use Rattle.sd_replay.specs.declared.replay.Replay.{Replay}
 use Rattle.sd_replay.specs.declared.faults.ReplayFault.{ReplayFault}
 use Rattle.sd_replay.specs.declared.faults.ReplayFault.TheVariants.{Line, Apply, Memory}
@@ -52,6 +53,12 @@ pub record IsIdle {N V : Type 0} (g : Ghosts N) (o : observers.Ghosts V) (replay
     (e : Event) (taken : Option Flight) : Type 0 where
   pub stepped : IsStepped g o replay setting run e
   pub idle : outcome_of stepped.next.step ≡ idle_outcome taken stepped.next.step.seen.acted
+
+-- the event was tried as such a one: it happened so, or all stands as before
+pub record IsTried {N V : Type 0} (g : Ghosts N) (o : observers.Ghosts V) (old new : Replay N V g o) (e : Event) (result : Option Idle) : Type 0 where
+  pub accepted : IfSome result (λ idle. (setting : Setting) (run : List (NodeStep N)) → StandsFor g o old setting run
+      → IsIdle g o new setting run e idle.taken)
+  pub stands : result ≡ None → (setting : Setting) (run : List (NodeStep N)) → StandsFor g o old setting run → StandsFor g o new setting run
 
 -- only a tick, a receipt and an ask take memory
 abbrev pub may_take : Event → Bool

@@ -56,7 +56,7 @@ fn fleet_and_monitors<N: Node>(
 
 /// What came of an event that sends nothing and after which its device answers as before.
 #[derive(Clone, Copy)]
-struct Idle {
+pub(crate) struct Idle {
     /// The flight that it received.
     taken: Option<Flight>,
 }
@@ -78,7 +78,7 @@ pub struct Replay<N: Node, V: Observer> {
 }
 
 impl<N: Node, V: Observer> Replay<N, V> {
-    ghost use Rattle.sd_replay.specs.Replaying.{StandsFor, IsStepped, IsSteppedTo, IsIdle, IsFault, IsLineFault, lines_in, may_take};
+    ghost use Rattle.sd_replay.specs.Replaying.{StandsFor, IsStepped, IsSteppedTo, IsTried, IsFault, IsLineFault, lines_in, may_take};
     ghost use Rattle.sd_replay.specs.Calm.{StaysCalm};
 
     /// A replay before any event, with the first plan in force. It takes the room for the lines of
@@ -214,12 +214,7 @@ impl<N: Node, V: Observer> Replay<N, V> {
     #[inline(always)]
     fn idle(&mut self, event: &Event) -> Option<Idle>
         requires within { IsTrue (is_within event.now) }
-        ensures accepted { IfSome result (λ idle. (setting : Setting) (run : List (NodeStep N))
-            → StandsFor N.Node V.Observer self.old setting run
-            → IsIdle N.Node V.Observer self.new setting run event.now idle.taken) }
-        ensures stands { result ≡ None → (setting : Setting) (run : List (NodeStep N))
-            → StandsFor N.Node V.Observer self.old setting run
-            → StandsFor N.Node V.Observer self.new setting run }
+        ensures { IsTried N.Node V.Observer self.old self.new event.now result }
     {
         match *event {
             Event::Tick {
@@ -241,13 +236,8 @@ impl<N: Node, V: Observer> Replay<N, V> {
     #[inline(always)]
     fn rest(&mut self, reference: u64, d: u32, counter: u64) -> Option<Idle>
         requires within { IsTrue (is_within (events_of.Tick reference d counter)) }
-        ensures accepted { IfSome result (λ idle. (setting : Setting) (run : List (NodeStep N))
-            → StandsFor N.Node V.Observer self.old setting run
-            → IsIdle N.Node V.Observer self.new setting run (events_of.Tick reference d counter)
-            idle.taken) }
-        ensures stands { result ≡ None → (setting : Setting) (run : List (NodeStep N))
-            → StandsFor N.Node V.Observer self.old setting run
-            → StandsFor N.Node V.Observer self.new setting run }
+        ensures { IsTried N.Node V.Observer self.old self.new
+            (events_of.Tick reference d counter) result }
     {
         if !self.fleet.rest(reference, d, counter) {
             return None;
@@ -261,13 +251,8 @@ impl<N: Node, V: Observer> Replay<N, V> {
     #[inline(always)]
     fn hear(&mut self, reference: u64, d: u32, counter: u64, message: u64) -> Option<Idle>
         requires within { IsTrue (is_within (events_of.Recv reference d counter message)) }
-        ensures accepted { IfSome result (λ idle. (setting : Setting) (run : List (NodeStep N))
-            → StandsFor N.Node V.Observer self.old setting run
-            → IsIdle N.Node V.Observer self.new setting run
-            (events_of.Recv reference d counter message) idle.taken) }
-        ensures stands { result ≡ None → (setting : Setting) (run : List (NodeStep N))
-            → StandsFor N.Node V.Observer self.old setting run
-            → StandsFor N.Node V.Observer self.new setting run }
+        ensures { IsTried N.Node V.Observer self.old self.new
+            (events_of.Recv reference d counter message) result }
     {
         let Some(flight) = self.fleet.hear(reference, d, counter, message) else {
             return None;

@@ -87,26 +87,34 @@ invariant_of-self-2 g c =
           (outcome_hearing c.args.self.now.fleet.fabric c.args.d c.in-Some.flight) (found_by c.hear-trouble.result None c.args.reference) (done g c));
     }
 
-pub returns-in_default-clause-stands : goal.returns-in_default-clause-stands
-returns-in_default-clause-stands g c = λ no setting run.
-    stands_prepared g.N.Node g.V.Observer c.args.self.now.fleet c.hear.new.self c.args.self.now.monitors c.args.self.now.event_output
-    c.args.self.now.observer setting run (λ s r. subst (λ f. fleets.StandsFor g.N.Node f s r) (sym (c.hear.ensures.same c.in_default.is)))
-
-pub returns-clause-accepted : goal.returns-clause-accepted
-unfolding done
-returns-clause-accepted g c = λ setting run stands.
-    let accepted = c.in-Some.ensures.accepted setting run stands.made in
+pub returns-in_default : goal.returns-in_default
+returns-in_default g c =
     record {
-      stepped =
+      accepted = tt;
+      stands = λ no setting run.
+          stands_prepared g.N.Node g.V.Observer c.args.self.now.fleet c.hear.new.self c.args.self.now.monitors c.args.self.now.event_output
+          c.args.self.now.observer setting run (λ s r. subst (λ f. fleets.StandsFor g.N.Node f s r) (sym (c.hear.ensures.same c.in_default.is)));
+    }
+
+pub returns : goal.returns
+unfolding done
+returns g c =
+    record {
+      accepted = λ setting run stands.
+          let accepted = c.in-Some.ensures.accepted setting run stands.made in
           record {
-            next = accepted.next;
-            happens = accepted.happens;
-            stands =
-                stands_on g.N.Node g.V.Observer c.args.self.now.fleet c.hear.new.self c.args.self.now.monitors c.hear-trouble.new.self
-                c.args.self.now.event_output c.note.new.self c.args.self.now.observer c.args.self.now.observer
-                (Recv c.args.reference c.args.d c.args.counter c.args.message)
-                (outcome_hearing c.args.self.now.fleet.fabric c.args.d c.in-Some.flight)
-                (found_by c.hear-trouble.result None c.args.reference) (done g c.before) setting run stands;
+            stepped =
+                record {
+                  next = accepted.next;
+                  happens = accepted.happens;
+                  stands =
+                      stands_on g.N.Node g.V.Observer c.args.self.now.fleet c.hear.new.self c.args.self.now.monitors c.hear-trouble.new.self
+                      c.args.self.now.event_output c.note.new.self c.args.self.now.observer c.args.self.now.observer
+                      (Recv c.args.reference c.args.d c.args.counter c.args.message)
+                      (outcome_hearing c.args.self.now.fleet.fabric c.args.d c.in-Some.flight)
+                      (found_by c.hear-trouble.result None c.args.reference) (done g c.before) setting run stands;
+                };
+            idle = sym accepted.comes ∙ ap (idle_outcome (Some c.in-Some.flight)) (ap (λ (o : Outcome). o.acted) accepted.comes);
           };
-      idle = sym accepted.comes ∙ ap (idle_outcome (Some c.in-Some.flight)) (ap (λ (o : Outcome). o.acted) accepted.comes);
+      stands = λ none. cc;
     }

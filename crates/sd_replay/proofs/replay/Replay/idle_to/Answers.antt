@@ -7,11 +7,13 @@ use Rattle.sd_history.proofs.Known.{named_is_known}
 use Rattle.sd_fleet.specs.declared.Outcome.{Outcome}
 use Rattle.sd_replay.specs.Replaying.{idle_outcome}
 use Rattle.sd_replay.proofs.Observing.{named}
+use Rattle.sd_replay.proofs.Tried.{happened}
 use Rattle.sd_replay.proofs.replay.Replay.idle_to.Goals as goal
 
 pub returns-clause-accepted : goal.returns-clause-accepted
 returns-clause-accepted g c = λ yes setting run stands.
-    let idle = c.in-Some.ensures.accepted setting run stands in
+    let idle = happened g.N.Node g.V.Observer c.args.self.now c.idle.new.self c.args.event.now c.idle.result c.in-Some.idle
+    c.idle.ensures c.in-Some.is setting run stands in
     let happens = idle.stepped.happens in
     let are = idle.stepped.stands.made.fabric.accepted in
     let acted = c.acts_named-acted.ensures setting run stands.made

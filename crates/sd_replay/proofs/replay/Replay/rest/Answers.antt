@@ -87,25 +87,33 @@ invariant_of-self-2 g c =
           (outcome_resting c.args.self.now.fleet.fabric c.args.d) (found_by c.rest-trouble.result None c.args.reference) (done g c));
     }
 
-pub returns-then-not-rest-clause-stands : goal.returns-then-not-rest-clause-stands
-returns-then-not-rest-clause-stands g c = λ no setting run.
-    stands_prepared g.N.Node g.V.Observer c.args.self.now.fleet c.rest.new.self c.args.self.now.monitors c.args.self.now.event_output
-    c.args.self.now.observer setting run (λ s r. subst (λ f. fleets.StandsFor g.N.Node f s r) (sym (c.rest.ensures.same c.if-not-rest.true)))
-
-pub returns-clause-accepted : goal.returns-clause-accepted
-unfolding done
-returns-clause-accepted g c = λ setting run stands.
-    let accepted = c.rest.ensures.accepted c.if-not-rest.false setting run stands.made in
+pub returns-then-not-rest : goal.returns-then-not-rest
+returns-then-not-rest g c =
     record {
-      stepped =
+      accepted = tt;
+      stands = λ no setting run.
+          stands_prepared g.N.Node g.V.Observer c.args.self.now.fleet c.rest.new.self c.args.self.now.monitors c.args.self.now.event_output
+          c.args.self.now.observer setting run (λ s r. subst (λ f. fleets.StandsFor g.N.Node f s r) (sym (c.rest.ensures.same c.if-not-rest.true)));
+    }
+
+pub returns : goal.returns
+unfolding done
+returns g c =
+    record {
+      accepted = λ setting run stands.
+          let accepted = c.rest.ensures.accepted c.if-not-rest.false setting run stands.made in
           record {
-            next = accepted.next;
-            happens = accepted.happens;
-            stands =
-                stands_on g.N.Node g.V.Observer c.args.self.now.fleet c.rest.new.self c.args.self.now.monitors c.rest-trouble.new.self
-                c.args.self.now.event_output c.note.new.self c.args.self.now.observer c.args.self.now.observer
-                (Tick c.args.reference c.args.d c.args.counter) (outcome_resting c.args.self.now.fleet.fabric c.args.d)
-                (found_by c.rest-trouble.result None c.args.reference) (done g c.before) setting run stands;
+            stepped =
+                record {
+                  next = accepted.next;
+                  happens = accepted.happens;
+                  stands =
+                      stands_on g.N.Node g.V.Observer c.args.self.now.fleet c.rest.new.self c.args.self.now.monitors c.rest-trouble.new.self
+                      c.args.self.now.event_output c.note.new.self c.args.self.now.observer c.args.self.now.observer
+                      (Tick c.args.reference c.args.d c.args.counter) (outcome_resting c.args.self.now.fleet.fabric c.args.d)
+                      (found_by c.rest-trouble.result None c.args.reference) (done g c.before) setting run stands;
+                };
+            idle = sym accepted.comes ∙ ap (idle_outcome None) (ap (λ (o : Outcome). o.acted) accepted.comes);
           };
-      idle = sym accepted.comes ∙ ap (idle_outcome None) (ap (λ (o : Outcome). o.acted) accepted.comes);
+      stands = λ none. cc;
     }

@@ -5,17 +5,20 @@ use Rattle.sd_history.specs.Nodes.{steps_of}
 use Rattle.sd_history.specs.Refusals.{refusal}
 use Rattle.sd_replay.proofs.Calm.{stays_calm}
 use Rattle.sd_replay.proofs.Causes.{unrefused}
+use Rattle.sd_replay.proofs.Tried.{happened}
 use Rattle.sd_replay.proofs.replay.Replay.step_event.Goals as goal
 
 -- an event that was accepted is not refused
 pub returns-in-Some-clause-refusal : goal.returns-in-Some-clause-refusal
 returns-in-Some-clause-refusal g c = λ setting run stands.
-    let stepped = (c.in-Some.ensures.accepted setting run stands).stepped in
+    let stepped = (happened g.N.Node g.V.Observer c.args.self.now c.idle.new.self c.args.event.now c.idle.result c.in-Some.field-0
+    c.idle.ensures c.in-Some.is setting run stands).stepped in
     unrefused _ setting (steps_of run) c.args.event.now
     (ap (refusal setting (steps_of run)) (sym stepped.happens) ∙ stepped.stands.made.fabric.accepted.1)
 
 pub returns-in-Some-clause-accepted : goal.returns-in-Some-clause-accepted
-returns-in-Some-clause-accepted g c = λ setting run stands. (c.in-Some.ensures.accepted setting run stands).stepped
+returns-in-Some-clause-accepted g c = λ setting run stands. (happened g.N.Node g.V.Observer c.args.self.now c.idle.new.self c.args.event.now c.idle.result c.in-Some.field-0
+    c.idle.ensures c.in-Some.is setting run stands).stepped
 
 pub returns-in-Some-clause-calm : goal.returns-in-Some-clause-calm
 returns-in-Some-clause-calm g c = λ setting run stands. stays_calm setting stands.sound (steps_of run)
