@@ -6,3 +6,4 @@ pub mod Steps
 pub mod Taking
 pub mod Comes
 pub mod Progresses
+pub mod Nexts

@@ -22,8 +22,8 @@ use Rattle.sd_cmd_files.specs.work.Leaving.{WritesLines, are_lines}
 use Rattle.sd_cmd_files.specs.work.Ending.{LeavesAt}
 use Rattle.sd_cmd_files.specs.work.Steps.{Step, step_of, step_pieces}
 use Rattle.sd_cmd_files.specs.work.Comes.{HasCome}
+use Rattle.sd_cmd_files.specs.work.Nexts.{AddsNext, MakesNext}
 use Rattle.sd_cmd_files.proofs.work.Reading.{reads_on, reads_end, EndsWith, begins_with_step}
-use Rattle.sd_cmd_files.proofs.work.Writing.{AddsNext, MakesNext}
 
 -- before the first line
 pub comes : {S E : Type 0} (g : Ghosts S) (work : Work E) (Stands : List E → Type 0) (text : List ℕ) (reader : LineReader S Buffer g) (out : Option Pieces)

@@ -12,6 +12,7 @@ use Rattle.sd_stream.specs.declared.faults.StreamFault.TheVariants as stream
 use Rattle.sd_stream.proofs.LineLaws.{line_len-le-length, length-take-line_len, next_of-none, length-next_of, lines-more, lines-some}
 use Rattle.sd_stream.proofs.AnswerLaws.{line_cases}
 use Rattle.sd_cmd_files.specs.work.Works.{Work}
+use Rattle.sd_cmd_files.specs.work.Nexts.{HoldsNext}
 use Rattle.sd_cmd_files.specs.work.Steps.{Step, step_for, step_of, end_step, refused_step}
 
 -- which tests hold where an answer is known
@@ -68,9 +69,7 @@ step_end work before text xs answer =
     let used_up : text ≡ [] = next_of-none text tests.2 in
     rw used_up refl
 
--- what holds of the step that an answer calls for, whatever work is done, holds of the next step of the text that is left, if that is told
-abbrev pub HoldsNext : {E : Type 0} → (Work E → List E → Step E → Type 0) → Option (List ℕ) → ℕ → Type 0
-HoldsNext {E = E} P left before = IfSome left (λ text. (w : Work E) (xs : List E) → P w xs (step_of w (before + length text) before xs (lines text)))
+-- What holds of the step that an answer calls for holds of the next step.
 
 -- a line that was passed
 pub next_passed : {E : Type 0} (P : Work E → List E → Step E → Type 0) (left : Option (List ℕ)) (before : ℕ) (line : List ℕ)

@@ -1,5 +1,5 @@
 -- What is written for a line is what its step writes.
-use Rattle.std.proofs.Common.{◌≡◌, ℕ, true, refl, List, Option, Result, Ok, Err, sym, subst}
+use Rattle.std.proofs.Common.{◌≡◌, ℕ, true, refl, List, Option, None, Some, Result, Ok, Err, sym, subst}
 use Rattle.std.specs.Prelude.{IfOk, IsErrAnd}
 use Rattle.std.specs.List.{list_any}
 use Rattle.sd_outside.specs.Pieces.{Pieces}
@@ -8,9 +8,8 @@ use Rattle.sd_cmd_files.specs.declared.Status.{Status}
 use Rattle.sd_cmd_files.specs.declared.Status.TheVariants.{InputRefused}
 use Rattle.sd_cmd_files.specs.declared.command_error.IoError.{IoError}
 use Rattle.sd_cmd_files.specs.work.Works.{Work}
-use Rattle.sd_cmd_files.specs.work.Steps.{Step, Last, end_step, step_pieces}
-use Rattle.sd_cmd_files.specs.work.Comes.{HasMadeStep}
-use Rattle.sd_cmd_files.proofs.work.Stepping.{HoldsNext}
+use Rattle.sd_cmd_files.specs.work.Steps.{Last, end_step}
+use Rattle.sd_cmd_files.specs.work.Nexts.{MakesNext}
 
 -- a stop is handed on
 pub adds_handed_on : (T : Type 0) {U : Type 0} (result : Result U IoError) (why : IoError) (pieces : Pieces) (old new : Option Pieces)
@@ -18,21 +17,12 @@ pub adds_handed_on : (T : Type 0) {U : Type 0} (result : Result U IoError) (why 
 adds_handed_on T {U = U} (Ok done) why pieces old new same adds = absurd same
 adds_handed_on T {U = U} (Err other) why pieces old new same adds = subst (λ (w : IoError). Adds {T = U} pieces old new (Err w)) (sym same) adds
 
--- what a step writes was added, whatever work is done
-abbrev pub AddsStep : {E T : Type 0} → (Stood : Work E → List E → Type 0) → Option Pieces → Option Pieces → Result T IoError → Work E → List E → Step E
-    → Type 0
-AddsStep Stood old new result w xs step = Stood w xs → Adds (step_pieces w xs step) old new result
-
--- a step was made, whatever work is done
-abbrev pub MakesStep : {E : Type 0} → (Stood Stands : Work E → List E → Type 0) → Result (Option Status) IoError → Work E → List E → Step E → Type 0
-MakesStep Stood Stands result w xs step = Stood w xs → HasMadeStep step xs (Stands w) result
-
--- the same of the next step of the text that is left
-abbrev pub AddsNext : {E T : Type 0} → Option (List ℕ) → ℕ → (Stood : Work E → List E → Type 0) → Option Pieces → Option Pieces → Result T IoError → Type 0
-AddsNext left before Stood old new result = HoldsNext (AddsStep Stood old new result) left before
-
-abbrev pub MakesNext : {E : Type 0} → Option (List ℕ) → ℕ → (Stood Stands : Work E → List E → Type 0) → Result (Option Status) IoError → Type 0
-MakesNext left before Stood Stands result = HoldsNext (MakesStep Stood Stands result) left before
+-- a run that is stopped makes no step
+pub makes_stopped : {E : Type 0} (left : Option (List ℕ)) (before : ℕ) (Stood Stands : Work E → List E → Type 0) (result : Result (Option Status) IoError)
+    (why : IoError) → IsErrAnd result (λ other. other ≡ why) → MakesNext left before Stood Stands result
+makes_stopped None before Stood Stands result why stopped = tt
+makes_stopped (Some text) before Stood Stands (Ok last) why stopped = absurd stopped
+makes_stopped (Some text) before Stood Stands (Err other) why stopped = λ w xs h. tt
 
 -- a run whose text has ended too soon ends as a refused one
 pub ends_refused : {E : Type 0} (work : Work E) (xs : List E) (result : Result Status IoError) (last : Pieces) → end_step work xs ≡ Last last InputRefused

@@ -1,18 +1,14 @@
 //! The way through a text: every line is taken, and what is due for it is written.
-ghost use Rattle.std.specs.Prelude.{◌≡◌, ◌≤◌, ◌+◌, ◌^◌, ◌∷◌, [], List, length, true, Ok, Err, Some, None, IsTrue, IfOk, IfSome};
+ghost use Rattle.std.specs.Prelude.{◌≡◌, ◌≤◌, ◌^◌, ◌∷◌, [], true, Ok, Err, Some, IsTrue, IfOk, IfSome};
 ghost use Rattle.sd_outside.specs.Causes.{RisesFor};
 ghost use Rattle.sd_outside.specs.Shelves.{KeepsShelf};
-ghost use Rattle.sd_stream.specs.Lines.{lines};
-ghost use Rattle.sd_stream.specs.Reader.{text_left, bytes_before, IsNear};
+ghost use Rattle.sd_stream.specs.Reader.{IsNear};
 ghost use Rattle.sd_cmd_files.specs.Answering.{InWrites};
 ghost use Rattle.sd_cmd_files.specs.Statuses.{is_among};
-ghost use Rattle.sd_cmd_files.specs.Writes.{Adds};
 ghost use Rattle.sd_cmd_files.specs.work.Ending.{LeavesAt};
 ghost use Rattle.sd_cmd_files.specs.work.Works.{Work, InSteps, IsOutcome, refused_part};
 ghost use Rattle.sd_cmd_files.specs.work.WholeLines.{WritesWhole};
-ghost use Rattle.sd_cmd_files.specs.work.Steps.{step_of, step_pieces};
-ghost use Rattle.sd_cmd_files.specs.work.Comes.{HasTaken, HasMadeStep};
-ghost use Rattle.sd_cmd_files.specs.work.Progresses.{HasAccepted};
+ghost use Rattle.sd_cmd_files.specs.work.Nexts.{HasTakenNext};
 
 use crate::work::LineWork;
 use crate::work::progress::Progress;
@@ -72,23 +68,8 @@ fn take_line<S: Shelf, O: Sink, W: LineWork>(
     out: &mut O,
 ) -> Result<Option<Status>, IoError>
     requires more { progress.old.taken ≤ 2 ^ 32 }
-    ensures makes { IfSome (text_left S.Shelf reader.old)
-        (λ text. (w : Work W.Item) (xs : List W.Item)
-        → HasAccepted W.LineWork progress.old w xs
-        → HasMadeStep
-        (step_of w (bytes_before reader.old + length text) (bytes_before reader.old) xs
-        (lines text)) xs (HasAccepted W.LineWork progress.new w) result) }
-    ensures writes { IfSome (text_left S.Shelf reader.old)
-        (λ text. (w : Work W.Item) (xs : List W.Item)
-        → HasAccepted W.LineWork progress.old w xs
-        → Adds (step_pieces w xs
-        (step_of w (bytes_before reader.old + length text) (bytes_before reader.old) xs
-        (lines text))) (O.written out.old) (O.written out.new) result) }
-    ensures counts { result ≡ Ok None → progress.new.taken ≡ progress.old.taken + 1 }
-    ensures gives { IfOk result
-        (λ last. IfSome last (λ status. IsTrue (is_among (Status.InputRefused ∷ W.gives) status))) }
-    ensures reader { HasTaken S.Shelf reader.old result reader.new }
-    ensures sink { RisesFor (result ≡ Err IoError.Sink) (O.faults out.old) (O.faults out.new) }
+    ensures { HasTakenNext S.Shelf O.Sink W.LineWork reader.old reader.new progress.old progress.new
+        out.old out.new result }
 {
     match progress.work.take_front(alloc, reader.window()) {
         Ok(Some(len)) => {
@@ -109,23 +90,8 @@ fn take_lent<S: Shelf, O: Sink, W: LineWork>(
     out: &mut O,
 ) -> Result<Option<Status>, IoError>
     requires more { progress.old.taken ≤ 2 ^ 32 }
-    ensures makes { IfSome (text_left S.Shelf reader.old)
-        (λ text. (w : Work W.Item) (xs : List W.Item)
-        → HasAccepted W.LineWork progress.old w xs
-        → HasMadeStep
-        (step_of w (bytes_before reader.old + length text) (bytes_before reader.old) xs
-        (lines text)) xs (HasAccepted W.LineWork progress.new w) result) }
-    ensures writes { IfSome (text_left S.Shelf reader.old)
-        (λ text. (w : Work W.Item) (xs : List W.Item)
-        → HasAccepted W.LineWork progress.old w xs
-        → Adds (step_pieces w xs
-        (step_of w (bytes_before reader.old + length text) (bytes_before reader.old) xs
-        (lines text))) (O.written out.old) (O.written out.new) result) }
-    ensures counts { result ≡ Ok None → progress.new.taken ≡ progress.old.taken + 1 }
-    ensures gives { IfOk result
-        (λ last. IfSome last (λ status. IsTrue (is_among (Status.InputRefused ∷ W.gives) status))) }
-    ensures reader { HasTaken S.Shelf reader.old result reader.new }
-    ensures sink { RisesFor (result ≡ Err IoError.Sink) (O.faults out.old) (O.faults out.new) }
+    ensures { HasTakenNext S.Shelf O.Sink W.LineWork reader.old reader.new progress.old progress.new
+        out.old out.new result }
 {
     match reader.next_line() {
         Ok(Some(line)) => progress.take_line(alloc, line, out),
