@@ -24,8 +24,10 @@
  *              _wide take one that counts 4 * 10^10 years.
  *   - struct:  these calls alone change it. One that is no device, or has a number past its limit,
  *              is answered by NO_DEVICE; another change within the limits goes unseen.
- *   - message: it arrives as it was sent, over the link that it was sent over, and nobody forges
- *              one.
+ *   - message: it arrives as it was sent, over the link that it was sent over, at the device that it
+ *              was sent to, and nobody forges one. A device gets none that was sent before it started
+ *              or joined, or before its link failed: after a start, a join and a mend, drop what comes
+ *              over a link until mid + half has surely passed.
  *   - start:   a clock that you set (start, join, fix) is within the eps that you give of the
  *              reference time.
  *   - drift:   while the counter advances by x ps, the reference time advances by x, plus or minus
@@ -56,9 +58,14 @@
  * So may calls on one device that take it as `const`. A call that changes a device runs alone on it.
  *
  * A message counts once. A device accepts only a message that is newer than all it accepted before,
- * so a duplicate is answered by SUNDIAL_DONE, changes nothing and sends nothing. One case differs: a
- * message of a plan whose duty was given and not yet taken up makes the device take up that duty,
- * however old its stamp. So give each duty once, and do not restore an old device.
+ * so a duplicate is answered by SUNDIAL_DONE, changes nothing and sends nothing. This is proved of any
+ * calls in between but one: a give of the message's own plan, after which the message would make the
+ * device take up that duty, however old its stamp. So give the duties of a plan before its commit, and
+ * do not restore an old device.
+ *
+ * A fleet. Devices that call these functions over a network that keeps the above are what the theorems
+ * of docs/PROVED.md speak of: that is proved, too (is_history of sd_proof_deployment). The definition of
+ * such a fleet is crates/sd_proof_deployment/specs/Deployment.antt, and docs/EMBED.md has it in words.
  *
  * A restored device is the latest. Keep the struct after each call and before you send what the
  * call sent, with a checksum: sundial_made finds few wrong bits. A device whose latest struct or

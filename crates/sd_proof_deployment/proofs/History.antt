@@ -1,13 +1,15 @@
 -- Each run of a deployed fleet is a history: its calls are the steps of the history, and its answers are what the devices tell there.
-use Rattle.std.specs.Prelude.{◌≡◌, List, [], ◌∷◌, map, refl}
+use Rattle.std.specs.Prelude.{◌≡◌, ◌≤◌, ◌^◌, List, [], ◌∷◌, map, refl}
 use Rattle.std.proofs.Common.{sym, ◌∙◌, ap, subst}
+use Rattle.std.proofs.lemmas.List.{length-map}
 use Rattle.sd_proof_bound.specs.History.Core.Living.{Life}
 use Rattle.sd_proof_bound.specs.History.World.{Setting}
 use Rattle.sd_proof_bound.specs.History.Steps.{Step, step_of}
 use Rattle.sd_proof_bound.specs.History.Chronicle.{told_by, next_step, chronicle}
 use Rattle.sd_proof_bound.specs.History.Admitted.{Admits, IsAdmitted}
+use Rattle.sd_proof_bound.proofs.ProofSafety.History.Admitted.{admitted_is_history}
 use Rattle.sd_proof_deployment.specs.Deployment.{Moment, steps_of, MayCome, IsDeployment}
-use Rattle.sd_proof_deployment.specs.Laws.{events_in, IsHistoryOf}
+use Rattle.sd_proof_deployment.specs.Laws.{events_in, IsHistoryOf, IsReplayed}
 use Rattle.sd_proof_deployment.proofs.Telling.{call_is, Goes, moment_goes, all_live}
 use Rattle.sd_proof_deployment.proofs.Admitting.{admits}
 
@@ -52,3 +54,8 @@ is_history StandsIn setting run is =
       calls = calls_are StandsIn setting run is;
       answers = answers_are StandsIn setting run;
     }
+
+pub is_replayed : {S : Type 0} (StandsIn : S → Life → Type 0) (setting : Setting) → IsReplayed StandsIn setting
+is_replayed {S = S} StandsIn setting run is few =
+    admitted_is_history setting (events_in run) (are_admitted StandsIn setting run is)
+    (subst (λ n. n ≤ 2 ^ 26) (sym (length-map run (λ (x : Moment S). x.event))) few)

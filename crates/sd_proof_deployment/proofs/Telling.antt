@@ -122,28 +122,31 @@ module _ {S : Type 0} (StandsIn : S → Life → Type 0) (setting : Setting) whe
               (λ d other. ap (λ b. if b then option_map (λ life. longer life call) (life_in steps d) else life_in steps d) other);
           tells =
               called.tells
-              ∙ call_tells steps m call old.life called.effect called.answers old.is (called.sent old.life old.stands)
+              ∙ call_tells steps m call old.life called.effect called.answers old.is (called.sent old.life before)
               (called.answered (longer old.life call) stands)
               ∙ sym (ap (told_by steps) is);
         }
       where
-        old : Lives earlier m called.old
-        old = live m called.old called.there
+        old : Lives earlier m called.kept
+        old = live m called.kept called.there
+
+        before : StandsIn called.old old.life
+        before = called.same old.life old.stands
 
         stands : StandsIn called.struct (longer old.life call)
-        stands = called.stands old.life old.stands
+        stands = called.stands old.life before
 
     asked_goes : (m counter : ℕ) → x.act ≡ Asks m counter → IsAsked StandsIn (struct_in earlier m) counter x.told → Goes earlier x
     asked_goes m counter is asked =
         record {
           live = changes_none (Asks m counter) is refl (λ d. refl);
           tells =
-              asked.tells ∙ report_tells steps m counter old.life asked.report old.is (asked.reported old.life old.stands)
+              asked.tells ∙ report_tells steps m counter old.life asked.report old.is (asked.reported old.life (asked.same old.life old.stands))
               ∙ sym (ap (told_by steps) is);
         }
       where
-        old : Lives earlier m asked.struct
-        old = live m asked.struct asked.there
+        old : Lives earlier m asked.kept
+        old = live m asked.kept asked.there
 
   goes_by : (earlier : List (Moment S)) (x : Moment S) (act : Act) → AllLive earlier → x.act ≡ act
       → x.act ≡ act_by setting (steps_of setting earlier) x.event

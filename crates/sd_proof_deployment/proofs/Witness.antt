@@ -69,11 +69,13 @@ module _ (setting : Setting) (earlier : List (Moment Life)) (is : IsDeployment S
       → Exports SameLife (struct_in earlier d) (Calls d call) (told_by (steps_of setting earlier) (Calls d call)) (left_by earlier (Calls d call))
   called d call struct there =
       record {
+        kept = struct;
         old = struct;
         struct = longer struct call;
         effect = effect_of (past_of struct) call;
         answers = answers_by (past_of (longer struct call));
         there = there;
+        same = λ life same. same;
         stands = λ life same. ap (λ l. longer l call) same;
         sent = λ life same. ap (λ l. effect_of (past_of l) call) same;
         answered = λ life same. ap (λ l. answers_by (past_of l)) same;
@@ -89,9 +91,11 @@ module _ (setting : Setting) (earlier : List (Moment Life)) (is : IsDeployment S
       → Exports SameLife (struct_in earlier d) (Asks d counter) (told_by (steps_of setting earlier) (Asks d counter)) (left_by earlier (Asks d counter))
   asked d counter struct there =
       record {
+        kept = struct;
         struct = struct;
         report = report_at (past_of struct) counter;
         there = there;
+        same = λ life same. same;
         reported = λ life same. ap (λ l. report_at (past_of l) counter) same;
         tells = sym (report_tells (steps_of setting earlier) d counter struct (report_at (past_of struct) counter) (has_life d struct there) refl);
       }

@@ -2,7 +2,8 @@
 -- include/sundial_device.h. The newest comes first.
 --
 -- A struct may be of any kind. `StandsIn` says for which lives it stands. For the struct of the C library that is `StandsIn` of sd_device_c, and the
--- records on exports say what the contracts of its exports say where the answer is 0. Any other answer changes nothing, and is no moment.
+-- records on exports say what the contracts of its exports say where the answer is 0. Any other answer changes nothing, and is no moment. A rebase is none
+-- either: that later answers stay the same is its own clause.
 use Rattle.std.specs.Prelude.{◌≡◌, ℕ, ◌≤◌, true, false, List, [], ◌∷◌, Option, Some, None, option_and_then, if◌then◌else◌}
 use Rattle.sd_proof_bound.specs.History.Sched.Num.Lists.{same_number, find_map_or}
 use Rattle.sd_proof_bound.specs.History.Sched.declared.Event.{Event}
@@ -56,24 +57,29 @@ pub record IsMade {S : Type 0} (StandsIn : S → Life → Type 0) (making : Maki
   pub tells : told ≡ tells_made answers
   pub leaves : left ≡ Some struct
 
--- a tick, a receipt, a fix, a give, a commit or a seal
+-- a tick, a receipt, a fix, a give, a commit or a seal. The struct that is called is the one that the latest call left, or one that stands for the same
+-- lives: a copy, or what a receipt that does not count made of it (specs/Receipts)
 pub record IsCalled {S : Type 0} (StandsIn : S → Life → Type 0) (before : Option S) (call : Call) (told : Told) (left : Option S) : Type 0 where
+  pub kept : S
   pub old : S
   pub struct : S
   pub effect : Effect
   pub answers : Answers
-  pub there : before ≡ Some old
+  pub there : before ≡ Some kept
+  pub same : (life : Life) → StandsIn kept life → StandsIn old life
   pub stands : (life : Life) → StandsIn old life → StandsIn struct (longer life call)
   pub sent : IsToldOf StandsIn old (λ past. effect_of past call) effect
   pub answered : IsToldOf StandsIn struct answers_by answers
   pub tells : told ≡ tells_called effect answers
   pub leaves : left ≡ Some struct
 
--- a report
+-- a report, of such a struct
 pub record IsAsked {S : Type 0} (StandsIn : S → Life → Type 0) (before : Option S) (counter : ℕ) (told : Told) : Type 0 where
+  pub kept : S
   pub struct : S
   pub report : Report
-  pub there : before ≡ Some struct
+  pub there : before ≡ Some kept
+  pub same : (life : Life) → StandsIn kept life → StandsIn struct life
   pub reported : IsToldOf StandsIn struct (λ past. report_at past counter) report
   pub tells : told ≡ tells_report report
 

@@ -1,5 +1,5 @@
 -- What is proved of deployed fleets: each run is a history, so what holds of histories holds of them. The premises are those of docs/PREMISES.md.
-use Rattle.std.specs.Prelude.{◌≡◌, ℕ, ◌+◌, ◌-◌, ◌<◌, ◌≤◌, List, ◌∷◌, ◌++◌, map, Some, IsTrue}
+use Rattle.std.specs.Prelude.{◌≡◌, ℕ, ◌+◌, ◌-◌, ◌<◌, ◌≤◌, ◌^◌, length, List, ◌∷◌, ◌++◌, map, Some, IsTrue}
 use Rattle.std.specs.List.{list_all}
 use Rattle.sd_proof_bound.specs.Drill.Topo.Network.{Network}
 use Rattle.sd_proof_bound.specs.Drill.Domain.declared.DomainId.{DomainId}
@@ -14,7 +14,7 @@ use Rattle.sd_proof_bound.specs.History.Core.Clock.Estimates.{contains}
 use Rattle.sd_proof_bound.specs.History.Core.Living.{Life}
 use Rattle.sd_proof_bound.specs.History.World.{Setting, alone, is_counted}
 use Rattle.sd_proof_bound.specs.History.Steps.{Step, seen_of}
-use Rattle.sd_proof_bound.specs.History.Chronicle.{chronicle}
+use Rattle.sd_proof_bound.specs.History.Chronicle.{chronicle, IsHistory}
 use Rattle.sd_proof_bound.specs.History.Admitted.{IsAdmitted}
 use Rattle.sd_proof_bound.specs.History.Premises.{is_honest}
 use Rattle.sd_proof_bound.specs.History.Lines.{asked_report, reports}
@@ -39,6 +39,11 @@ pub record IsItsHistory {S : Type 0} (setting : Setting) (run : List (Moment S))
 -- each run of a deployed fleet is its history
 abbrev pub IsHistoryOf : {S : Type 0} → (S → Life → Type 0) → Setting → Type 0
 IsHistoryOf {S = S} StandsIn setting = (run : List (Moment S)) → IsDeployment StandsIn setting run → IsItsHistory setting run
+
+-- and one that a replay accepts, up to 2 ^ 26 moments
+abbrev pub IsReplayed : {S : Type 0} → (S → Life → Type 0) → Setting → Type 0
+IsReplayed {S = S} StandsIn setting =
+    (run : List (Moment S)) → IsDeployment StandsIn setting run → length run ≤ 2 ^ 26 → IsHistory setting (events_in run)
 
 -- under plans that meet five conditions, while all premises but start hold, parents of live devices close no loop and at most one acts as root
 abbrev pub FleetStaysSafe : {S : Type 0} → (S → Life → Type 0) → Setting → Type 0
