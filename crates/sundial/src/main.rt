@@ -2,18 +2,39 @@
 //! exit code, and a run that was stopped from outside says why by one line on standard error.
 #![tactic(auto)]
 
-mod complaint;
-mod edge;
-mod ending;
+ghost use Rattle.std.specs.Prelude.{map, string_bytes};
+ghost use Rattle.sd_edge.specs.Endings.{EndsRun};
 
-use edge::words_of;
-use ending::{end_without_words, run_to_end};
+use sd_edge::{ErrorLines, ErrorOutput, end_without_words, exit_of, say_why, words_of};
 use sd_num::NoMemory;
+use sd_outside::{FileShelf, StdSink, SystemFiles, SystemWriter};
+use sd_top::run;
+use std::alloc::Global;
 use std::process::ExitCode;
 use std::{env, io};
 
+/// A whole run over these words, with the files and the outputs of a system.
+fn run_to_end<F: SystemFiles + Drop, W: SystemWriter + Drop, E: ErrorOutput>(
+    alloc: Global,
+    words: &[String],
+    files: F,
+    writer: W,
+    errors: &mut E,
+) -> ExitCode
+    ensures { EndsRun E.writes (map string_bytes words.now) errors.old errors.new result }
+{
+    let mut shelf = FileShelf::new(files);
+    let mut out = StdSink::new(writer);
+    let status = run(alloc, words, &mut shelf, &mut out);
+    say_why(status, words, &shelf, &out, errors);
+    exit_of(status)
+}
+
 fn main(rt: HostRuntime) -> ExitCode {
-    let mut errors = &rt;
+    let mut errors = ErrorLines {
+        program: "sundial",
+        system: &rt,
+    };
     match words_of(rt.alloc(), env::args(&rt)) {
         Ok(words) => {
             let words = words.as_slice();

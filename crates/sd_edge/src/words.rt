@@ -1,16 +1,11 @@
-//! What the program takes from the system and gives back: its words, and its exit code.
-ghost use Rattle.std.specs.Prelude.{◌≡◌};
-ghost use Rattle.std.specs.Process.{exit_status};
-ghost use Rattle.sd_top.specs.CmdFiles.Statuses.{code_of};
-ghost use Rattle.sundial.specs.Words.{AreWords};
+//! The words that a program was called with.
+ghost use Rattle.sd_edge.specs.Words.{AreWords};
 
 use sd_num::NoMemory;
-use sd_top::Status;
 use std::alloc::Global;
 use std::env::Args;
 use std::io;
 use std::io::ErrorKind;
-use std::process::ExitCode;
 
 /// All words but the first, which is the program's own name. Words that are not UTF-8 match no
 /// command, so they count as none at all.
@@ -30,11 +25,4 @@ pub fn words_of(alloc: Global, args: io::Result<Args>) -> Result<Vec<String>, No
         }
     }
     Ok(words)
-}
-
-/// The exit code of a run that ended so.
-pub fn exit_of(status: Status) -> ExitCode
-    ensures { exit_status result ≡ code_of status }
-{
-    ExitCode::from(status.code())
 }

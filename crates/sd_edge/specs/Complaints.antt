@@ -2,14 +2,14 @@
 use Rattle.std.specs.Prelude.{ℕ, List, Option, None, Some, codes, slice_get, unwrap_or}
 use Rattle.std.specs.declared.io.Error.{Error}
 use Rattle.sd_outside.specs.declared.LastFault.{LastFault}
-use Rattle.sd_top.specs.declared.Status.{Status}
-use Rattle.sd_top.specs.declared.Status.TheVariants.{ShelfFault, SinkFault, Memory}
+use Rattle.sd_cmd_files.specs.declared.Status.{Status}
+use Rattle.sd_cmd_files.specs.declared.Status.TheVariants.{ShelfFault, SinkFault, Memory}
 
 -- the words for a file whose name is not known
 abbrev pub a_file : List ℕ
 a_file = codes "a file"
 
--- the name of a file by its number: the files of a command are the words behind its own
+-- the name of a file by its number: the files of a command are the words after its own
 abbrev pub file_named : List (List ℕ) → ℕ → List ℕ
 file_named words number = unwrap_or (slice_get words number) a_file
 

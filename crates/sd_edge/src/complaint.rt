@@ -1,16 +1,18 @@
 //! What the program says on standard error of a run that was stopped from outside.
 ghost use Rattle.std.specs.Prelude.{◌≡◌, map, option_map, string_bytes};
-ghost use Rattle.sundial.specs.Complaints as meaning;
+ghost use Rattle.sd_edge.specs.Complaints as meaning;
 
+use sd_cmd_files::Status;
 use sd_outside::LastFault;
-use sd_top::Status;
 use std::{fmt, io};
 
 /// One line, without its newline: what failed, and the system's reason where it is known.
 #[derive(Drop)]
 pub struct Complaint<'w> {
-    what: &'w str,
-    reason: Option<io::Error>,
+    /// A file, the output, or that memory ran out.
+    pub what: &'w str,
+    /// The last error that the system gave there.
+    pub reason: Option<io::Error>,
 }
 
 impl fmt::Display for Complaint<'_> {
@@ -18,13 +20,13 @@ impl fmt::Display for Complaint<'_> {
         // The name of a file may hold a newline.
         let what = self.what.escape_debug();
         match self.reason {
-            Some(reason) => write!(f, "sundial: {what}: {reason}"),
-            None => write!(f, "sundial: {what}"),
+            Some(reason) => write!(f, "{what}: {reason}"),
+            None => write!(f, "{what}"),
         }
     }
 }
 
-/// The name of a file by its number, from 1. The files of a command are the words behind its own,
+/// The name of a file by its number, from 1. The files of a command are the words after its own,
 /// and it opens them in the order of the words.
 fn file_named<'w>(words: &'w [String], number: u64) -> &'w str
     ensures { result.now ≡ meaning.file_named (map string_bytes words.now) number }
