@@ -1,6 +1,9 @@
 -- The witnesses: texts that mean a network, plans and a history, which meet all that safety and the recovery bound ask for.
 mod Accepting
+mod Greatest
+mod Meant
 mod Histories
 mod Read
 pub mod Renewed
 pub mod Recovered
+pub mod mended

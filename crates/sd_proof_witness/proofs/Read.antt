@@ -1,26 +1,24 @@
 -- What the texts mean, by the definitions of the readers.
-use Rattle.std.specs.Prelude.{◌≡◌, Option, Some, None, Ok, refl}
+use Rattle.std.specs.Prelude.{◌≡◌, Ok, refl}
 use Rattle.std.specs.Str.Lossy.{utf8_valid_len}
 use Rattle.std.specs.Str.{is_utf8, chars}
 use Rattle.toml.proofs.OnLiterals.{toml_on_literals}
 use Rattle.serde_json.proofs.OnLiterals.{serde_json_on_literals}
-use Rattle.serde_json.specs.Data.{Data}
 use Rattle.sd_topotext.specs.Meaning.{number, number_or, text, array, array_or_none, own_name, referred, one_more, params_in, side_in, rates_in, device_in, one_more_device, devices_in, ends_in, delay_in, back_in, link_in, one_more_link, links_in, members_in, domain_in, one_more_domain, domains_in, roots_in, network_in, network_of}
 use Rattle.sd_topotext.specs.Reading as toml
 use Rattle.sd_topotext.proofs.Meant.{meant_is_network}
 use Rattle.sd_plantext.specs.Meaning as plan
 use Rattle.sd_plantext.specs.Meaning.{plan_of}
 use Rattle.sd_plantext.specs.Reading as json
-use Rattle.sd_plantext.proofs.Sound.{plan_ok}
-use Rattle.sd_proof_bound.specs.Drill.Topo.Network.{Network}
 use Rattle.sd_proof_bound.specs.Drill.Topo.Limits.{IsNetwork}
-use Rattle.sd_proof_bound.specs.Drill.Plan.declared.Plan.{Plan}
 use Rattle.sd_proof_bound.specs.Drill.Plan.Plans.{Fits}
 use Rattle.sd_proof_bound.specs.History.Sched.Lines.{event_of_line}
-use Rattle.sd_proof_witness.specs.Texts.{text_of, topology_lines, first_plan_lines, second_plan_lines, schedule_lines}
+use Rattle.sd_proof_witness.specs.Shared.{text_of}
+use Rattle.sd_proof_witness.specs.Texts.{topology_lines, first_plan_lines, second_plan_lines, schedule_lines}
 use Rattle.sd_proof_witness.specs.Schedules.{events_of}
 use Rattle.sd_proof_witness.specs.Values.{network, first_plan, second_plan, events}
 use Rattle.sd_proof_witness.specs.Witnesses.{Say}
+use Rattle.sd_proof_witness.proofs.Meant.{fits_of}
 
 topology_says : network_of (toml.tree_of (text_of topology_lines)) ≡ Ok network
 unfolding topology_lines toml_on_literals utf8_valid_len is_utf8 chars number number_or text array array_or_none own_name referred one_more params_in side_in
@@ -49,11 +47,6 @@ texts_say = record { topology = topology_says; first_plan = first_plan_says; sec
 
 pub is_network : IsNetwork network
 is_network = meant_is_network (toml.tree_of (text_of topology_lines)) network topology_says
-
-fits_of : (net : Network) (meant : Plan) (tree : Option Data) → plan_of net tree ≡ Ok meant → Fits net meant
-unfolding plan_of
-fits_of net meant None says = cc
-fits_of net meant (Some d) says = plan_ok net d meant says
 
 pub first_fits : Fits network first_plan
 first_fits = fits_of network first_plan (json.tree_of (text_of first_plan_lines)) first_plan_says

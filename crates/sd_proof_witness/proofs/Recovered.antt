@@ -1,10 +1,8 @@
 -- The first 89 lines of the schedule are a history to which the bound of the drill applies, and its reports are below their bounds.
-use Rattle.std.specs.Prelude.{◌≡◌, ℕ, ◌+◌, ◌-◌, ◌*◌, ◌≤◌, ◌<◌, Bool, true, ◌&&◌, List, [], ◌∷◌, length, nat_le, nat_eq, reverse, take, Some, IsTrue, refl}
+use Rattle.std.specs.Prelude.{◌≡◌, ℕ, ◌≤◌, Bool, true, ◌&&◌, List, [], ◌∷◌, length, nat_eq, reverse, take, Some, IsTrue, refl}
 use Rattle.std.specs.List.{list_any, list_all}
 use Rattle.std.proofs.Common.{subst, sym, ap, eq-eqb, eqb-true, arith, inr}
 use Rattle.std.proofs.lemmas.Bool.{leb-true, ltb-true}
-use Rattle.sd_proof_bound.specs.Drill.Num.declared.Rates.{Rates}
-use Rattle.sd_proof_bound.specs.Drill.Topo.Network.{rates_of}
 use Rattle.sd_proof_bound.specs.Drill.Topo.declared.Thing.{Thing}
 use Rattle.sd_proof_bound.specs.Drill.Topo.declared.Thing.TheVariants as thing
 use Rattle.sd_proof_bound.specs.Drill.Domain.Domains.{holds}
@@ -12,8 +10,6 @@ use Rattle.sd_proof_bound.specs.Drill.Domain.Things.{same_thing}
 use Rattle.sd_proof_bound.specs.Drill.Domain.declared.DomainId.{DomainId}
 use Rattle.sd_proof_bound.specs.Drill.Domain.declared.DomainId.TheVariants as domain
 use Rattle.sd_proof_bound.specs.Drill.Plan.declared.Hop.{Hop}
-use Rattle.sd_proof_bound.specs.Drill.CheckLoop.Loops.{hops_of}
-use Rattle.sd_proof_bound.specs.Drill.ages.Ages.{IsOldest}
 use Rattle.sd_proof_bound.specs.Drill.recovery.Walks.{halves, IsWalk, IsGreatestOfWalks}
 use Rattle.sd_proof_bound.specs.Drill.Drill.{IsWorst, quiet}
 use Rattle.sd_proof_bound.specs.History.Clock.declared.Report.{Report}
@@ -28,9 +24,11 @@ use Rattle.sd_proof_bound.specs.Recovering.{Recovers, steps_under}
 use Rattle.sd_proof_bound.proofs.Bounded.{bound_holds}
 use Rattle.sd_proof_witness.specs.Texts.{schedule_lines}
 use Rattle.sd_proof_witness.specs.Schedules.{after_line}
-use Rattle.sd_proof_witness.specs.Values.{network, first_plan, budget, events}
-use Rattle.sd_proof_witness.specs.Witnesses.{last_report, was_counted, report, IsBounded, IsRecovery}
-use Rattle.sd_proof_witness.proofs.Accepting.{among, one_hop, fed_by}
+use Rattle.sd_proof_witness.specs.Shared.{budget, hop, last_report, was_counted, report}
+use Rattle.sd_proof_witness.specs.Values.{network, first_plan, events}
+use Rattle.sd_proof_witness.specs.Witnesses.{IsBounded, IsRecovery}
+use Rattle.sd_proof_witness.proofs.Accepting.{fed_by}
+use Rattle.sd_proof_witness.proofs.Greatest.{one_greatest, oldest_at}
 use Rattle.sd_proof_witness.proofs.Histories.{are_accepted, is_history}
 use Rattle.sd_proof_witness.proofs.Read.{is_network, first_fits}
 use Rattle.sd_proof_witness.proofs.Renewed.{first_accepted}
@@ -70,7 +68,7 @@ fails_alone seen reference is =
 -- walks of the backup root have no hop
 at_home : (hs : List Hop) → IsWalk network first_plan fault 1 hs → hs ≡ []
 at_home [] walked = refl
-at_home (hop ∷ hs) walked = cc
+at_home (h ∷ hs) walked = cc
 
 none_greatest : (measure : List Hop → ℕ) → measure [] ≡ 0 → IsGreatestOfWalks network first_plan fault 1 measure 0
 none_greatest measure zero_is =
@@ -80,30 +78,6 @@ none_greatest measure zero_is =
       reached = zero_is;
       greatest = λ others walked. let same = ap measure (at_home others walked) in omega (arith, same, zero_is);
     }
-
--- walks of the other device have one hop at most
-one_greatest : (measure : List Hop → ℕ) (most : ℕ) (hop : Hop) → IsWalk network first_plan fault 2 (hop ∷ []) → measure (hop ∷ []) ≡ most
-    → measure [] ≤ most
-    → list_all (λ (x : Hop). nat_le (measure (x ∷ [])) most) (hops_of network first_plan fault 2) ≡ true
-    → IsGreatestOfWalks network first_plan fault 2 measure most
-one_greatest measure most hop walked reached least all =
-    record { hops = hop ∷ []; has = walked; reached = reached; greatest = by }
-  where
-    by : (others : List Hop) → IsWalk network first_plan fault 2 others → measure others ≤ most
-    by [] walked = least
-    by (x ∷ hs) walked =
-        let (none, here, ends) = one_hop network first_plan first_fits fault refl 2 x hs walked in
-        let first : measure (x ∷ []) ≤ most =
-        leb-true (measure (x ∷ [])) most (among (λ (y : Hop). nat_le (measure (y ∷ [])) most) x (hops_of network first_plan fault 2) all here) in
-        subst (λ (rest : List Hop). measure (x ∷ rest) ≤ most) (sym none) first
-
--- the greatest advance of a counter at 200 parts per million and 1 ns while so much of the reference passes
-oldest_at : (d s x : ℕ) → rates_of network d ≡ record { ppm = 200; grain = 1000 } → x * 999800 ≤ 1000000 * (s + 1001) - 1
-    → 1000000 * (s + 1001) - 1 < (x + 1) * 999800 → IsOldest (rates_of network d) s x
-oldest_at d s x is most least = subst (λ (rates : Rates). IsOldest rates s x) (sym is) made
-  where
-    made : IsOldest (record { ppm = 200; grain = 1000 }) s x
-    made = record { within = omega (arith, most); greatest = λ y small. omega (arith, least, small) }
 
 first_bound : IsWorst network first_plan budget fault 1 4515461
 first_bound =
@@ -115,7 +89,7 @@ first_bound =
       is_long = none_greatest length refl;
       short_enough = leb-true _ _ refl;
       oldest = 8562303205;
-      is_oldest = oldest_at 1 (quiet network first_plan 0) 8562303205 refl (leb-true _ _ refl) (ltb-true _ _ refl);
+      is_oldest = oldest_at network 1 (quiet network first_plan 0) 8562303205 refl (leb-true _ _ refl) (ltb-true _ _ refl);
       sum = refl;
     }
 
@@ -124,12 +98,12 @@ second_bound =
     record {
       fed = fed_by network first_plan fault 3 2 refl;
       far = 300000;
-      is_far = one_greatest (halves network 2) 300000 (record { parent = 0; link = 2 }) refl refl (leb-true _ _ refl) refl;
+      is_far = one_greatest network first_plan first_fits fault refl 2 (halves network 2) 300000 (hop 0 2) refl refl (leb-true _ _ refl) refl;
       long = 1;
-      is_long = one_greatest length 1 (record { parent = 0; link = 2 }) refl refl (leb-true _ _ refl) refl;
+      is_long = one_greatest network first_plan first_fits fault refl 2 length 1 (hop 0 2) refl refl (leb-true _ _ refl) refl;
       short_enough = leb-true _ _ refl;
       oldest = 9726662077;
-      is_oldest = oldest_at 2 (quiet network first_plan 1) 9726662077 refl (leb-true _ _ refl) (ltb-true _ _ refl);
+      is_oldest = oldest_at network 2 (quiet network first_plan 1) 9726662077 refl (leb-true _ _ refl) (ltb-true _ _ refl);
       sum = refl;
     }
 

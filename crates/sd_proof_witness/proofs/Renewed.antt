@@ -1,8 +1,6 @@
 -- The texts say a history to which the theorem on safety applies: the root fails, the backup root takes over, and another plan comes into force.
-use Rattle.std.specs.Prelude.{◌≡◌, zero, suc, true, [], ◌∷◌, reverse, refl}
-use Rattle.std.proofs.Common.{subst, arith}
-use Rattle.std.proofs.lemmas.Option.{same_Some}
-use Rattle.sd_proof_bound.specs.Drill.Topo.Network.{Each}
+use Rattle.std.specs.Prelude.{◌≡◌, true, reverse, refl}
+use Rattle.std.proofs.Common.{arith}
 use Rattle.sd_proof_bound.specs.Drill.Plan.Plans.{Fits}
 use Rattle.sd_proof_bound.specs.Drill.Checker.Verdicts.{IsAccepted}
 use Rattle.sd_proof_bound.specs.History.Sched.Lines.{event_of_line}
@@ -12,7 +10,7 @@ use Rattle.sd_proof_witness.specs.Texts.{schedule_lines}
 use Rattle.sd_proof_witness.specs.Values.{network, first_plan, second_plan, setting, events}
 use Rattle.sd_proof_witness.specs.Witnesses.{MeetsAll, TakesOver, Commits, Closes, BothReport, IsRenewal}
 use Rattle.sd_proof_witness.proofs.Accepting.{accepted_by}
-use Rattle.sd_proof_witness.proofs.Histories.{are_accepted, is_history}
+use Rattle.sd_proof_witness.proofs.Histories.{each_of_two, are_accepted, is_history}
 use Rattle.sd_proof_witness.proofs.Read.{texts_say, is_network, first_fits, second_fits}
 
 pub first_accepted : IsAccepted network first_plan
@@ -92,12 +90,6 @@ both_report =
       of_new_plan = refl;
       all = refl;
     }
-
--- what holds of two holds of each of them
-each_of_two : {A : Type 0} (P : A → Type 0) (a b : A) → P a → P b → Each P (a ∷ b ∷ [])
-each_of_two P a b p q zero x at = subst P (same_Some a x at) p
-each_of_two P a b p q (suc zero) x at = subst P (same_Some b x at) q
-each_of_two P a b p q (suc (suc i)) x at = cc
 
 fair : IsFair setting
 fair =

@@ -1,4 +1,6 @@
+pub mod Shared
 pub mod Texts
 pub mod Schedules
 pub mod Values
 pub mod Witnesses
+pub mod mended

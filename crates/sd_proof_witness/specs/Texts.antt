@@ -1,9 +1,5 @@
 -- The texts of the example `triangle`, line by line. `.ci/witness` sees that they are those of examples/triangle.
-use Rattle.std.specs.Prelude.{ℕ, List, [], ◌∷◌, ◌++◌, codes, flat_map}
-
--- a text of these lines, with a newline behind each
-abbrev pub text_of : List (List ℕ) → List ℕ
-text_of lines = flat_map (λ line. line ++ 10 ∷ []) lines
+use Rattle.std.specs.Prelude.{ℕ, List, [], ◌∷◌, ◌++◌, codes}
 
 -- topology.toml
 unfoldable pub topology_lines : List (List ℕ)

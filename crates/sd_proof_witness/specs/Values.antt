@@ -1,27 +1,13 @@
 -- What the texts of `Texts` say: a network of three devices with two links between any two of them, two plans, and the events of the schedule.
-use Rattle.std.specs.Prelude.{ℕ, List, [], ◌∷◌, Some, None, Result, Ok, Err, codes}
-use Rattle.sd_proof_bound.specs.Drill.Topo.Network.{Network, Device, Link}
-use Rattle.sd_proof_bound.specs.Drill.Topo.declared.Side.TheVariants.{Root}
-use Rattle.sd_proof_bound.specs.Drill.Plan.declared.Hop.{Hop}
+use Rattle.std.specs.Prelude.{List, [], ◌∷◌, Some, None, Result, Ok, Err, codes}
+use Rattle.sd_proof_bound.specs.Drill.Topo.Network.{Network}
 use Rattle.sd_proof_bound.specs.Drill.Plan.declared.Plan.{Plan}
 use Rattle.sd_proof_bound.specs.History.Sched.declared.Event.{Event}
 use Rattle.sd_proof_bound.specs.History.Sched.declared.LineFault.{LineFault}
 use Rattle.sd_proof_bound.specs.History.World.{Setting}
-use Rattle.sd_proof_bound.specs.Drill.declared.Budget.{Budget}
-use Rattle.sd_proof_witness.specs.Texts.{text_of, schedule_lines}
+use Rattle.sd_proof_witness.specs.Shared.{text_of, device, link, hop}
+use Rattle.sd_proof_witness.specs.Texts.{schedule_lines}
 use Rattle.sd_proof_witness.specs.Schedules.{events_of}
-
--- a device with the rates of the topology
-abbrev pub device : List ℕ → Device
-device name = record { name = name; side = Root; rates = record { ppm = 200; grain = 1000 } }
-
--- a link with the delays that all links here have
-abbrev pub link : List ℕ → ℕ → ℕ → Link
-link name a b = record { name = name; entry = record { end_a = a; end_b = b; min = 400000; max = 1000000; back_min = 400000; back_max = 1000000 } }
-
--- a hop to a parent over a link
-abbrev pub hop : ℕ → ℕ → Hop
-hop parent link = record { parent = parent; link = link }
 
 -- r is device 0, b is 1, x is 2
 abbrev pub network : Network
@@ -84,7 +70,3 @@ read_events (Err fault) = []
 -- the events of the schedule
 unfoldable pub events : List Event
 events = read_events (events_of (text_of schedule_lines))
-
--- clocks are set within 1 us, and a root that acts holds its estimate for 3 ms at most
-abbrev pub budget : Budget
-budget = record { base = 1000000; hold = 3000000000 }

@@ -1,5 +1,5 @@
 -- What is shown of the texts: all that safety and the bound of the drill ask for, and what happens at which line of the schedule.
-use Rattle.std.specs.Prelude.{◌≡◌, ℕ, ◌≤◌, Bool, true, false, List, [], ◌∷◌, length, reverse, take, Option, Some, None, Ok}
+use Rattle.std.specs.Prelude.{◌≡◌, ℕ, ◌≤◌, true, false, List, [], ◌∷◌, length, reverse, take, Some, Ok}
 use Rattle.sd_topotext.specs.Meaning.{network_of}
 use Rattle.sd_topotext.specs.Reading as toml
 use Rattle.sd_plantext.specs.Meaning.{plan_of}
@@ -15,32 +15,19 @@ use Rattle.sd_proof_bound.specs.Drill.Drill.{IsWorst}
 use Rattle.sd_proof_bound.specs.History.Clock.declared.Report.{Report}
 use Rattle.sd_proof_bound.specs.History.Msg.Observed.{ReportAt}
 use Rattle.sd_proof_bound.specs.History.Sched.declared.Event.{Event}
-use Rattle.sd_proof_bound.specs.History.World.{Setting, Seen, has_failed, window_is_open, has_commit, epoch_in_force, is_counted, alone}
+use Rattle.sd_proof_bound.specs.History.World.{Seen, has_failed, window_is_open, has_commit, epoch_in_force, alone}
 use Rattle.sd_proof_bound.specs.History.Steps.{Step, seen_of, epoch_in, given_in, has_settled}
 use Rattle.sd_proof_bound.specs.History.Chronicle.{chronicle, IsHistory}
 use Rattle.sd_proof_bound.specs.History.Premises.{start_holds, drift_holds, delay_holds, tick_holds, loss_holds, domain_holds, renew_holds, all_hold}
-use Rattle.sd_proof_bound.specs.History.Lines.{asked_report, reports, roots}
+use Rattle.sd_proof_bound.specs.History.Lines.{reports, roots}
 use Rattle.sd_proof_bound.specs.ProofSafety.invariant.Coming.{IsFair, IsClean}
 use Rattle.sd_proof_bound.specs.ProofSafety.invariant.Kept.{IsSafe}
 use Rattle.sd_proof_bound.specs.Bound.{FailsAtOnce}
 use Rattle.sd_proof_bound.specs.Recovering.{Recovers, steps_under}
-use Rattle.sd_proof_witness.specs.Texts.{text_of, topology_lines, first_plan_lines, second_plan_lines, schedule_lines}
+use Rattle.sd_proof_witness.specs.Shared.{text_of, budget, last_report, was_counted, report}
+use Rattle.sd_proof_witness.specs.Texts.{topology_lines, first_plan_lines, second_plan_lines, schedule_lines}
 use Rattle.sd_proof_witness.specs.Schedules.{events_of, after_line}
-use Rattle.sd_proof_witness.specs.Values.{network, first_plan, second_plan, setting, budget}
-
--- the report of the last step, with its device
-abbrev pub last_report : List Step → Option (ℕ × Report)
-last_report [] = None
-last_report (s ∷ earlier) = asked_report s
-
--- the device counted as live when the last step came
-abbrev pub was_counted : Setting → List Step → ℕ → Bool
-was_counted over [] d = false
-was_counted over (s ∷ earlier) d = is_counted over (seen_of earlier) d
-
--- a report of a clock with its uncertainty
-abbrev pub report : ℕ → ℕ → Report
-report clock eps = record { clock = clock; eps = eps }
+use Rattle.sd_proof_witness.specs.Values.{network, first_plan, second_plan, setting}
 
 -- a report with its line, its device and its reference time
 abbrev pub report_at : ℕ → ℕ → ℕ → Report → ReportAt

@@ -19,6 +19,12 @@
 //!   bound of the drill applies. The root fails and the backup root takes over. Each ends in a
 //!   report, which stands beside its bound (`IsRecovery`) and is below it by `bound_holds`.
 //!
+//! - `mended` (proofs/mended/Mended): a second history, of four devices. A link fails at line 17, and
+//!   rounds are lost. The ordinary device below the link moves at line 293. It reports at line 330,
+//!   later than the time of `hears_again`, by which it has heard of the root (`HearsAgain`). Then the
+//!   root is fixed, and a renewal mends the link, lets a device join and closes at line 357
+//!   (`IsMended`). Its texts are no files of an example: specs/mended/Texts has them.
+//!
 //! # How
 //!
 //! `Values` has what the texts say. `Accepting` is a test of a plan that computes, and that only an
