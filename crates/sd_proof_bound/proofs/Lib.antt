@@ -4,6 +4,7 @@ pub mod Bounded
 pub mod Calm
 pub mod Hearing
 pub mod Closing
+pub mod Renewed
 pub mod ages
 pub mod bases
 pub mod chains

@@ -11,6 +11,7 @@ pub mod Steady
 pub mod Tight
 pub mod Calm
 pub mod Closing
+pub mod Renewed
 -- Handed on: what crates above name of those below.
 pub use Rattle.sd_drill.specs as Drill
 pub use Rattle.sd_proof_safety.specs.History as History

@@ -16,10 +16,12 @@
 //! `always_hears_by_bound` (specs/Steady), which ask for five conditions and all premises but start,
 //! and speak of histories of any length. The proofs are of those.
 //!
-//! Three more results of histories of any length, on which nothing rests. `tight_holds` (specs/Tight)
-//! is a smaller number of each device. `calm_holds` (specs/Calm) is the number of each device while
-//! nothing has failed. `enter_in_time` and `seals_close` (specs/Closing) are on histories with any
-//! number of renewals: when all members have entered a staged plan, and which seal closes its window.
+//! More results of histories of any length, on which nothing rests. `tight_holds` (specs/Tight) is a
+//! smaller number of each device. `calm_holds` (specs/Calm) is the number of each device while nothing
+//! has failed. The others are on histories with any number of renewals. `enter_in_time` and
+//! `seals_close` (specs/Closing): when all members have entered a staged plan, and which seal closes
+//! its window. `stays_settled` (specs/Renewed): how devices stand and hear after a renewal, while
+//! nothing has failed since.
 //!
 //! # The route
 //!

@@ -1,0 +1,34 @@
+-- After a renewal: while nothing has failed since the latest closing and no further commit came, each member of the plan in force is up, stands where the plan
+-- puts it, and hears. The plan may have come into force by any number of renewals, and much may have failed before the latest.
+use Rattle.std.specs.Prelude.{◌≡◌, ℕ, ◌+◌, ◌<◌, ◌≤◌, false, true, List, [], ◌∷◌, IsTrue}
+use Rattle.sd_drill.specs.Plan.Plans.{is_root}
+use Rattle.sd_proof_safety.specs.Sched.declared.Event.{Event}
+use Rattle.sd_proof_safety.specs.Sched.Events.{reference_of}
+use Rattle.sd_proof_safety.specs.History.World.{Setting, is_up, has_commit, epoch_in_force, in_force}
+use Rattle.sd_proof_safety.specs.History.Steps.{Step, seen_of, acts_in}
+use Rattle.sd_proof_safety.specs.History.Chronicle.{chronicle}
+use Rattle.sd_proof_safety.specs.History.Premises.{failures_since_closing}
+use Rattle.sd_proof_safety.specs.invariant.Eras.{belongs, is_old, on_primary, heard_at}
+use Rattle.sd_proof_safety.specs.invariant.Guarded.{AreGuarded, IsSteady}
+use Rattle.sd_proof_bound.specs.ages.Sums.{lag}
+
+-- a plan was brought in, nothing has failed since, and no further commit came
+pub record IsRenewed (steps : List Step) : Type 0 where
+  pub renewed : 1 < epoch_in_force (seen_of steps)
+  pub unfailed : failures_since_closing (seen_of steps) ≡ []
+  pub uncommitted : has_commit (seen_of steps) ≡ false
+
+-- The device is up and follows the plan in force. As the root it acts; else it is on its primary, and at the reference it has heard within A + P + H * D.
+pub record IsSettledIn (setting : Setting) (steps : List Step) (reference d : ℕ) : Type 0 where
+  pub up : is_up (seen_of steps) d ≡ true
+  pub follows : is_old steps d ≡ true
+  pub root_acts : is_root (in_force setting (seen_of steps)) d ≡ true → acts_in steps d ≡ true
+  pub stays : is_root (in_force setting (seen_of steps)) d ≡ false → on_primary steps d ≡ true
+  pub hears : is_root (in_force setting (seen_of steps)) d ≡ false → reference ≤ heard_at steps d + lag setting.net
+
+-- each member of the plan in force is so, before each event
+abbrev pub StaysSettled : Setting → Type 0
+StaysSettled setting =
+    (e : Event) (history : List Event) → AreGuarded setting → IsSteady setting (e ∷ history) → IsRenewed (chronicle setting history)
+    → (d : ℕ) → IsTrue (belongs setting.net (in_force setting (seen_of (chronicle setting history))) d)
+    → IsSettledIn setting (chronicle setting history) (reference_of e) d
