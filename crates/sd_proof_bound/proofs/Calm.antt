@@ -172,7 +172,7 @@ module _ (net : Network) (plan : Plan) (budget : Budget) (d : ℕ) (x : Event) (
   others_report other oldest covers =
       sum (report_at past c).eps (estimate_now past).base (sent_by_root net plan budget + halves net d (walk net plan d)) (ageing (rates_of net d) oldest)
       (aged past (rates_of net d) c oldest rates
-      (age_within net plan x h r d c run.network comes_ past there (lag net) oldest (silence other) covers))
+      (age_within (alone net plan) x h r d c run.network comes_ past there (lag net) oldest (silence other) covers))
       (based.direct (calm_straight net plan f (x ∷ h)
       (well net plan budget f (stays_invariant (alone net plan)) (event.Ask r d c ∷ x ∷ h) run_so) plain_now st none d here.member here.within))
     where

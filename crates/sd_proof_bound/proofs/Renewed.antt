@@ -1,12 +1,16 @@
 -- While nothing has failed since a closing nobody is hit: so who is a member follows the plan on its primary, and hears as 13 says.
-use Rattle.std.specs.Prelude.{◌≡◌, ℕ, ◌+◌, ◌-◌, ◌<◌, ◌≤◌, Bool, true, false, ◌&&◌, ◌||◌, not, List, ◌∷◌, length, nat_eq, nat_lt, is_some, refl, ◌⊎◌}
+use Rattle.std.specs.Prelude.{◌≡◌, ℕ, ◌+◌, ◌-◌, ◌<◌, ◌≤◌, Bool, true, false, ◌&&◌, ◌||◌, not, List, ◌∷◌, length, nat_eq, nat_lt, is_some, refl, ◌⊎◌, []}
 use Rattle.std.proofs.Common.{arith, sym, ap, subst, inl, inr}
 use Rattle.std.proofs.lemmas.Bool.{and_parts, and_from, or_left, or_cases, eqb-true, lt-ltb, not-true, not_from_false, false_from_ne_true, both_ways}
 use Rattle.sd_drill.specs.Topo.declared.Thing.{Thing}
 use Rattle.sd_drill.specs.Topo.declared.Thing.TheVariants as thing
 use Rattle.sd_drill.specs.Plan.Plans.{is_member, is_root, is_backup_root}
 use Rattle.sd_drill.specs.Plan.Walks.{path, epath}
+use Rattle.sd_drill.specs.Topo.Network.{rates_of}
 use Rattle.sd_proof_safety.specs.Sched.declared.Event.{Event}
+use Rattle.sd_proof_safety.specs.Sched.declared.Event.TheVariants as event
+use Rattle.sd_proof_safety.proofs.History.Owned.{rates_are_own}
+use Rattle.sd_proof_safety.proofs.History.Owning.{own_pasts}
 use Rattle.sd_proof_safety.specs.Sched.Events.{reference_of}
 use Rattle.sd_proof_safety.specs.History.World.{Setting, is_up, has_commit}
 use Rattle.sd_proof_safety.specs.History.Steps.{Step, seen_of, acts_in}
@@ -26,7 +30,9 @@ use Rattle.sd_proof_safety.proofs.invariant.Facts.{IsSound, sound_now}
 use Rattle.sd_proof_safety.proofs.whole.Kept.{comes}
 use Rattle.sd_proof_safety.proofs.whole.Silent.{are_silent}
 use Rattle.sd_proof_bound.specs.ages.Sums.{lag}
-use Rattle.sd_proof_bound.specs.Renewed.{IsRenewed, IsSettledIn, StaysSettled}
+use Rattle.sd_proof_bound.specs.Renewed.{IsRenewed, IsSettledIn, StaysSettled, ReportsAgeLittle}
+use Rattle.sd_proof_bound.proofs.Composing.{aged}
+use Rattle.sd_proof_bound.proofs.ages.Ages.{age_within}
 
 module _ (setting : Setting) (e : Event) (history : List Event) (fair : AreGuarded setting) (clean : IsSteady setting (e ∷ history))
     (renewed : IsRenewed (chronicle setting history)) where
@@ -183,3 +189,10 @@ module _ (setting : Setting) (e : Event) (history : List Event) (fair : AreGuard
 
 pub stays_settled : (setting : Setting) → StaysSettled setting
 stays_settled setting e history fair clean renewed d member = settled setting e history fair clean renewed d member
+
+pub reports_age_little : (setting : Setting) → ReportsAgeLittle setting
+reports_age_little setting reference d counter [] past fair clean renewed member other here oldest is = cc
+reports_age_little setting reference d counter (x ∷ h) past fair clean renewed member other here oldest is =
+    aged past (rates_of setting.net d) counter oldest (rates_are_own setting.net d past (own_pasts setting (x ∷ h) d past here))
+    (age_within setting x h reference d counter fair.network (comes setting (x ∷ h) (event.Ask reference d counter) fair clean) past here (lag setting.net)
+    oldest ((stays_settled setting (event.Ask reference d counter) (x ∷ h) fair clean renewed d member).hears other) is.greatest)

@@ -1,12 +1,17 @@
 -- After a renewal: while nothing has failed since the latest closing and no further commit came, each member of the plan in force is up, stands where the plan
 -- puts it, and hears. The plan may have come into force by any number of renewals, and much may have failed before the latest.
-use Rattle.std.specs.Prelude.{◌≡◌, ℕ, ◌+◌, ◌<◌, ◌≤◌, false, true, List, [], ◌∷◌, IsTrue}
+use Rattle.std.specs.Prelude.{◌≡◌, ℕ, ◌+◌, ◌<◌, ◌≤◌, false, true, List, [], ◌∷◌, IsTrue, Some}
 use Rattle.sd_drill.specs.Plan.Plans.{is_root}
+use Rattle.sd_drill.specs.Topo.Network.{rates_of}
+use Rattle.sd_drill.specs.ages.Ages.{IsOldest, ageing}
+use Rattle.sd_proof_safety.specs.Core.Calls.{Past}
+use Rattle.sd_proof_safety.specs.Core.Words.{estimate_now, report_at}
 use Rattle.sd_proof_safety.specs.Sched.declared.Event.{Event}
+use Rattle.sd_proof_safety.specs.Sched.declared.Event.TheVariants as event
 use Rattle.sd_proof_safety.specs.Sched.Events.{reference_of}
 use Rattle.sd_proof_safety.specs.History.World.{Setting, is_up, has_commit, epoch_in_force, in_force}
 use Rattle.sd_proof_safety.specs.History.Steps.{Step, seen_of, acts_in}
-use Rattle.sd_proof_safety.specs.History.Chronicle.{chronicle}
+use Rattle.sd_proof_safety.specs.History.Chronicle.{past_in, chronicle}
 use Rattle.sd_proof_safety.specs.History.Premises.{failures_since_closing}
 use Rattle.sd_proof_safety.specs.invariant.Eras.{belongs, is_old, on_primary, heard_at}
 use Rattle.sd_proof_safety.specs.invariant.Guarded.{AreGuarded, IsSteady}
@@ -32,3 +37,12 @@ StaysSettled setting =
     (e : Event) (history : List Event) → AreGuarded setting → IsSteady setting (e ∷ history) → IsRenewed (chronicle setting history)
     → (d : ℕ) → IsTrue (belongs setting.net (in_force setting (seen_of (chronicle setting history))) d)
     → IsSettledIn setting (chronicle setting history) (reference_of e) d
+
+-- So a report of a member other than the root is at most the uncertainty with which its estimate was set, and what its oscillator adds in that time.
+abbrev pub ReportsAgeLittle : Setting → Type 0
+ReportsAgeLittle setting =
+    (reference d counter : ℕ) (history : List Event) (past : Past) → AreGuarded setting → IsSteady setting (event.Ask reference d counter ∷ history)
+    → IsRenewed (chronicle setting history) → IsTrue (belongs setting.net (in_force setting (seen_of (chronicle setting history))) d)
+    → is_root (in_force setting (seen_of (chronicle setting history))) d ≡ false
+    → past_in (chronicle setting history) d ≡ Some past → (oldest : ℕ) → IsOldest (rates_of setting.net d) (lag setting.net) oldest
+    → (report_at past counter).eps ≤ (estimate_now past).base + ageing (rates_of setting.net d) oldest

@@ -148,27 +148,27 @@ pub upto_sum : (l r q : ℕ) → l ≤ r → r ≤ q → l ≤ q
 upto_sum l r q one two = omega (arith, one, two)
 
 -- a device that was silent for no longer than a bound has an estimate no older than any age that covers the bound
-pub age_within : (net : Network) (plan : Plan) (x : Event) (h : List Event) (reference d counter : ℕ) → IsNetwork net
-    → IsNextEvent (alone net plan) (x ∷ h) (event.Ask reference d counter) → (past : Past) → past_in (steps_under net plan (x ∷ h)) d ≡ Some past
-    → (bound oldest : ℕ) → reference ≤ heard_at (chronicle (alone net plan) (x ∷ h)) d + bound
-    → ((age : ℕ) → low (rates_of net d) age ≤ bound → age ≤ oldest) → counter - (estimate_now past).at ≤ oldest
-age_within net plan x h reference d counter network comes past there bound oldest by covers =
-    let all_timed : AreTimed (alone net plan) (chronicle (alone net plan) (event.Ask reference d counter ∷ x ∷ h)) =
-    timed (alone net plan) (event.Ask reference d counter ∷ x ∷ h) (times (alone net plan) x h (event.Ask reference d counter) comes) in
-    let heard_same : heard_at (chronicle (alone net plan) (x ∷ h)) d ≡ heard_in (chronicle (alone net plan) (x ∷ h)) d =
-    heard_is (alone net plan) (chronicle (alone net plan) (x ∷ h)) all_timed.0 d in
-    let quiet_ : reference - heard_in (chronicle (alone net plan) (x ∷ h)) d ≤ bound =
+pub age_within : (setting : Setting) (x : Event) (h : List Event) (reference d counter : ℕ) → IsNetwork setting.net
+    → IsNextEvent setting (x ∷ h) (event.Ask reference d counter) → (past : Past) → past_in (chronicle setting (x ∷ h)) d ≡ Some past
+    → (bound oldest : ℕ) → reference ≤ heard_at (chronicle setting (x ∷ h)) d + bound
+    → ((age : ℕ) → low (rates_of setting.net d) age ≤ bound → age ≤ oldest) → counter - (estimate_now past).at ≤ oldest
+age_within setting x h reference d counter network comes past there bound oldest by covers =
+    let all_timed : AreTimed setting (chronicle setting (event.Ask reference d counter ∷ x ∷ h)) =
+    timed setting (event.Ask reference d counter ∷ x ∷ h) (times setting x h (event.Ask reference d counter) comes) in
+    let heard_same : heard_at (chronicle setting (x ∷ h)) d ≡ heard_in (chronicle setting (x ∷ h)) d =
+    heard_is setting (chronicle setting (x ∷ h)) all_timed.0 d in
+    let quiet_ : reference - heard_in (chronicle setting (x ∷ h)) d ≤ bound =
     subst (λ t. reference - t ≤ bound) heard_same
-    (within reference (heard_at (chronicle (alone net plan) (x ∷ h)) d) bound by) in
-    let keeps : Keeps (rates_of net d) (reference, counter) (heard_in (chronicle (alone net plan) (x ∷ h)) d, heard past) =
-    honest_reading (alone net plan) (next_step (alone net plan) (chronicle (alone net plan) (x ∷ h)) (event.Ask reference d counter)).seen
-    (seen_of (chronicle (alone net plan) (x ∷ h))) d counter (heard_in (chronicle (alone net plan) (x ∷ h)) d, heard past) all_timed.1.honest refl refl refl
-    (heard_is_reading (alone net plan) (chronicle (alone net plan) (x ∷ h)) all_timed.0 d past there) in
-    let low_ : low (rates_of net d) (counter - heard past) ≤ reference - heard_in (chronicle (alone net plan) (x ∷ h)) d =
-    timer_low (rates_of net d) (counter - heard past) (counter - heard past) (reference - heard_in (chronicle (alone net plan) (x ∷ h)) d)
-    (rate_is_low net d network) keeps (least (counter - heard past)) in
+    (within reference (heard_at (chronicle setting (x ∷ h)) d) bound by) in
+    let keeps : Keeps (rates_of setting.net d) (reference, counter) (heard_in (chronicle setting (x ∷ h)) d, heard past) =
+    honest_reading setting (next_step setting (chronicle setting (x ∷ h)) (event.Ask reference d counter)).seen
+    (seen_of (chronicle setting (x ∷ h))) d counter (heard_in (chronicle setting (x ∷ h)) d, heard past) all_timed.1.honest refl refl refl
+    (heard_is_reading setting (chronicle setting (x ∷ h)) all_timed.0 d past there) in
+    let low_ : low (rates_of setting.net d) (counter - heard past) ≤ reference - heard_in (chronicle setting (x ∷ h)) d =
+    timer_low (rates_of setting.net d) (counter - heard past) (counter - heard past) (reference - heard_in (chronicle setting (x ∷ h)) d)
+    (rate_is_low setting.net d network) keeps (least (counter - heard past)) in
     let old : counter - heard past ≤ oldest = covers (counter - heard past) (upto_sum _ _ _ low_ quiet_) in
-    let order : IsOrdered past _ = in_order (alone net plan) (x ∷ h) comes.clean.is.0 d past there in
+    let order : IsOrdered past _ = in_order setting (x ∷ h) comes.clean.is.0 d past there in
     age_by counter (heard past) (estimate_now past).at oldest old order.estimate
   where
     least : (n : ℕ) → n ≤ n
@@ -206,4 +206,4 @@ ages_hold net plan stays silent budget f whole_ (x ∷ h) reference d counter re
     let by : reference ≤ heard_at (chronicle (alone net plan) (x ∷ h)) d + silence_at_most net plan =
     silent_at_most (alone net plan) silent x h (event.Ask reference d counter) comes unstaged f outage.reference outage.fails_in d live.0 member idle covered.fed
     covered.long (λ hops walked. covered.is_long.greatest hops walked) covered.short_enough in
-    age_within net plan x h reference d counter recovers.network comes past there (silence_at_most net plan) oldest by covered.covers
+    age_within (alone net plan) x h reference d counter recovers.network comes past there (silence_at_most net plan) oldest by covered.covers
