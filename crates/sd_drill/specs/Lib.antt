@@ -5,6 +5,7 @@ pub mod Spared
 pub mod Times
 pub mod Bounding
 pub mod Printed
+pub mod Tight
 pub mod ages
 pub mod recovery
 -- Handed on: what crates above name of those below.

@@ -1,4 +1,5 @@
-//! The drill: the greatest epsilon that each device can report when the things of one domain fail.
+//! The drill: the greatest epsilon that each device can report when the things of one domain fail,
+//! and a tighter number that no report exceeds either.
 #![tactic(auto)]
 
 ghost use Rattle.std.specs.Prelude.{◌≡◌, ◌^◌, ◌≤◌, IfOk};
@@ -16,6 +17,7 @@ mod growths;
 pub mod recovery;
 mod roots;
 mod spared;
+mod tight;
 mod times;
 
 pub use bounds::WorstList;
@@ -25,6 +27,7 @@ use sd_num::NoMemory;
 use sd_plan::{IndexedPlan, Plan, WalkIndex};
 use sd_topo::Topology;
 use std::alloc::Global;
+pub use tight::TightDrill;
 
 /// What the operator grants.
 #[derive(Clone, Copy, Debug, PartialEq, Eq)]

@@ -1,0 +1,14 @@
+use Rattle.std.proofs.Common.{sym, subst}
+use Rattle.sd_topo.specs.Topologies.{network}
+use Rattle.sd_domain.specs.declared.DomainId.{DomainId}
+use Rattle.sd_plan.specs.declared.indexed.IndexedPlan.{IndexedPlan}
+use Rattle.sd_checker.specs.CheckHit.Outages.{net_of, plan_of}
+use Rattle.sd_checker.specs.CheckLoop.Loops.{HasNoCycle}
+use Rattle.sd_drill.proofs.tight.TightDrill.tight.Goals as goal
+
+pub numbers_under-requires-clause-acyclic : goal.numbers_under-requires-clause-acyclic
+numbers_under-requires-clause-acyclic c =
+    let outage = c.outage-outage.result in
+    subst (λ (f : DomainId). HasNoCycle (net_of outage) (plan_of outage) f) (sym c.outage-outage.ensures.domain)
+    (subst (λ (planned : IndexedPlan). HasNoCycle (network planned.topo.now) planned.plan.now c.args.domain)
+    (sym c.outage-outage.ensures.planned) c.requires.acyclic)
