@@ -1,5 +1,5 @@
 -- Rows that are within the network, one more at a time.
-use Rattle.std.proofs.Common.{◌≡◌, ℕ, suc, List, [], ◌∷◌, ◌++◌, Option, refl, subst, sym}
+use Rattle.std.proofs.Common.{◌≡◌, suc, List, [], ◌∷◌, ◌++◌, Option, refl, subst, sym}
 use Rattle.sd_topo.specs.Network.{Network, Each}
 use Rattle.sd_plan.specs.Plans.{IsRow}
 use Rattle.sd_plan.specs.declared.PlanRow.{PlanRow}

@@ -1,6 +1,6 @@
 //! What a search ends with: a plan that the checker accepts, or the breach of the best that it had.
 ghost use Rattle.std.specs.Prelude.{◌≡◌, ◌<◌, ℕ, length, Option, IfOk, IfSome};
-ghost use Rattle.sd_ctl_search.specs.Finds.{IsFound, IsWanted};
+ghost use Rattle.sd_ctl_search.specs.Finds.{IsJudged, IsWanted};
 ghost use Rattle.sd_plan.specs.declared.Absent.{Absent as AbsentSeen};
 ghost use Rattle.sd_plan.specs.Plans.{Fits, IsHop, IsRow};
 ghost use Rattle.sd_topo.specs.Network.{Each};
@@ -123,7 +123,7 @@ pub(crate) fn plan_of(
 pub(crate) fn judge(alloc: Global, topo: &Topology, plan: Plan) -> Result<Found, NoMemory>
     requires { Fits (network topo.now) plan }
     ensures { (absent : AbsentSeen) (root : Option ℕ) → IsWanted (network topo.now) absent root plan
-        → IfOk result (IsFound (network topo.now) absent root) }
+        → IfOk result (IsJudged (network topo.now) absent root) }
 {
     match check(alloc, topo, &plan)? {
         Verdict::Accepted => Ok(Found::Plan(plan)),

@@ -6,6 +6,7 @@ mod candidates;
 mod found;
 mod moves;
 mod searching;
+mod trials;
 mod weight;
 
 pub use found::Found;

@@ -1,14 +1,16 @@
 //! The search: the greedy rule under each pair of roots, and then moves from plan to plan.
 ghost use Rattle.std.specs.Prelude.{◌≡◌, ◌<◌, length, IfOk, IfSome};
-ghost use Rattle.sd_ctl_search.specs.Finds.{IsFound};
+ghost use Rattle.sd_ctl_search.specs.Finds.{IsFound, IsJudged, IsWanted};
 ghost use Rattle.sd_drill.specs.Budgets.{IsBudget};
 ghost use Rattle.sd_plan.specs.Plans.{Fits};
 ghost use Rattle.sd_planner.specs.Absences.{IsAbsentOf};
+ghost use Rattle.sd_planner.specs.Checker.Verdicts.{IsAccepted};
 ghost use Rattle.sd_topo.specs.Topologies.{network};
 
 use crate::candidates::Candidates;
 use crate::found::{Found, judge, plan_of};
 use crate::moves::Mover;
+use crate::trials::try_greedy;
 use crate::weight::{Scales, Weight};
 use sd_ctl_draft::{Draft, Greedy, Ground, Parallel};
 use sd_drill::Budget;
@@ -175,9 +177,55 @@ fn first_plan(
     }
 }
 
+/// What a search comes to from a plan.
+fn search_from(
+    alloc: Global,
+    topo: &Topology,
+    absent: &Absent,
+    root: Option<u32>,
+    frame: &Plan,
+    settings: Settings,
+) -> Result<Found, NoMemory>
+    requires absent { IsAbsentOf (network topo.now) absent.now }
+    requires root { IfSome root (λ r. r < length (network topo.now).devices) }
+    requires frame { Fits (network topo.now) frame.now }
+    requires same { frame.now.absent ≡ absent.now }
+    requires budget { IsBudget settings.budget }
+    ensures { IfOk result (IsJudged (network topo.now) absent.now root) }
+{
+    let draft = best_draft(alloc, topo, absent, root, frame, settings)?;
+    let plan = plan_of(alloc, topo, frame, root, &draft)?;
+    judge(alloc, topo, plan)
+}
+
+/// The accepted plan that a search comes to from an accepted plan.
+fn refine(
+    alloc: Global,
+    topo: &Topology,
+    absent: &Absent,
+    root: Option<u32>,
+    first: Plan,
+    settings: Settings,
+) -> Result<Plan, NoMemory>
+    requires absent { IsAbsentOf (network topo.now) absent.now }
+    requires root { IfSome root (λ r. r < length (network topo.now).devices) }
+    requires wanted { IsWanted (network topo.now) absent.now root first }
+    requires accepted { IsAccepted (network topo.now) first }
+    requires budget { IsBudget settings.budget }
+    ensures wanted { IfOk result (IsWanted (network topo.now) absent.now root) }
+    ensures accepted { IfOk result (IsAccepted (network topo.now)) }
+{
+    match search_from(alloc, topo, absent, root, &first, settings)? {
+        Found::Plan(plan) => Ok(plan),
+        // a search keeps its first plan until it has a better one
+        Found::NoPlan(_, _) => Ok(first),
+    }
+}
+
 /// Searches for a plan without what is absent. Where a root is given the plan has that root, else
-/// any two of the candidates may be its roots. The same settings over the same topology give the
-/// same plan.
+/// any two of the candidates may be its roots. A plan is found wherever the greedy plan from such a
+/// root is accepted. The same settings over the same topology give the same plan.
+#[tactic(auto, using(crate::proofs::Greedy::none_either))]
 pub fn search(
     alloc: Global,
     topo: &Topology,
@@ -190,8 +238,11 @@ pub fn search(
     requires budget { IsBudget settings.budget }
     ensures { IfOk result (IsFound (network topo.now) absent.now root) }
 {
-    let frame = first_plan(alloc, topo, root, absent)?;
-    let draft = best_draft(alloc, topo, absent, root, &frame, settings)?;
-    let plan = plan_of(alloc, topo, &frame, root, &draft)?;
-    judge(alloc, topo, plan)
+    match try_greedy(alloc, topo, absent, root)? {
+        Some(first) => Ok(Found::Plan(refine(alloc, topo, absent, root, first, settings)?)),
+        None => {
+            let frame = first_plan(alloc, topo, root, absent)?;
+            search_from(alloc, topo, absent, root, &frame, settings)
+        }
+    }
 }

@@ -30,11 +30,12 @@ abbrev pub FitsFound : Network → Found → Type 0
 FitsFound net (found.Plan plan) = Fits net plan
 FitsFound net (found.NoPlan plan breach) = Unit {0}
 
--- what is printed of a search without what is absent, over the root that is given or any: the text of an accepted plan, or the line of a breach
+-- what is printed of a search without what is absent, over the root that is given or any: the text of an accepted plan, or the line of a breach, and then no
+-- greedy plan is accepted either
 abbrev pub IsFinding : Network → Absent → Option ℕ → Allowed
 IsFinding net absent root bytes status = (what : Found) × IsFound net absent root what × (bytes ≡ found_text net what) × (status ≡ found_status what)
 
--- `search`: an accepted plan with all that there is
+-- `search`: an accepted plan with all that there is. There is one wherever the greedy plan from a candidate is accepted: what `plan` prints is the first's.
 abbrev pub IsSearch : List ℕ → Allowed
 IsSearch topology bytes status = After (topology_of topology) (λ net. IsFinding net (record { devices = []; links = [] }) None) bytes status
 

@@ -25,7 +25,8 @@ pub fn run<S: Shelf, O: Sink>(alloc: Global, words: &[String], shelf: &mut S, ou
         (names_of (meaning.command_of (map string_bytes words.now))) }
 
     // Over a shelf that tells its texts: what the words write and answer. A plan is printed only
-    // where the checker accepts it, and it leaves out just what is absent.
+    // where the checker accepts it, and it leaves out just what is absent. No plan is printed only
+    // where the checker refuses the greedy one too: what `sundial plan` prints, or `sundial renew`.
     ensures outcome { MeetsOutcome (S.held shelf.old) (map string_bytes words.now)
         (O.written out.old) (O.written out.new) result }
 
