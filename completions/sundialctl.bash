@@ -1,0 +1,21 @@
+# Completion of sundialctl(1) for bash: the command first, then the files that it reads.
+
+_sundialctl() {
+    local current=${COMP_WORDS[COMP_CWORD]} most=0
+    COMPREPLY=()
+    if [ "$COMP_CWORD" -eq 1 ]; then
+        mapfile -t COMPREPLY < <(compgen -W "search renew" -- "$current")
+        return
+    fi
+    # how many files the command reads: numbers follow
+    case ${COMP_WORDS[1]} in
+        search) most=1 ;;
+        renew) most=3 ;;
+    esac
+    # names of files are left to readline, which knows of quotes and of ~
+    if [ "$COMP_CWORD" -le $((most + 1)) ]; then
+        compopt -o default
+    fi
+}
+
+complete -F _sundialctl sundialctl
