@@ -143,6 +143,22 @@ class Trees(unittest.TestCase):
         self.assertEqual(len(depths), 7)
         self.assertGreaterEqual(min(after - before for before, after in zip(depths, depths[1:])), 12)
 
+    def test_no_hop_goes_behind_a_box(self):
+        """Boxes of a row stand at its top, and hops leave a low box straight down to the floor of the row."""
+        topology_text, plan_text, _ = large(40, 8)
+        with directory() as path:
+            (path / "t.toml").write_text(topology_text)
+            (path / "p.json").write_text(plan_text)
+            tree = page(path / "t.toml", path / "p.json").one("svg", "tree")
+        boxes = [node.all("rect")[0] for node in tree.all("g", "box")]
+        boxes += [node.all("rect")[0] for node in tree.all("g", "device") if "box" not in node.parent.classes]
+        areas = [tuple(float(box[key]) for key in ("x", "y", "width", "height")) for box in boxes]
+        self.assertGreater(max(height for *_, height in areas), 2 * min(height for *_, height in areas))
+        for edge in tree.all("path", "edge"):
+            for x, y in points(edge["d"]):
+                for left, top, width, height in areas:
+                    self.assertFalse(left + 1 < x < left + width - 1 and top + 1 < y < top + height - 1, (edge["d"], left, top))
+
     def test_plans_stand_side_by_side_with_what_changed(self):
         here = EXAMPLES / "fabric"
         tree = page(here / "topology.toml", here / "plan.json", here / "plan-2.json")
@@ -188,6 +204,18 @@ class Trees(unittest.TestCase):
         self.assertEqual(leaves.all("li")[0].text, "rack2 l2")
         self.assertLessEqual(max(float(node["width"]) for node in tree.all("svg")), 1400)
         self.assertEqual(len(tree.one("table", "by-domain").one("tbody").all("tr")), 257)
+
+
+def points(path):
+    """Points of a path of Bezier curves."""
+    first, _, rest = path[1:].partition("C")
+    numbers = [float(word) for word in f"{first} {rest}".split()]
+    ends = list(zip(numbers[::2], numbers[1::2]))
+    for place in range(0, len(ends) - 1, 3):
+        for step in range(21):
+            part = step / 20
+            weights = (1 - part) ** 3, 3 * (1 - part) ** 2 * part, 3 * (1 - part) * part**2, part**3
+            yield tuple(sum(weight * end[axis] for weight, end in zip(weights, ends[place : place + 4])) for axis in (0, 1))
 
 
 def large_replay(path, plan_text):
