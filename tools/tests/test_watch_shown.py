@@ -1,11 +1,15 @@
 """What sundial-watch shows: metrics in a file and on a port; the alerts, the dashboard and the unit that stand on them."""
 
+import io
 import json
 import os
 import re
 import shutil
 import socket
+import struct
 import subprocess
+import sys
+import time
 import unittest
 import urllib.error
 import urllib.request
@@ -61,6 +65,23 @@ class Port(unittest.TestCase):
             finally:
                 shown.close()
             self.assertEqual(os.listdir(path), ["m.prom"])
+
+    def test_a_reader_that_goes_away_is_no_fault(self):
+        port, error = free_port(), io.StringIO()
+        shown = Shown(None, port)
+        try:
+            shown.show("# a comment\n" * 500_000)
+            with mock.patch.object(sys, "stderr", error):
+                for _ in range(3):
+                    with socket.create_connection(("127.0.0.1", port)) as reader:
+                        reader.setsockopt(socket.SOL_SOCKET, socket.SO_LINGER, struct.pack("ii", 1, 0))
+                        reader.sendall(b"GET /metrics HTTP/1.0\r\n\r\n")
+                        reader.recv(10)
+                self.assertEqual(len(fetched(port)[1]), 6_000_000)
+                time.sleep(0.2)
+        finally:
+            shown.close()
+        self.assertEqual(error.getvalue(), "")
 
     def test_news_come_sooner(self):
         with mock.patch("time.monotonic") as now, directory() as path:
