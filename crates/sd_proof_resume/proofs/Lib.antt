@@ -1,0 +1,10 @@
+-- The laws, in reading order.
+pub mod Stamps
+pub mod Calls
+pub mod Words
+pub mod Views
+pub mod Plans
+pub mod Steps
+pub mod Acts
+pub mod Stepping
+pub mod Accepted

@@ -1,0 +1,5 @@
+-- The definitions, in reading order.
+pub mod Shifts
+pub mod Likeness
+pub mod Views
+pub mod Agreement

@@ -1,0 +1,27 @@
+-- When two devices answer alike from a counter on, where the numbers of the second are raised to those of the first.
+use Rattle.std.specs.Prelude.{◌≡◌, ℕ, ◌≤◌, Option, Some, None, IfSome}
+use Rattle.sd_history.specs.Core.Plan.declared.Duty.{Duty}
+use Rattle.sd_history.specs.Clock.declared.Estimate.{Estimate}
+use Rattle.sd_history.specs.Clock.Estimates.{report_of}
+use Rattle.sd_history.specs.Msg.declared.Stamp.{Stamp}
+use Rattle.sd_history.specs.Core.declared.registers.Registers.{Registers}
+use Rattle.sd_history.specs.Sched.Num.declared.Rates.{Rates}
+use Rattle.sd_proof_resume.specs.Shifts.{Shift, raised_stamp, raised_registers}
+
+-- two estimates report the same at each counter from this one on
+abbrev pub ReportsAlike : (now : ℕ) → Rates → (one other : Estimate) → Type 0
+ReportsAlike now rates one other = (counter : ℕ) → now ≤ counter → report_of rates one counter ≡ report_of rates other counter
+
+-- The registers of the first are those of the second, raised. The stamp of a device that follows no plan is never read, and of the estimate
+-- only the reports are.
+pub record IsAlike (shift : Shift) (now : ℕ) (one other : Registers) : Type 0 where
+  pub stamp : Stamp
+  pub estimate : Estimate
+  pub kept : one ≡ raised_registers shift other stamp estimate
+  pub stamps : IfSome other.duty (λ duty. stamp ≡ raised_stamp shift other.stamp)
+  pub reports : ReportsAlike now other.rates estimate other.estimate
+
+-- both devices are there and are alike
+abbrev pub AreAlike : Shift → ℕ → Option Registers → Option Registers → Type 0
+AreAlike shift now (Some one) (Some other) = IsAlike shift now one other
+AreAlike shift now _ _ = ⊥
