@@ -8,3 +8,5 @@ pub mod Steps
 pub mod Acts
 pub mod Stepping
 pub mod Accepted
+pub mod Running
+pub mod Lines

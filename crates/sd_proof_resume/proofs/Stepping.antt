@@ -20,7 +20,7 @@ use Rattle.sd_proof_resume.proofs.Steps.{StepAgrees, steps_agree_after}
 use Rattle.sd_proof_resume.proofs.Acts.{NamesSome, all_same, filter_same, reaching_raised, act_same, taken_same, acted_same, flights_of_raised, epoch_of_same, settled_same}
 
 -- an event that makes a device changes it
-makes_changes : (setting : Setting) (steps : List Step) (e : Event) (d : ℕ) → makes d e ≡ true → same_number (changed (act_by setting steps e)) d ≡ true
+pub makes_changes : (setting : Setting) (steps : List Step) (e : Event) (d : ℕ) → makes d e ≡ true → same_number (changed (act_by setting steps e)) d ≡ true
 makes_changes setting steps (event.Start reference device counter clock eps) d made = go (nat_eq device d) made
   where
     go : (b : Bool) → (b || false) ≡ true → b ≡ true

@@ -1,9 +1,11 @@
 -- When two histories agree: what later events can see of the second, with its numbers raised, is what they see of the first.
-use Rattle.std.specs.Prelude.{◌≡◌, ℕ, ◌+◌, ◌≤◌, true, List, Option, Some, option_map}
+use Rattle.std.specs.Prelude.{◌≡◌, ℕ, ◌+◌, ◌≤◌, true, List, Option, Some, None, option_map}
 use Rattle.sd_history.specs.Core.declared.registers.Registers.{Registers}
 use Rattle.sd_history.specs.Msg.declared.Flight.{Flight}
+use Rattle.sd_history.specs.Sched.declared.Event.{Event}
+use Rattle.sd_history.specs.Sched.Events.{started, is_commit}
 use Rattle.sd_history.specs.World.{is_up, latest_reading}
-use Rattle.sd_history.specs.Steps.{Answers, Told, Act, Makes, Calls, Asks, Passes, Step, seen_of, live_answers, flight_count, flight_numbered}
+use Rattle.sd_history.specs.Steps.{Answers, Told, Act, Makes, Calls, Asks, Passes, Step, seen_of, live_answers, flight_count, flight_numbered, acted_by}
 use Rattle.sd_history.specs.Refusals.{was_used, was_swept}
 use Rattle.sd_history.specs.Nodes.{NodeStep, steps_of, node_in}
 use Rattle.sd_proof_resume.specs.Shifts.{Shift, raised_epoch, raised_duty, raised_flight, raised_effect, raised_making, raised_call}
@@ -52,3 +54,9 @@ pub record Agree (shift : Shift) (one other : List (NodeStep Registers)) : Type 
   pub steps : StepsAgree shift (steps_of one) (steps_of other)
   pub devices : (d : ℕ) → is_up (seen_of (steps_of other)) d ≡ true
       → AreAlike shift (latest_reading (seen_of (steps_of other)) d) (node_in one d) (node_in other d)
+
+-- What may come behind both: no start, and a commit only of a device that acts as root. Two fresh devices are alike, but what they would send as
+-- roots is no raised message.
+pub record MayFollow (other : List Step) (e : Event) : Type 0 where
+  pub start : started e ≡ None
+  pub commit : is_commit e ≡ true → acted_by other e ≡ true

@@ -1,0 +1,328 @@
+-- Devices that agree go on agreeing: after an event that the rules admit, both runs go on, alike.
+use Rattle.std.specs.Prelude.{◌≡◌, ℕ, zero, suc, ◌+◌, ◌≤◌, Bool, true, false, ◌&&◌, ◌||◌, not, List, [], ◌∷◌, length, nat_eq, nat_le, nat_lt, Option, Some, None, is_some, IfSome, option_map, option_and_then, refl, if◌then◌else◌}
+use Rattle.std.proofs.Common.{arith, sym, ◌∙◌, ap, subst}
+use Rattle.std.proofs.lemmas.Bool.{eqb-true, eq-eqb}
+use Rattle.sd_history.specs.Sched.Num.Lists.{map_or, same_number}
+use Rattle.sd_history.specs.Core.Topo.Network.{Network, rates_of}
+use Rattle.sd_history.specs.Core.Topo.declared.Thing.TheVariants as thing
+use Rattle.sd_history.specs.Core.Plan.declared.Plan.{Plan}
+use Rattle.sd_history.specs.Core.Plan.declared.Duty.{Duty}
+use Rattle.sd_history.specs.Core.Plan.declared.Edge.{Edge}
+use Rattle.sd_history.specs.Core.Plan.Duties.{duty_of}
+use Rattle.sd_history.specs.Clock.declared.Estimate.{Estimate}
+use Rattle.sd_history.specs.Clock.Estimates.{estimate_at}
+use Rattle.sd_history.specs.Msg.declared.Flight.{Flight}
+use Rattle.sd_history.specs.Msg.declared.Stamp.{Stamp}
+use Rattle.sd_history.specs.Msg.Stamps.{stamp}
+use Rattle.sd_history.specs.Core.declared.Effect.TheVariants.{Quiet}
+use Rattle.sd_history.specs.Core.declared.registers.Registers.{Registers}
+use Rattle.sd_history.specs.Core.declared.registers.Mode.{Mode}
+use Rattle.sd_history.specs.Core.declared.registers.Mode.TheVariants.{Primary, Backup, Acting, Idle}
+use Rattle.sd_history.specs.Core.Calls as calls
+use Rattle.sd_history.specs.Core.Calls.{Making, Call, Past}
+use Rattle.sd_history.specs.Core.Words as words
+use Rattle.sd_history.specs.Core.Lives.{past_of}
+use Rattle.sd_history.specs.Core.Rules.{made, called, report_in, epoch_in, parent_in, acts_in, edge_in, follows_a_plan, is_acting_mode}
+use Rattle.sd_history.specs.Core.Standing.{registers_of}
+use Rattle.sd_history.specs.Sched.declared.Event.{Event}
+use Rattle.sd_history.specs.Sched.declared.Event.TheVariants as event
+use Rattle.sd_history.specs.Sched.Events.{device_of, counter_of, message_of, started, is_commit}
+use Rattle.sd_history.specs.Things.{failure_of, mended}
+use Rattle.sd_history.specs.World.{Setting, setting_over, Seen, makes, fails, is_up, latest_reading, staged, staged_epoch}
+use Rattle.sd_history.specs.Steps as steps
+use Rattle.sd_history.specs.Steps.{Act, Makes, Calls, Asks, Passes, Answers, Told, tells_nothing, tells_made, tells_called, Step, seen_of, events_of, changed, answers_in, live_answers, act_by, acted_by, flight_numbered, flight_count, step_of}
+use Rattle.sd_history.specs.Refusals.{makes_some, counter_falls, not_started, unknown_message}
+use Rattle.sd_history.specs.Lives.{tells_report}
+use Rattle.sd_history.specs.Chronicle.{chronicle, past_in}
+use Rattle.sd_history.specs.Nodes.{answers_of, NodeStep, steps_of, node_in, node_before, IsMade, IsCalled, IsAsked, Allows, Follows}
+use Rattle.sd_history.specs.Admitted.{Admits, IsAdmittedRun}
+use Rattle.sd_history.proofs.Among.{first, later}
+use Rattle.sd_history.proofs.Admitted.{rule_holds}
+use Rattle.sd_history.proofs.Given.{some_is}
+use Rattle.sd_history.proofs.Known.{up_case}
+use Rattle.sd_history.proofs.Owned.{OwnPast, rates_are_own}
+use Rattle.sd_history.proofs.Owning.{own_pasts}
+use Rattle.sd_history.proofs.Devices.{device, grows, not_falling, Lives, RunGoes, past_is, admitted_run_goes, admitted_devices_run, admitted_goes_forward}
+use Rattle.sd_proof_resume.specs.Shifts.{Shift, raised_epoch, raised_stamp, raised_duty, raised_flight, raised_effect, raised_making, raised_call, raised_event, raised_registers}
+use Rattle.sd_proof_resume.specs.Likeness.{ReportsAlike, IsAlike, AreAlike}
+use Rattle.sd_proof_resume.specs.Agreement.{raised_answers, raised_told, raised_act, StepsAgree, Agree}
+use Rattle.sd_proof_resume.proofs.Calls.{IsCommittable, IsOrderlyCall, AreAlikeAfter, counter_after, called_alike}
+use Rattle.sd_proof_resume.proofs.Words.{words_of, same_words}
+use Rattle.sd_proof_resume.proofs.Plans.{whole}
+use Rattle.sd_proof_resume.proofs.Acts.{NamesSome, act_same}
+use Rattle.sd_proof_resume.proofs.Stepping.{makes_changes, agree_after}
+
+-- What devices that are alike answer
+
+same_follows : (shift : Shift) (epoch : ℕ) → nat_le 1 (raised_epoch shift epoch) ≡ nat_le 1 epoch
+same_follows shift epoch = go epoch shift.plans
+  where
+
+
+    go : (epoch k : ℕ) → nat_le 1 (raised_epoch (record { plans = k; messages = shift.messages; term = shift.term; round = shift.round }) epoch) ≡ nat_le 1 epoch
+    go zero k = refl
+    go (suc n) k = grind arith
+
+raised_epoch_in : (shift : Shift) (duty : Option Duty)
+    → map_or (option_map (raised_duty shift) duty) 0 (λ d. d.epoch) ≡ raised_epoch shift (map_or duty 0 (λ d. d.epoch))
+raised_epoch_in shift None = refl
+raised_epoch_in shift (Some d) = refl
+
+answers_raised : (shift : Shift) (r : Registers) (duty : Option Duty) (mode : Mode) (other : Stamp) (estimate : Estimate)
+    → answers_of device (raised_registers shift (record r { duty = duty; mode = mode }) other estimate)
+    ≡ raised_answers shift (answers_of device (record r { duty = duty; mode = mode }))
+answers_raised shift r None mode other estimate = refl
+answers_raised shift r (Some d) Primary other estimate =
+    ap (λ b. record { parent = if b then option_map (λ (edge : Edge). edge.parent) d.primary else None; acts = if b then false else false;
+      epoch = raised_epoch shift d.epoch; given = option_map (raised_duty shift) r.given; sealed = r.sealed }) (same_follows shift d.epoch)
+answers_raised shift r (Some d) Backup other estimate =
+    ap (λ b. record { parent = if b then option_map (λ (edge : Edge). edge.parent) d.backup else None; acts = if b then false else false;
+      epoch = raised_epoch shift d.epoch; given = option_map (raised_duty shift) r.given; sealed = r.sealed }) (same_follows shift d.epoch)
+answers_raised shift r (Some d) Acting other estimate =
+    ap (λ b. record { parent = if b then None else None; acts = if b then true else false;
+      epoch = raised_epoch shift d.epoch; given = option_map (raised_duty shift) r.given; sealed = r.sealed }) (same_follows shift d.epoch)
+answers_raised shift r (Some d) Idle other estimate =
+    ap (λ b. record { parent = if b then None else None; acts = if b then false else false;
+      epoch = raised_epoch shift d.epoch; given = option_map (raised_duty shift) r.given; sealed = r.sealed }) (same_follows shift d.epoch)
+
+pub answers_alike : (shift : Shift) (now : ℕ) (one r : Registers) → IsAlike shift now one r → answers_of device one ≡ raised_answers shift (answers_of device r)
+answers_alike shift now one r alike = ap (answers_of device) alike.kept ∙ answers_raised shift r r.duty r.mode alike.stamp alike.estimate
+
+-- later on, devices that were alike are
+later_alike : (shift : Shift) (now at : ℕ) (one other : Option Registers) → now ≤ at → AreAlike shift now one other → AreAlike shift at one other
+later_alike shift now at (Some one) (Some other) due alike =
+    record {
+      stamp = alike.stamp;
+      estimate = alike.estimate;
+      kept = alike.kept;
+      stamps = alike.stamps;
+      reports = λ counter h. alike.reports counter (omega (arith, due, h));
+    }
+later_alike shift now at (Some one) None due alike = absurd alike
+later_alike shift now at None (Some other) due alike = absurd alike
+later_alike shift now at None None due alike = absurd alike
+
+-- What a device of a run answers
+
+told_answers : (before : Option Registers) (act : Act) (told : Told) (after : Option Registers) (d : ℕ) → Allows device before act told after
+    → same_number (changed act) d ≡ true → told.answers ≡ option_map (answers_of device) after
+told_answers before (Makes m making) told after d allowed is = ap (λ t. t.answers) allowed.tells ∙ sym (ap (option_map (answers_of device)) allowed.left)
+told_answers before (Calls m call) told after d allowed is = ap (λ t. t.answers) allowed.tells ∙ sym (ap (option_map (answers_of device)) allowed.left)
+told_answers before (Asks m counter) told after d allowed is = cc
+told_answers before Passes told after d allowed is = cc
+
+pub answers_are_nodes : (setting : Setting) (run : List (NodeStep Registers)) → IsAdmittedRun device setting run → (d : ℕ)
+    → answers_in (steps_of run) d ≡ option_map (answers_of device) (node_in run d)
+answers_are_nodes setting [] is d = refl
+answers_are_nodes setting (x ∷ earlier) is d =
+    go (same_number (changed x.step.act) d) refl (answers_are_nodes setting earlier is.0 d)
+  where
+    go : (b : Bool) → same_number (changed x.step.act) d ≡ b → answers_in (steps_of earlier) d ≡ option_map (answers_of device) (node_in earlier d)
+        → map_or (if b then Some x.step.told.answers else None) (answers_in (steps_of earlier) d) (λ t. t)
+        ≡ option_map (answers_of device) (map_or (if b then Some x.node else None) (node_in earlier d) (λ t. t))
+    go true here same = told_answers (node_before earlier x.step.act) x.step.act x.step.told x.node d is.2.allowed here
+    go false apart same = same
+
+-- Both runs go on with an event and its raised one, at which the same is told, and agree.
+pub record GoesOn (shift : Shift) (whole part : Setting) (one other : List (NodeStep Registers)) (e : Event) : Type 0 where
+  pub told : Told
+  pub first : NodeStep Registers
+  pub second : NodeStep Registers
+  pub first_is : first.step ≡ step_of whole (steps_of one) (raised_event shift e) (raised_told shift told)
+  pub second_is : second.step ≡ step_of part (steps_of other) e told
+  pub first_follows : Follows device whole one first
+  pub second_follows : Follows device part other second
+  pub agree : Agree shift (first ∷ one) (second ∷ other)
+
+-- Both go on
+
+changed_raised : (shift : Shift) (a : Act) → changed (raised_act shift a) ≡ changed a
+changed_raised shift (Makes d making) = refl
+changed_raised shift (Calls d call) = refl
+changed_raised shift (Asks d counter) = refl
+changed_raised shift Passes = refl
+
+-- the latest reading of a device, with an event
+abbrev reading_with : List Seen → Event → ℕ → ℕ
+reading_with seen e d = map_or (if same_number (device_of e) d then counter_of e else None) (latest_reading seen d) (λ told. told)
+
+module _ (shift : Shift) (net : Network) (front plans : List Plan) (behind : shift.plans ≡ length front) (one other : List (NodeStep Registers))
+    (agree : Agree shift one other) (e : Event) (some : NamesSome e) where
+  abbrev seen : List Seen
+  seen = seen_of (steps_of other)
+
+  -- the two of an act that both kinds of device allow
+  both : (a : Act) → act_by (setting_over net plans) (steps_of other) e ≡ a → (told : Told) (n m : Option Registers)
+      → Allows device (node_before one (raised_act shift a)) (raised_act shift a) (raised_told shift told) n
+      → Allows device (node_before other a) a told m
+      → ((d : ℕ) → same_number (changed a) d ≡ true → AreAlike shift (reading_with seen e d) n m)
+      → ((d : ℕ) → same_number (changed a) d ≡ false → latest_reading seen d ≤ reading_with seen e d)
+      → GoesOn shift (whole net front plans) (setting_over net plans) one other e
+  both a is told n m allowed_one allowed_other here apart =
+      record {
+        told = told;
+        first = record { step = step_of (whole net front plans) (steps_of one) (raised_event shift e) (raised_told shift told); node = n };
+        second = record { step = step_of (setting_over net plans) (steps_of other) e told; node = m };
+        first_is = refl;
+        second_is = refl;
+        first_follows = record {
+          is = refl;
+          allowed = subst (λ b. Allows device (node_before one b) b (raised_told shift told) n) (sym act_is) allowed_one;
+        };
+        second_follows = record { is = refl; allowed = subst (λ b. Allows device (node_before other b) b told m) (sym is) allowed_other };
+        agree = record {
+          steps = agree_after shift net front plans behind (steps_of one) (steps_of other) agree.steps e some told;
+          devices = devices;
+        };
+      }
+    where
+      act_is : act_by (whole net front plans) (steps_of one) (raised_event shift e) ≡ raised_act shift a
+      act_is = act_same shift net front plans behind (steps_of one) (steps_of other) agree.steps e some ∙ ap (raised_act shift) is
+
+      by : (d : ℕ) (b : Bool) → same_number (changed a) d ≡ b
+          → map_or (if makes d e then Some true else if fails (thing.Device d) e then Some false else None) (is_up seen d) (λ t. t) ≡ true
+          → AreAlike shift (reading_with seen e d) (map_or (if b then Some n else None) (node_in one d) (λ t. t)) (map_or (if b then Some m else None) (node_in other d) (λ t. t))
+      by d true changes up = here d changes
+      by d false changes up =
+          later_alike shift (latest_reading seen d) (reading_with seen e d) (node_in one d) (node_in other d) (apart d changes)
+          (agree.devices d (up_case (makes d e) (fails (thing.Device d) e) (is_up seen d) up (unmade (makes d e) refl)))
+        where
+          unmade : (b : Bool) → makes d e ≡ b → makes d e ≡ false
+          unmade false made_ = made_
+          unmade true made_ =
+              let yes : same_number (changed a) d ≡ true =
+              sym (ap (λ b. same_number (changed b) d) is) ∙ makes_changes (setting_over net plans) (steps_of other) e d made_ in
+              cc
+
+      devices : (d : ℕ) → map_or (if makes d e then Some true else if fails (thing.Device d) e then Some false else None) (is_up seen d) (λ t. t) ≡ true
+          → AreAlike shift (reading_with seen e d)
+          (map_or (if same_number (changed (act_by (whole net front plans) (steps_of one) (raised_event shift e))) d then Some n else None) (node_in one d) (λ t. t))
+          (map_or (if same_number (changed (act_by (setting_over net plans) (steps_of other) e)) d then Some m else None) (node_in other d) (λ t. t))
+      devices d up =
+          subst (λ b. AreAlike shift (reading_with seen e d)
+          (map_or (if same_number (changed b) d then Some n else None) (node_in one d) (λ t. t))
+          (map_or (if same_number (changed (act_by (setting_over net plans) (steps_of other) e)) d then Some m else None) (node_in other d) (λ t. t)))
+          (sym act_is)
+          (subst (λ b. AreAlike shift (reading_with seen e d)
+          (map_or (if same_number (changed (raised_act shift a)) d then Some n else None) (node_in one d) (λ t. t))
+          (map_or (if same_number (changed b) d then Some m else None) (node_in other d) (λ t. t)))
+          (sym is)
+          (subst (λ o. AreAlike shift (reading_with seen e d)
+          (map_or (if same_number o d then Some n else None) (node_in one d) (λ t. t))
+          (map_or (if same_number (changed a) d then Some m else None) (node_in other d) (λ t. t)))
+          (sym (changed_raised shift a))
+          (by d (same_number (changed a) d) refl up)))
+
+  -- a reading does not fall
+  grow : Admits (setting_over net plans) (steps_of other) e → makes_some e ≡ false → (d : ℕ) → latest_reading seen d ≤ reading_with seen e d
+  grow admits calls_ d =
+      grows (same_number (device_of e) d) (counter_of e) (latest_reading seen d)
+      (λ c named reads. not_falling (makes_some e) (device_of e) (counter_of e) (latest_reading seen)
+      (admitted_goes_forward (setting_over net plans) (steps_of other) e admits) calls_ d c named reads)
+
+  -- a device that is called or asked is up
+  is_there : Admits (setting_over net plans) (steps_of other) e → (makes_some e || is_some (failure_of e) || is_some (mended e)) ≡ false
+      → (m : ℕ) → device_of e ≡ Some m → is_up seen m ≡ true
+  is_there admits addresses m named =
+      go (makes_some e || is_some (failure_of e) || is_some (mended e)) (device_of e)
+      (rule_holds (setting_over net plans) (steps_of other) e _ admits (later (later (later (later (later (later (later (later (later first))))))))) refl)
+      addresses named
+    where
+      up : (b : Bool) → not b ≡ false → b ≡ true
+      up true is = refl
+      up false is = cc
+      go : (b : Bool) (o : Option ℕ) → (not b && map_or o false (λ d. not (is_up seen d))) ≡ false → b ≡ false → o ≡ Some m → is_up seen m ≡ true
+      go true o rule none is = cc
+      go false None rule none is = cc
+      go false (Some d) rule none is = subst (λ x. is_up seen x ≡ true) (some_is is) (up (is_up seen d) rule)
+
+  -- an event that calls a device
+  calling : Admits (setting_over net plans) (steps_of other) e → (m : ℕ) (call : Call) → act_by (setting_over net plans) (steps_of other) e ≡ Calls m call
+      → (makes_some e || is_some (failure_of e) || is_some (mended e)) ≡ false → makes_some e ≡ false → device_of e ≡ Some m
+      → counter_of e ≡ words.counter_of call → ((r : Registers) → node_in other m ≡ Some r → IsOrderlyCall r call)
+      → GoesOn shift (whole net front plans) (setting_over net plans) one other e
+  calling admits m call is addresses calls_ named reads orderly =
+      go (node_in one m) (node_in other m) refl refl (agree.devices m (is_there admits addresses m named))
+    where
+      due : (o : Option ℕ) → words.counter_of call ≡ o → IfSome o (λ c. latest_reading seen m ≤ c)
+      due None has = tt
+      due (Some c) has =
+          not_falling (makes_some e) (device_of e) (counter_of e) (latest_reading seen)
+          (admitted_goes_forward (setting_over net plans) (steps_of other) e admits) calls_ m c (ap (λ o. same_number o m) named ∙ eq-eqb m m refl) (reads ∙ has)
+
+      reading : reading_with seen e m ≡ counter_after call (latest_reading seen m)
+      reading =
+          ap (λ o. map_or (if same_number o m then counter_of e else None) (latest_reading seen m) (λ t. t)) named
+          ∙ ap (λ b. map_or (if b then counter_of e else None) (latest_reading seen m) (λ t. t)) (eq-eqb m m refl)
+          ∙ ap (λ o. map_or o (latest_reading seen m) (λ t. t)) reads
+
+      go : (o p : Option Registers) → node_in one m ≡ o → node_in other m ≡ p → AreAlike shift (latest_reading seen m) o p
+          → GoesOn shift (whole net front plans) (setting_over net plans) one other e
+      go (Some s) None one_is other_is alike = absurd alike
+      go None (Some r) one_is other_is alike = absurd alike
+      go None None one_is other_is alike = absurd alike
+      go (Some s) (Some r) one_is other_is alike =
+          let after : AreAlikeAfter shift (counter_after call (latest_reading seen m)) (called s (raised_call shift call)) (called r call) =
+          called_alike shift (latest_reading seen m) s r call (due (words.counter_of call) refl) (orderly r other_is) alike in
+          both (Calls m call) is (tells_called (called r call).1 (answers_of device (called r call).0)) (Some (called s (raised_call shift call)).0) (Some (called r call).0)
+          (record {
+            old = s;
+            node = (called s (raised_call shift call)).0;
+            effect = (called s (raised_call shift call)).1;
+            there = one_is;
+            stepped = refl;
+            tells =
+                ap (λ effect. tells_called effect (raised_answers shift (answers_of device (called r call).0))) (sym after.sends)
+                ∙ ap (tells_called (called s (raised_call shift call)).1)
+                (sym (answers_alike shift (counter_after call (latest_reading seen m)) (called s (raised_call shift call)).0 (called r call).0 after.alike));
+            left = refl;
+          })
+          (record { old = r; node = (called r call).0; effect = (called r call).1; there = other_is; stepped = refl; tells = refl; left = refl })
+          (λ d here. subst (λ x. AreAlike shift (reading_with seen e x) (Some (called s (raised_call shift call)).0) (Some (called r call).0)) (eqb-true m d here)
+          (subst (λ x. IsAlike shift x (called s (raised_call shift call)).0 (called r call).0) (sym reading) after.alike))
+          (λ d away. grow admits calls_ d)
+
+  -- an event that asks a device
+  asking : Admits (setting_over net plans) (steps_of other) e → (m c : ℕ) → act_by (setting_over net plans) (steps_of other) e ≡ Asks m c
+      → (makes_some e || is_some (failure_of e) || is_some (mended e)) ≡ false → makes_some e ≡ false → device_of e ≡ Some m → counter_of e ≡ Some c
+      → GoesOn shift (whole net front plans) (setting_over net plans) one other e
+  asking admits m c is addresses calls_ named reads =
+      go (node_in one m) (node_in other m) refl refl (agree.devices m (is_there admits addresses m named))
+    where
+      due : latest_reading seen m ≤ c
+      due =
+          not_falling (makes_some e) (device_of e) (counter_of e) (latest_reading seen)
+          (admitted_goes_forward (setting_over net plans) (steps_of other) e admits) calls_ m c (ap (λ o. same_number o m) named ∙ eq-eqb m m refl) reads
+
+      go : (o p : Option Registers) → node_in one m ≡ o → node_in other m ≡ p → AreAlike shift (latest_reading seen m) o p
+          → GoesOn shift (whole net front plans) (setting_over net plans) one other e
+      go (Some s) None one_is other_is alike = absurd alike
+      go None (Some r) one_is other_is alike = absurd alike
+      go None None one_is other_is alike = absurd alike
+      go (Some s) (Some r) one_is other_is alike =
+          let same : report_in s c ≡ report_in r c = ap (λ (x : Registers). report_in x c) alike.kept ∙ alike.reports c due in
+          both (Asks m c) is (tells_report (report_in r c)) None None
+          (record { node = s; report = report_in s c; there = one_is; reported = refl; tells = ap tells_report (sym same); left = refl })
+          (record { node = r; report = report_in r c; there = other_is; reported = refl; tells = refl; left = refl })
+          (λ d here. cc)
+          (λ d away. grow admits calls_ d)
+
+  -- an event that passes the devices
+  passing : Admits (setting_over net plans) (steps_of other) e → act_by (setting_over net plans) (steps_of other) e ≡ Passes → makes_some e ≡ false
+      → GoesOn shift (whole net front plans) (setting_over net plans) one other e
+  passing admits is calls_ = both Passes is tells_nothing None None (refl, refl) (refl, refl) (λ d here. cc) (λ d away. grow admits calls_ d)
+
+  -- a join
+  joining : (m counter clock eps : ℕ) → act_by (setting_over net plans) (steps_of other) e ≡ Makes m (calls.Joined (rates_of net m) counter clock eps)
+      → device_of e ≡ Some m → GoesOn shift (whole net front plans) (setting_over net plans) one other e
+  joining m counter clock eps is named =
+      both (Makes m (calls.Joined (rates_of net m) counter clock eps)) is (tells_made (answers_of device (made (calls.Joined (rates_of net m) counter clock eps)))) (Some (made (calls.Joined (rates_of net m) counter clock eps))) (Some (made (calls.Joined (rates_of net m) counter clock eps)))
+      (record { node = made (calls.Joined (rates_of net m) counter clock eps); made = refl; tells = refl; left = refl })
+      (record { node = made (calls.Joined (rates_of net m) counter clock eps); made = refl; tells = refl; left = refl })
+      (λ d here. record { stamp = stamp 0 0; estimate = estimate_at clock eps counter; kept = refl; stamps = tt; reports = λ at due. refl })
+      (λ d away. same_reading d away)
+    where
+      same_reading : (d : ℕ) → nat_eq m d ≡ false → latest_reading seen d ≤ reading_with seen e d
+      same_reading d away =
+          let other_device : same_number (device_of e) d ≡ false = ap (λ o. same_number o d) named ∙ away in
+          grows (same_number (device_of e) d) (counter_of e) (latest_reading seen d) (λ c here reads. cc)
