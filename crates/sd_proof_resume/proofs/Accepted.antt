@@ -25,11 +25,12 @@ use Rattle.sd_history.specs.Admitted.{is_count}
 use Rattle.sd_proof_resume.specs.Shifts.{Shift, raised_epoch, raised_duty, raised_flight, raised_event, raised_seen}
 use Rattle.sd_proof_resume.specs.Views.{LooksAlike}
 use Rattle.sd_proof_resume.specs.Agreement.{raised_answers, StepsAgree}
+use Rattle.sd_proof_resume.specs.Law.{whole, NamesSome}
 use Rattle.sd_proof_resume.proofs.Words.{EventWords, words_of, same_words, raised_number, raised_received}
 use Rattle.sd_proof_resume.proofs.Stamps.{same_epoch}
-use Rattle.sd_proof_resume.proofs.Plans.{whole, in_force_same, staged_same, staged_raised, staged_member_same, open_same, commit_same, joined_same}
+use Rattle.sd_proof_resume.proofs.Plans.{in_force_same, staged_same, staged_raised, staged_member_same, open_same, commit_same, joined_same}
 use Rattle.sd_proof_resume.proofs.Steps.{find_passes}
-use Rattle.sd_proof_resume.proofs.Acts.{NamesSome, epoch_of_same}
+use Rattle.sd_proof_resume.proofs.Acts.{epoch_of_same}
 
 -- All causes but the number of events: the rules admit what none of them refuses.
 

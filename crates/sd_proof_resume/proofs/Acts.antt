@@ -23,15 +23,12 @@ use Rattle.sd_history.specs.World.{Setting, setting_over, Seen, makes, is_up, li
 use Rattle.sd_history.specs.Steps.{Act, Makes, Calls, Asks, Passes, Answers, Told, Step, seen_of, changed, live_answers, acts_in, epoch_in, has_settled, flights, flight_count, flight_numbered, flight_to, flights_to, ends_at, flights_by, flights_of, act_by, can_close, taken_by, acted_by, first_step, has_turned, activated_by, complete, step_of}
 use Rattle.sd_proof_resume.specs.Shifts.{Shift, raised_epoch, raised_message, raised_duty, raised_flight, raised_effect, raised_making, raised_call, raised_event, raised_seen}
 use Rattle.sd_proof_resume.specs.Views.{LooksAlike}
+use Rattle.sd_proof_resume.specs.Law.{whole, NamesSome}
 use Rattle.sd_proof_resume.specs.Agreement.{raised_answers, raised_told, raised_act, StepsAgree}
 use Rattle.sd_proof_resume.proofs.Words.{EventWords, words_of, same_words, raised_number, raised_received}
 use Rattle.sd_proof_resume.proofs.Stamps.{same_epoch}
-use Rattle.sd_proof_resume.proofs.Plans.{whole, epoch_raised, staged_raised, in_force_same, staged_same, current_same, open_same, commit_same}
+use Rattle.sd_proof_resume.proofs.Plans.{epoch_raised, staged_raised, in_force_same, staged_same, current_same, open_same, commit_same}
 use Rattle.sd_proof_resume.proofs.Steps.{StepAgrees, steps_agree_after}
-
--- the event names no message with the number 0, which no message has
-abbrev pub NamesSome : Event → Type 0
-NamesSome e = (n : ℕ) → message_of e ≡ Some n → 1 ≤ n
 
 -- devices
 

@@ -10,3 +10,4 @@ pub mod Stepping
 pub mod Accepted
 pub mod Running
 pub mod Lines
+pub mod Laws

@@ -15,18 +15,11 @@ use Rattle.sd_history.specs.Premises.{breaks}
 use Rattle.sd_history.specs.Lines.{Line, counted_parent, is_on_loop, first_on_loop, roots, asked_report, broken_lines, loop_lines, root_lines, report_lines, lines_of}
 use Rattle.sd_proof_resume.specs.Shifts.{Shift, raised_event}
 use Rattle.sd_proof_resume.specs.Agreement.{raised_answers, raised_told, StepsAgree}
+use Rattle.sd_proof_resume.specs.Law.{whole, NamesSome, alarms_and_report}
 use Rattle.sd_proof_resume.proofs.Words.{words_of, same_words}
-use Rattle.sd_proof_resume.proofs.Plans.{whole, counted_same}
-use Rattle.sd_proof_resume.proofs.Acts.{NamesSome, acts_same, filter_same}
+use Rattle.sd_proof_resume.proofs.Plans.{counted_same}
+use Rattle.sd_proof_resume.proofs.Acts.{acts_same, filter_same}
 use Rattle.sd_proof_resume.proofs.Stepping.{agree_after}
-
--- the alarms and the report of the latest event: all of its lines that name no premise
-abbrev pub alarms_and_report : Setting → List Step → List Line
-alarms_and_report setting [] = []
-alarms_and_report setting (s ∷ earlier) =
-    loop_lines (first_on_loop setting earlier) (first_on_loop setting (s ∷ earlier))
-    ++ root_lines (roots setting earlier) (roots setting (s ∷ earlier))
-    ++ map_or (asked_report s) [] (report_lines (reference_of s.seen.event))
 
 -- the lines of an event are those that name a broken premise, and these
 pub lines_are : (setting : Setting) (s : Step) (earlier : List Step)

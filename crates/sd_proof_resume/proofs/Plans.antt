@@ -15,6 +15,7 @@ use Rattle.sd_history.specs.Sched.Events.{is_commit, joined}
 use Rattle.sd_history.specs.World.{Setting, setting_over, Seen, is_up, window, window_is_open, in_window, has_commit, epoch_in_force, staged_epoch, no_plan, plan_numbered, in_force, staged, is_staged_member, current_plan, joined_in_window, is_counted}
 use Rattle.sd_proof_resume.specs.Shifts.{Shift, raised_epoch, raised_event, raised_seen}
 use Rattle.sd_proof_resume.specs.Views.{LooksAlike}
+use Rattle.sd_proof_resume.specs.Law.{whole}
 use Rattle.sd_proof_resume.proofs.Words.{words_of, same_words}
 use Rattle.sd_proof_resume.proofs.Stamps.{same_epoch, raised_plan}
 
@@ -39,10 +40,6 @@ any_raised : (shift : Shift) (test other : Seen → Bool) → ((s : Seen) → te
 any_raised shift test other same [] = refl
 any_raised shift test other same (s ∷ w) =
     ap (λ b. b || list_any test (map (raised_seen shift) w)) (same s) ∙ ap (λ b. other s || b) (any_raised shift test other same w)
-
--- the setting of the first, whose plans begin with some more, and that of the second
-abbrev pub whole : Network → (front plans : List Plan) → Setting
-whole net front plans = setting_over net (front ++ plans)
 
 module _ (shift : Shift) (net : Network) (front plans : List Plan) (behind : shift.plans ≡ length front) where
   pub plan_same : (epoch : ℕ) → plan_numbered (whole net front plans) (epoch + 1 + shift.plans) ≡ plan_numbered (setting_over net plans) (epoch + 1)

@@ -45,11 +45,11 @@ use Rattle.sd_history.proofs.Owning.{own_pasts}
 use Rattle.sd_history.proofs.Devices.{device, grows, not_falling, Lives, RunGoes, past_is, admitted_run_goes, admitted_devices_run, admitted_goes_forward}
 use Rattle.sd_proof_resume.specs.Shifts.{Shift, raised_epoch, raised_stamp, raised_duty, raised_flight, raised_effect, raised_making, raised_call, raised_event, raised_registers}
 use Rattle.sd_proof_resume.specs.Likeness.{ReportsAlike, IsAlike, AreAlike}
-use Rattle.sd_proof_resume.specs.Agreement.{raised_answers, raised_told, raised_act, StepsAgree, Agree}
+use Rattle.sd_proof_resume.specs.Agreement.{raised_answers, raised_told, raised_act, StepsAgree, MayFollow, Agree}
 use Rattle.sd_proof_resume.proofs.Calls.{IsCommittable, IsOrderlyCall, AreAlikeAfter, counter_after, called_alike}
+use Rattle.sd_proof_resume.specs.Law.{whole, NamesSome}
 use Rattle.sd_proof_resume.proofs.Words.{words_of, same_words}
-use Rattle.sd_proof_resume.proofs.Plans.{whole}
-use Rattle.sd_proof_resume.proofs.Acts.{NamesSome, act_same}
+use Rattle.sd_proof_resume.proofs.Acts.{act_same}
 use Rattle.sd_proof_resume.proofs.Stepping.{makes_changes, agree_after}
 
 -- What devices that are alike answer
@@ -326,3 +326,127 @@ module _ (shift : Shift) (net : Network) (front plans : List Plan) (behind : shi
       same_reading d away =
           let other_device : same_number (device_of e) d ≡ false = ap (λ o. same_number o d) named ∙ away in
           grows (same_number (device_of e) d) (counter_of e) (latest_reading seen d) (λ c here reads. cc)
+
+-- Which commits are orderly: a device that acts has a duty, and all its duties have its own rates.
+
+committable : (setting : Setting) (run : List (NodeStep Registers)) → IsAdmittedRun device setting run → (m : ℕ) (r : Registers) → node_in run m ≡ Some r
+    → steps.acts_in (steps_of run) m ≡ true → IsCommittable r
+committable setting run is m r here acting =
+    let acts : acts_in r ≡ true = by_answers (is_up (seen_of (steps_of run)) m) (answers_are_nodes setting run is m ∙ ap (option_map (answers_of device)) here) acting in
+    let two : (follows_a_plan r ≡ true) × (is_acting_mode r.mode ≡ true) = split (follows_a_plan r) (is_acting_mode r.mode) acts in
+    record { acts = two.1; has = has_duty r.duty two.0; rates = λ duty given. rates duty given }
+  where
+    by_answers : (up : Bool) → answers_in (steps_of run) m ≡ Some (answers_of device r)
+        → map_or (if up then answers_in (steps_of run) m else None) false (λ a. a.acts) ≡ true → acts_in r ≡ true
+    by_answers false answers acts = cc
+    by_answers true answers acts = sym (ap (λ a. map_or a false (λ x. x.acts)) answers) ∙ acts
+
+    split : (a b : Bool) → (if a then b else false) ≡ true → (a ≡ true) × (b ≡ true)
+    split true b is = (refl, is)
+    split false b is = cc
+
+    has_duty : (o : Option Duty) → nat_le 1 (map_or o 0 (λ d. d.epoch)) ≡ true → (duty : Duty) × (o ≡ Some duty)
+    has_duty None follows = cc
+    has_duty (Some duty) follows = (duty, refl)
+
+    lives : Lives (steps_of run) m r
+    lives = (admitted_run_goes setting run is).live m r here
+
+    own : OwnPast setting.net m (past_of lives.life)
+    own =
+        own_pasts setting (events_of (steps_of run)) m (past_of lives.life)
+        (sym (ap (λ s. past_in s m) (admitted_devices_run setting run is)) ∙ past_is (steps_of run) m r lives)
+
+    rates : (duty : Duty) → r.given ≡ Some duty → duty.rates ≡ r.rates
+    rates duty given =
+        (own.duties.given duty (sym (ap (λ (x : Registers). x.given) lives.stands.are) ∙ given)).rates
+        ∙ sym (rates_are_own setting.net m (past_of lives.life) own)
+        ∙ sym (ap (λ (x : Registers). x.rates) lives.stands.are)
+
+pub names_some : (setting : Setting) (steps : List Step) (e : Event) → Admits setting steps e → NamesSome e
+names_some setting steps e admits n names =
+    go (message_of e) (rule_holds setting steps e _ admits (later (later (later (later first)))) refl) names
+  where
+    by : (n : ℕ) (b : Bool) → (nat_eq n 0 || b) ≡ false → 1 ≤ n
+    by zero b known = cc
+    by (suc n) b known = omega arith
+    go : (o : Option ℕ) → map_or o false (λ n. nat_eq n 0 || nat_lt (flight_count steps) n) ≡ false → o ≡ Some n → 1 ≤ n
+    go None known is = cc
+    go (Some m) known is = subst (λ x. 1 ≤ x) (some_is is) (by m (nat_lt (flight_count steps) m) known)
+
+module _ (shift : Shift) (net : Network) (front plans : List Plan) (behind : shift.plans ≡ length front) (one other : List (NodeStep Registers))
+    (runs : IsAdmittedRun device (setting_over net plans) other) (agree : Agree shift one other) where
+  abbrev On : Event → Type 0
+  On e = GoesOn shift (whole net front plans) (setting_over net plans) one other e
+
+  received_on : (reference d counter message : ℕ) → Admits (setting_over net plans) (steps_of other) (event.Recv reference d counter message)
+      → (o : Option Flight) → flight_numbered (steps_of other) message ≡ o → On (event.Recv reference d counter message)
+  received_on reference d counter message admits None found =
+      passing shift net front plans behind one other agree (event.Recv reference d counter message)
+      (names_some (setting_over net plans) (steps_of other) (event.Recv reference d counter message) admits) admits
+      (ap (λ o. map_or o Passes (λ f. Calls d (calls.Receive f.link f.message counter))) found) refl
+  received_on reference d counter message admits (Some f) found =
+      calling shift net front plans behind one other agree (event.Recv reference d counter message)
+      (names_some (setting_over net plans) (steps_of other) (event.Recv reference d counter message) admits) admits d (calls.Receive f.link f.message counter)
+      (ap (λ o. map_or o Passes (λ g. Calls d (calls.Receive g.link g.message counter))) found) refl refl refl refl (λ r here. tt)
+
+  given_on : (reference d : ℕ) → Admits (setting_over net plans) (steps_of other) (event.Give reference d)
+      → (o : Option Plan) → staged (setting_over net plans) (seen_of (steps_of other)) ≡ o → On (event.Give reference d)
+  given_on reference d admits None found =
+      passing shift net front plans behind one other agree (event.Give reference d)
+      (names_some (setting_over net plans) (steps_of other) (event.Give reference d) admits) admits
+      (ap (λ o. map_or o Passes (λ plan. Calls d (calls.Give (duty_of net plan (staged_epoch (seen_of (steps_of other))) d)))) found) refl
+  given_on reference d admits (Some plan) found =
+      calling shift net front plans behind one other agree (event.Give reference d)
+      (names_some (setting_over net plans) (steps_of other) (event.Give reference d) admits) admits d
+      (calls.Give (duty_of net plan (staged_epoch (seen_of (steps_of other))) d))
+      (ap (λ o. map_or o Passes (λ p. Calls d (calls.Give (duty_of net p (staged_epoch (seen_of (steps_of other))) d)))) found) refl refl refl refl (λ r here. tt)
+
+  -- Both go on with an event that the rules admit, and that may follow.
+  pub goes_on : (e : Event) → MayFollow (steps_of other) e → Admits (setting_over net plans) (steps_of other) e → On e
+  goes_on (event.Start reference d counter clock eps) may admits = let none : Some d ≡ None = may.start in cc
+  goes_on (event.Join reference d counter clock eps) may admits =
+      joining shift net front plans behind one other agree (event.Join reference d counter clock eps)
+      (names_some (setting_over net plans) (steps_of other) (event.Join reference d counter clock eps) admits) d counter clock eps refl refl
+  goes_on (event.Tick reference d counter) may admits =
+      calling shift net front plans behind one other agree (event.Tick reference d counter)
+      (names_some (setting_over net plans) (steps_of other) (event.Tick reference d counter) admits) admits d (calls.Tick counter) refl refl refl refl refl
+      (λ r here. tt)
+  goes_on (event.Recv reference d counter message) may admits =
+      received_on reference d counter message admits (flight_numbered (steps_of other) message) refl
+  goes_on (event.Fix reference d counter clock eps) may admits =
+      calling shift net front plans behind one other agree (event.Fix reference d counter clock eps)
+      (names_some (setting_over net plans) (steps_of other) (event.Fix reference d counter clock eps) admits) admits d (calls.Fix counter clock eps) refl refl refl
+      refl refl (λ r here. tt)
+  goes_on (event.Give reference d) may admits = given_on reference d admits (staged (setting_over net plans) (seen_of (steps_of other))) refl
+  goes_on (event.Commit reference d counter) may admits =
+      calling shift net front plans behind one other agree (event.Commit reference d counter)
+      (names_some (setting_over net plans) (steps_of other) (event.Commit reference d counter) admits) admits d (calls.Commit counter) refl refl refl refl refl
+      (λ r here. committable (setting_over net plans) other runs d r here (may.commit refl))
+  goes_on (event.Seal reference d) may admits =
+      calling shift net front plans behind one other agree (event.Seal reference d)
+      (names_some (setting_over net plans) (steps_of other) (event.Seal reference d) admits) admits d calls.Seal refl refl refl refl refl (λ r here. tt)
+  goes_on (event.Ask reference d counter) may admits =
+      asking shift net front plans behind one other agree (event.Ask reference d counter)
+      (names_some (setting_over net plans) (steps_of other) (event.Ask reference d counter) admits) admits d counter refl refl refl refl refl
+  goes_on (event.Lose reference message) may admits =
+      passing shift net front plans behind one other agree (event.Lose reference message)
+      (names_some (setting_over net plans) (steps_of other) (event.Lose reference message) admits) admits refl refl
+  goes_on (event.FailDevice reference d) may admits =
+      passing shift net front plans behind one other agree (event.FailDevice reference d)
+      (names_some (setting_over net plans) (steps_of other) (event.FailDevice reference d) admits) admits refl refl
+  goes_on (event.FailLink reference link) may admits =
+      passing shift net front plans behind one other agree (event.FailLink reference link)
+      (names_some (setting_over net plans) (steps_of other) (event.FailLink reference link) admits) admits refl refl
+  goes_on (event.Stage reference) may admits =
+      passing shift net front plans behind one other agree (event.Stage reference)
+      (names_some (setting_over net plans) (steps_of other) (event.Stage reference) admits) admits refl refl
+  goes_on (event.MendDevice reference d) may admits =
+      passing shift net front plans behind one other agree (event.MendDevice reference d)
+      (names_some (setting_over net plans) (steps_of other) (event.MendDevice reference d) admits) admits refl refl
+  goes_on (event.MendLink reference link) may admits =
+      passing shift net front plans behind one other agree (event.MendLink reference link)
+      (names_some (setting_over net plans) (steps_of other) (event.MendLink reference link) admits) admits refl refl
+  goes_on (event.End reference) may admits =
+      passing shift net front plans behind one other agree (event.End reference)
+      (names_some (setting_over net plans) (steps_of other) (event.End reference) admits) admits refl refl

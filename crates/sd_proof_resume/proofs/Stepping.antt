@@ -14,10 +14,11 @@ use Rattle.sd_history.specs.World.{Setting, setting_over, Seen, makes, is_up, wi
 use Rattle.sd_history.specs.Steps.{Told, Step, seen_of, changed, has_settled, flights_of, act_by, can_close, taken_by, acted_by, epoch_in, first_step, has_turned, activated_by, complete, step_of}
 use Rattle.sd_proof_resume.specs.Shifts.{Shift, raised_epoch, raised_flight, raised_event, raised_seen}
 use Rattle.sd_proof_resume.specs.Agreement.{raised_told, raised_act, StepsAgree}
+use Rattle.sd_proof_resume.specs.Law.{whole, NamesSome}
 use Rattle.sd_proof_resume.proofs.Words.{EventWords, words_of, same_words}
-use Rattle.sd_proof_resume.proofs.Plans.{whole, staged_raised, staged_same, open_same, commit_same}
+use Rattle.sd_proof_resume.proofs.Plans.{staged_raised, staged_same, open_same, commit_same}
 use Rattle.sd_proof_resume.proofs.Steps.{StepAgrees, steps_agree_after}
-use Rattle.sd_proof_resume.proofs.Acts.{NamesSome, all_same, filter_same, reaching_raised, act_same, taken_same, acted_same, flights_of_raised, epoch_of_same, settled_same}
+use Rattle.sd_proof_resume.proofs.Acts.{all_same, filter_same, reaching_raised, act_same, taken_same, acted_same, flights_of_raised, epoch_of_same, settled_same}
 
 -- an event that makes a device changes it
 pub makes_changes : (setting : Setting) (steps : List Step) (e : Event) (d : ℕ) → makes d e ≡ true → same_number (changed (act_by setting steps e)) d ≡ true

@@ -3,3 +3,4 @@ pub mod Shifts
 pub mod Likeness
 pub mod Views
 pub mod Agreement
+pub mod Law

@@ -1,0 +1,57 @@
+-- The law: what holds of every later event where two histories agree.
+use Rattle.std.specs.Prelude.{◌≡◌, ℕ, ◌+◌, ◌≤◌, List, [], ◌∷◌, ◌++◌, length, map, Some}
+use Rattle.sd_history.specs.Sched.Num.Lists.{map_or}
+use Rattle.sd_history.specs.Core.Topo.Network.{Network}
+use Rattle.sd_history.specs.Core.Plan.declared.Plan.{Plan}
+use Rattle.sd_history.specs.Core.declared.registers.Registers.{Registers}
+use Rattle.sd_history.specs.Core.contracts.device.DeviceNode.TheImpl.{ghosts}
+use Rattle.sd_history.specs.Sched.declared.Event.{Event}
+use Rattle.sd_history.specs.Sched.Events.{reference_of, message_of}
+use Rattle.sd_history.specs.World.{Setting, setting_over}
+use Rattle.sd_history.specs.Steps.{Step, events_of}
+use Rattle.sd_history.specs.Chronicle.{chronicle}
+use Rattle.sd_history.specs.Nodes.{NodeStep, steps_of}
+use Rattle.sd_history.specs.Admitted.{IsAdmitted, IsAdmittedRun}
+use Rattle.sd_history.specs.Lines.{Line, first_on_loop, roots, asked_report, loop_lines, root_lines, report_lines}
+use Rattle.sd_proof_resume.specs.Shifts.{Shift, raised_event}
+use Rattle.sd_proof_resume.specs.Agreement.{MayFollow, Agree}
+
+-- the setting of the first, whose plans begin with some more than those of the second
+abbrev pub whole : Network → (front plans : List Plan) → Setting
+whole net front plans = setting_over net (front ++ plans)
+
+-- the event names no message with the number 0, which no message has
+abbrev pub NamesSome : Event → Type 0
+NamesSome e = (n : ℕ) → message_of e ≡ Some n → 1 ≤ n
+
+-- the alarms and the report of the latest event: all of its lines but those that name a broken premise
+abbrev pub alarms_and_report : Setting → List Step → List Line
+alarms_and_report setting [] = []
+alarms_and_report setting (s ∷ earlier) =
+    loop_lines (first_on_loop setting earlier) (first_on_loop setting (s ∷ earlier))
+    ++ root_lines (roots setting earlier) (roots setting (s ∷ earlier))
+    ++ map_or (asked_report s) [] (report_lines (reference_of s.seen.event))
+
+-- Two histories agree, of any length: runs of devices that have these events do. The second leaves out the plans at the front.
+pub record HistoriesAgree (shift : Shift) (net : Network) (front plans : List Plan) (one other : List Event) : Type 0 where
+  pub behind : shift.plans ≡ length front
+  pub first : List (NodeStep Registers)
+  pub second : List (NodeStep Registers)
+  pub first_runs : IsAdmittedRun ghosts (whole net front plans) first
+  pub second_runs : IsAdmittedRun ghosts (setting_over net plans) second
+  pub first_happened : events_of (steps_of first) ≡ one
+  pub second_happened : events_of (steps_of second) ≡ other
+  pub agree : Agree shift first second
+
+-- each of the later events, the newest first, may come behind both, after those before it
+abbrev pub AllMayFollow : Setting → (other later : List Event) → Type 0
+AllMayFollow part other [] = Unit {0}
+AllMayFollow part other (e ∷ later) = AllMayFollow part other later × NamesSome e × MayFollow (chronicle part (later ++ other)) e
+
+-- each later event has the same alarms and report behind both
+abbrev pub SaysAlike : Shift → (whole part : Setting) → (one other later : List Event) → Type 0
+SaysAlike shift whole part one other [] = Unit {0}
+SaysAlike shift whole part one other (e ∷ later) =
+    SaysAlike shift whole part one other later
+    × (alarms_and_report whole (chronicle whole (raised_event shift e ∷ (map (raised_event shift) later ++ one)))
+    ≡ alarms_and_report part (chronicle part (e ∷ (later ++ other))))
