@@ -11,3 +11,4 @@ pub mod Accepted
 pub mod Running
 pub mod Lines
 pub mod Laws
+pub mod Judging

@@ -4,7 +4,7 @@ use Rattle.std.proofs.Common.{ap}
 use Rattle.sd_history.specs.Core.Topo.declared.Thing.{Thing}
 use Rattle.sd_history.specs.Sched.declared.Event.{Event}
 use Rattle.sd_history.specs.Sched.declared.Event.TheVariants as event
-use Rattle.sd_history.specs.Sched.Events.{reference_of, device_of, counter_of, link_of, message_of, received, started, joined, given, is_stage, is_commit, is_seal, is_end_event}
+use Rattle.sd_history.specs.Sched.Events.{reference_of, device_of, counter_of, link_of, message_of, received, started, joined, given, ticked, is_stage, is_commit, is_seal, is_end_event}
 use Rattle.sd_history.specs.Things.{failure_of, mended}
 use Rattle.sd_proof_resume.specs.Shifts.{Shift, raised_event}
 
@@ -17,6 +17,7 @@ pub record EventWords : Type 0 where
   pub started : Option ℕ
   pub joined : Option ℕ
   pub given : Option ℕ
+  pub ticked : Option ℕ
   pub is_stage : Bool
   pub is_commit : Bool
   pub is_seal : Bool
@@ -34,6 +35,7 @@ words_of e =
       started = started e;
       joined = joined e;
       given = given e;
+      ticked = ticked e;
       is_stage = is_stage e;
       is_commit = is_commit e;
       is_seal = is_seal e;

@@ -4,3 +4,4 @@ pub mod Likeness
 pub mod Views
 pub mod Agreement
 pub mod Law
+pub mod Premised
