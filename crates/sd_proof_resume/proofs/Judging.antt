@@ -1,6 +1,6 @@
 -- What breaks in the second of two histories that agree breaks in the first, as an event comes and its raised one.
 use Rattle.std.specs.Prelude.{◌≡◌, ℕ, zero, suc, ◌+◌, ◌-◌, ◌≤◌, Bool, true, false, ◌&&◌, ◌||◌, not, List, [], ◌∷◌, ◌++◌, length, map, filter, filter_map, nat_eq, nat_le, nat_lt, Option, Some, None, is_some, option_map, option_to_list, refl, if◌then◌else◌}
-use Rattle.std.specs.List.{list_any, list_all}
+use Rattle.std.specs.List.{list_any, list_all, cons_option}
 use Rattle.std.proofs.Common.{arith, sym, ◌∙◌, ap, subst}
 use Rattle.std.proofs.lemmas.Bool.{and_parts, and_from, leb-true, le-leb}
 use Rattle.std.proofs.lemmas.List.Folds.{list_all-append}
@@ -26,7 +26,9 @@ use Rattle.sd_proof_resume.specs.Law.{whole}
 use Rattle.sd_proof_resume.specs.Premised.{PremisesAgree}
 use Rattle.sd_proof_resume.proofs.Words.{EventWords, words_of, same_words}
 use Rattle.sd_proof_resume.proofs.Plans.{in_force_same, staged_same, staged_member_same, open_same, in_window_same, commit_same, joined_same}
+use Rattle.sd_proof_resume.proofs.Views.{told, reading_by, made_reads}
 use Rattle.sd_proof_resume.proofs.Acts.{all_same}
+use Rattle.sd_history.proofs.Known.{up_case}
 
 and_on : (a b c d : Bool) → (a ≡ true → b ≡ true) → (c ≡ true → d ≡ true) → (a && c) ≡ true → (b && d) ≡ true
 and_on a b c d first second both = let parts : (a ≡ true) × (c ≡ true) = and_parts a c both in and_from b d (first parts.0) (second parts.1)
@@ -203,3 +205,226 @@ module _ (shift : Shift) (net : Network) (front plans : List Plan) (behind : shi
   current_alike d =
       ap (λ p. is_member p d || is_staged_member (whole net front plans) one d) (in_force_same shift net front plans behind one other h)
       ∙ ap (λ b. is_member (in_force (setting_over net plans) other) d || b) (staged_member_same shift net front plans behind one other h d)
+
+-- Words of an event, as the premises read them
+
+abbrev is_made_by : EventWords → ℕ → Bool
+is_made_by w d = same_number w.started d || same_number w.joined d
+
+abbrev honest_by : Network → EventWords → List Seen → Bool
+honest_by net w earlier =
+    map_or w.device true (λ d.
+    map_or w.counter true (λ c. is_made_by w d || list_all (keeps_reading (rates_of net d) (w.reference, c)) (readings earlier d)))
+
+abbrev here_by : EventWords → List (ℕ × ℕ)
+here_by w = option_to_list (option_map (λ c. (w.reference, c)) w.counter)
+
+abbrev readings_by : EventWords → ℕ → List (ℕ × ℕ) → List (ℕ × ℕ)
+readings_by w d old = if same_number w.device d then (if is_made_by w d then here_by w else here_by w ++ old) else old
+
+abbrev tick_by : EventWords → ℕ → Option ℕ
+tick_by w d = if same_number w.ticked d || is_made_by w d then Some w.reference else None
+
+abbrev untouched_by : EventWords → ℕ → (made failed : Bool) → Bool
+untouched_by w d made failed = not (is_made_by w d || made) && not (is_thing w.failure (thing.Device d) || failed)
+
+last_on : (a b c d d' : Bool) → (d ≡ true → d' ≡ true) → (a && b && c && d) ≡ true → (a && b && c && d') ≡ true
+last_on true true true d d' on is = on is
+last_on true true false d d' on is = cc
+last_on true false c d d' on is = cc
+last_on false b c d d' on is = cc
+
+later_tick : (reference one other q : ℕ) → one ≤ other → nat_le reference (one + q) ≡ true → nat_le reference (other + q) ≡ true
+later_tick reference one other q le due = let h : reference ≤ one + q = leb-true reference (one + q) due in le-leb reference (other + q) (omega (arith, le, h))
+
+module _ (shift : Shift) (net : Network) (front plans : List Plan) (behind : shift.plans ≡ length front) (one other : List Seen) (h : LooksAlike shift one other)
+    (agree : PremisesAgree (whole net front plans) (setting_over net plans) one other) (s : Seen) (no_start : started s.event ≡ None)
+    (there : (d c : ℕ) → device_of s.event ≡ Some d → counter_of s.event ≡ Some c → makes d s.event ≡ false → is_up other d ≡ true) where
+  words : words_of (raised_event shift s.event) ≡ words_of s.event
+  words = same_words shift s.event
+
+  -- a device that is up with this event and was not made by it was up before
+  was_up : (d : ℕ) → is_up (s ∷ other) d ≡ true → makes d s.event ≡ false → is_up other d ≡ true
+  was_up d up unmade = up_case (makes d s.event) (fails (thing.Device d) s.event) (is_up other d) up unmade
+
+  reads_on : reads_honestly (whole net front plans) (raised_seen shift s) one ≡ true → reads_honestly (setting_over net plans) s other ≡ true
+  reads_on is = go (device_of s.event) (counter_of s.event) refl refl (by_equal _ _ (ap (λ w. honest_by net w one) words) is)
+    where
+      by : (d c : ℕ) (m : Bool) → makes d s.event ≡ m → device_of s.event ≡ Some d → counter_of s.event ≡ Some c
+          → (m || list_all (keeps_reading (rates_of net d) (reference_of s.event, c)) (readings one d)) ≡ true
+          → (m || list_all (keeps_reading (rates_of net d) (reference_of s.event, c)) (readings other d)) ≡ true
+      by d c true made named reads is' = refl
+      by d c false made named reads is' = agree.readings d (keeps_reading (rates_of net d) (reference_of s.event, c)) (there d c named reads made) is'
+      go : (o k : Option ℕ) → device_of s.event ≡ o → counter_of s.event ≡ k
+          → map_or o true (λ d. map_or k true (λ c. makes d s.event || list_all (keeps_reading (rates_of net d) (reference_of s.event, c)) (readings one d))) ≡ true
+          → map_or o true (λ d. map_or k true (λ c. makes d s.event || list_all (keeps_reading (rates_of net d) (reference_of s.event, c)) (readings other d))) ≡ true
+      go None k named reads is' = refl
+      go (Some d) None named reads is' = refl
+      go (Some d) (Some c) named reads is' = by d c (makes d s.event) refl named reads is'
+
+  arrives_alike : arrives_in_time (whole net front plans) (raised_seen shift s) ≡ arrives_in_time (setting_over net plans) s
+  arrives_alike = ap (λ w. map_or (option_map (raised_flight shift) s.taken) true (is_in_time (whole net front plans) w.reference)) words ∙ go s.taken
+    where
+      go : (o : Option Flight) → map_or (option_map (raised_flight shift) o) true (is_in_time (whole net front plans) (reference_of s.event))
+          ≡ map_or o true (is_in_time (setting_over net plans) (reference_of s.event))
+      go None = refl
+      go (Some f) = refl
+
+  ticks_on : ticks_in_time (whole net front plans) (raised_seen shift s) one ≡ true → ticks_in_time (setting_over net plans) s other ≡ true
+  ticks_on is =
+      and_from _ _
+      (all_on (λ d. not (is_up one d && is_current_member (whole net front plans) one d)
+      || nat_le (reference_of (raised_event shift s.event)) (latest_tick one d + net.params.tick))
+      (λ d. not (is_up other d && is_current_member (setting_over net plans) other d) || nat_le (reference_of s.event) (latest_tick other d + net.params.tick))
+      (λ d due. on d (is_up other d) (is_current_member (setting_over net plans) other d) refl
+      (by_equal _ _
+      (ap (λ w. not (is_up one d && is_current_member (whole net front plans) one d) || nat_le w.reference (latest_tick one d + net.params.tick)) words
+      ∙ ap (λ b. not (b && is_current_member (whole net front plans) one d) || nat_le (reference_of s.event) (latest_tick one d + net.params.tick)) (h.up d)
+      ∙ ap (λ b. not (is_up other d && b) || nat_le (reference_of s.event) (latest_tick one d + net.params.tick)) (current_alike shift net front plans behind one other h d))
+      due))
+      (device_numbers net)
+      (and_parts _ _ is).0)
+      (all_on (λ d. not (is_untouched other d)) (λ d. not (is_untouched other d) || nat_le (reference_of s.event) (first_reference other s + net.params.tick))
+      (λ d touched. either (not (is_untouched other d)) (nat_le (reference_of s.event) (first_reference other s + net.params.tick)) touched)
+      (members net (plan_numbered (setting_over net plans) 1)) agree.members)
+    where
+      either : (a b : Bool) → a ≡ true → (a || b) ≡ true
+      either true b is' = refl
+      either false b is' = cc
+      on : (d : ℕ) (up current : Bool) → is_up other d ≡ up
+          → (not (up && current) || nat_le (reference_of s.event) (latest_tick one d + net.params.tick)) ≡ true
+          → (not (up && current) || nat_le (reference_of s.event) (latest_tick other d + net.params.tick)) ≡ true
+      on d false current up' due = refl
+      on d true false up' due = refl
+      on d true true up' due = later_tick (reference_of s.event) (latest_tick one d) (latest_tick other d) net.params.tick (agree.ticks d up') due
+
+  fails_within_alike : fails_within_one (whole net front plans) (raised_seen shift s) one ≡ fails_within_one (setting_over net plans) s other
+  fails_within_alike =
+      ap (λ w. is_some (within_one net (option_to_list w.failure ++ failures_since_closing one))) words
+      ∙ ap (λ xs. is_some (within_one net (option_to_list (failure_of s.event) ++ xs))) agree.failures
+
+  begins_on : begins_orderly (whole net front plans) (raised_seen shift s) one ≡ true → begins_orderly (setting_over net plans) s other ≡ true
+  begins_on is =
+      by_equal (map_or (joined s.event) true (λ d. not (is_member (in_force (setting_over net plans) other) d && is_untouched other d)))
+      (begins_orderly (setting_over net plans) s other)
+      (ap (λ o. not (is_some o && list_any (λ x. is_stage x.event) other)
+      && map_or (joined s.event) true (λ d. not (is_member (in_force (setting_over net plans) other) d && is_untouched other d))) (sym no_start))
+      (go (joined s.event)
+      (by_equal _ _
+      (ap (λ w. map_or w.joined true (λ d. not (is_member (in_force (whole net front plans) one) d && is_untouched one d))) words
+      ∙ ap (λ p. map_or (joined s.event) true (λ d. not (is_member p d && is_untouched one d))) (in_force_same shift net front plans behind one other h))
+      (and_parts _ _ is).1))
+    where
+      by : (d : ℕ) (m now before : Bool) → (now ≡ true → before ≡ true) → not (m && before) ≡ true → not (m && now) ≡ true
+      by d false now before on is' = refl
+      by d true false before on is' = refl
+      by d true true before on is' = let yes : before ≡ true = on refl in let no : not before ≡ true = is' in absurd (both before yes no)
+        where
+          both : (b : Bool) → b ≡ true → not b ≡ true → ⊥
+          both true x y = cc
+          both false x y = cc
+      go : (o : Option ℕ) → map_or o true (λ d. not (is_member (in_force (setting_over net plans) other) d && is_untouched one d)) ≡ true
+          → map_or o true (λ d. not (is_member (in_force (setting_over net plans) other) d && is_untouched other d)) ≡ true
+      go None is' = refl
+      go (Some d) is' = by d (is_member (in_force (setting_over net plans) other) d) (is_untouched other d) (is_untouched one d) (agree.untouched d) is'
+
+  renews_on : (commits_orderly (whole net front plans) (raised_seen shift s) one && seals_orderly (whole net front plans) (raised_seen shift s) one
+      && fails_orderly (raised_seen shift s) one && begins_orderly (whole net front plans) (raised_seen shift s) one) ≡ true
+      → (commits_orderly (setting_over net plans) s other && seals_orderly (setting_over net plans) s other && fails_orderly s other
+      && begins_orderly (setting_over net plans) s other) ≡ true
+  renews_on is =
+      last_on (commits_orderly (setting_over net plans) s other) (seals_orderly (setting_over net plans) s other) (fails_orderly s other)
+      (begins_orderly (whole net front plans) (raised_seen shift s) one) (begins_orderly (setting_over net plans) s other) begins_on
+      (by_equal _ _
+      (three (commits_orderly (whole net front plans) (raised_seen shift s) one) (commits_orderly (setting_over net plans) s other)
+      (seals_orderly (whole net front plans) (raised_seen shift s) one) (seals_orderly (setting_over net plans) s other)
+      (fails_orderly (raised_seen shift s) one) (fails_orderly s other) (begins_orderly (whole net front plans) (raised_seen shift s) one)
+      (commits_alike shift net front plans behind one other h s) (seals_alike shift net front plans behind one other h s) (fails_alike shift net front plans behind one other h s))
+      is)
+    where
+      three : (a a' b b' c c' d : Bool) → a ≡ a' → b ≡ b' → c ≡ c' → (a && b && c && d) ≡ (a' && b' && c' && d)
+      three a a' b b' c c' d first second third = rw (first, second, third) refl
+
+  -- what is kept
+
+  readings_on : (d : ℕ) (test : ℕ × ℕ → Bool) → is_up (s ∷ other) d ≡ true → list_all test (readings (raised_seen shift s ∷ one) d) ≡ true
+      → list_all test (readings (s ∷ other) d) ≡ true
+  readings_on d test up all =
+      go (same_number (device_of s.event) d) (makes d s.event) refl refl (by_equal _ _ (ap (λ w. list_all test (readings_by w d (readings one d))) words) all)
+    where
+      both : (xs ys zs : List (ℕ × ℕ)) → (list_all test ys ≡ true → list_all test zs ≡ true) → list_all test (xs ++ ys) ≡ true → list_all test (xs ++ zs) ≡ true
+      both xs ys zs on is = by_equal _ _ (sym (list_all-append test xs zs))
+          (and_on (list_all test xs) (list_all test xs) (list_all test ys) (list_all test zs) (λ x. x) on (by_equal _ _ (list_all-append test xs ys) is))
+      unmade : (m : Bool) → makes d s.event ≡ m → same_number (device_of s.event) d ≡ false → makes d s.event ≡ false
+      unmade false made apart = made
+      unmade true made apart =
+          let reads : (c : ℕ) × (reading_by (words_of s.event) d ≡ Some c) = made_reads s.event d made in
+          let none : reading_by (words_of s.event) d ≡ None = ap (λ b. if b then counter_of s.event else None) apart in
+          let no : None ≡ Some reads.0 = sym none ∙ reads.1 in
+          cc
+      go : (b m : Bool) → same_number (device_of s.event) d ≡ b → makes d s.event ≡ m
+          → list_all test (if b then (if m then here_by (words_of s.event) else here_by (words_of s.event) ++ readings one d) else readings one d) ≡ true
+          → list_all test (if b then (if m then here_by (words_of s.event) else here_by (words_of s.event) ++ readings other d) else readings other d) ≡ true
+      go true true named made is = is
+      go true false named made is = both (here_by (words_of s.event)) (readings one d) (readings other d) (agree.readings d test (was_up d up made)) is
+      go false m named made is = agree.readings d test (was_up d up (unmade (makes d s.event) refl named)) is
+
+  ticks_kept : (d : ℕ) → is_up (s ∷ other) d ≡ true → latest_tick (raised_seen shift s ∷ one) d ≤ latest_tick (s ∷ other) d
+  ticks_kept d up =
+      subst (λ n. n ≤ latest_tick (s ∷ other) d) (sym (ap (λ w. told (tick_by w d) (latest_tick one d)) words))
+      (go (same_number (ticked s.event) d) (makes d s.event) refl)
+    where
+      go : (t m : Bool) → makes d s.event ≡ m
+          → told (if t || m then Some (reference_of s.event) else None) (latest_tick one d) ≤ told (if t || m then Some (reference_of s.event) else None) (latest_tick other d)
+      go true m made = omega arith
+      go false true made = omega arith
+      go false false made = agree.ticks d (was_up d up made)
+
+  members_kept : list_all (λ d. not (is_untouched (s ∷ other) d)) (members net (plan_numbered (setting_over net plans) 1)) ≡ true
+  members_kept =
+      all_on (λ d. not (is_untouched other d)) (λ d. not (is_untouched (s ∷ other) d))
+      (λ d touched. go (makes d s.event) (fails (thing.Device d) s.event) (was_made other d) (has_ever_failed other d) touched)
+      (members net (plan_numbered (setting_over net plans) 1)) agree.members
+    where
+      go : (m k w f : Bool) → not (not w && not f) ≡ true → not (not (m || w) && not (k || f)) ≡ true
+      go true k w f is = refl
+      go false true true f is = refl
+      go false true false f is = refl
+      go false false w f is = is
+
+  untouched_kept : (d : ℕ) → is_untouched (s ∷ other) d ≡ true → is_untouched (raised_seen shift s ∷ one) d ≡ true
+  untouched_kept d is =
+      by_equal _ _ (sym (ap (λ w. untouched_by w d (was_made one d) (has_ever_failed one d)) words))
+      (go (makes d s.event) (fails (thing.Device d) s.event) (was_made other d) (has_ever_failed other d) (was_made one d) (has_ever_failed one d) (agree.untouched d) is)
+    where
+      go : (m k w f w' f' : Bool) → ((not w && not f) ≡ true → (not w' && not f') ≡ true) → (not (m || w) && not (k || f)) ≡ true → (not (m || w') && not (k || f')) ≡ true
+      go true k w f w' f' on is' = cc
+      go false true true f w' f' on is' = cc
+      go false true false f w' f' on is' = cc
+      go false false w f w' f' on is' = on is'
+
+  failures_kept : failures_since_closing (raised_seen shift s ∷ one) ≡ failures_since_closing (s ∷ other)
+  failures_kept = go s.closed
+    where
+      go : (c : Bool)
+          → filter_map (λ (x : Seen). failure_of x.event) (if not c then raised_seen shift s ∷ leading (λ x. not x.closed) one else [])
+          ≡ filter_map (λ (x : Seen). failure_of x.event) (if not c then s ∷ leading (λ x. not x.closed) other else [])
+      go true = refl
+      go false = ap (λ w. cons_option w.failure (failures_since_closing one)) words ∙ ap (cons_option (failure_of s.event)) agree.failures
+
+  -- With the event, each premise that holds of the first holds of the second.
+  pub premises_agree_after : PremisesAgree (whole net front plans) (setting_over net plans) (raised_seen shift s ∷ one) (s ∷ other)
+  premises_agree_after =
+      record {
+        start = and_on _ _ _ _ (by_equal _ _ (clock_same shift s.event)) agree.start;
+        drift = and_on _ _ _ _ agree.drift reads_on;
+        delay = and_on _ _ _ _ (by_equal _ _ arrives_alike) agree.delay;
+        tick = and_on _ _ _ _ agree.tick ticks_on;
+        domain = and_on _ _ _ _ agree.domain (by_equal _ _ fails_within_alike);
+        renew = and_on _ _ _ _ agree.renew renews_on;
+        readings = readings_on;
+        ticks = ticks_kept;
+        members = members_kept;
+        untouched = untouched_kept;
+        failures = failures_kept;
+      }

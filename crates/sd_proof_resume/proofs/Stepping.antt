@@ -122,7 +122,7 @@ module _ (shift : Shift) (net : Network) (front plans : List Plan) (behind : shi
         go None = refl
         go (Some d) = ap (λ b. if b then Some d else None) (turned_same d)
 
-    step_agrees : StepAgrees shift (step_of (whole net front plans) one (raised_event shift e) (raised_told shift told)) (step_of (setting_over net plans) other e told)
+    pub step_agrees : StepAgrees shift (step_of (whole net front plans) one (raised_event shift e) (raised_told shift told)) (step_of (setting_over net plans) other e told)
     step_agrees =
         record {
           seen =

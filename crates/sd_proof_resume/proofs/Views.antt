@@ -16,11 +16,11 @@ use Rattle.sd_proof_resume.specs.Views.{LooksAlike}
 use Rattle.sd_proof_resume.proofs.Words.{EventWords, words_of, same_words}
 
 -- the latest answer of a test, where an element comes
-abbrev told : {A : Type 0} → Option A → A → A
+abbrev pub told : {A : Type 0} → Option A → A → A
 told answer before = map_or answer before (λ x. x)
 
 -- what the device read at an event
-abbrev reading_by : EventWords → ℕ → Option ℕ
+abbrev pub reading_by : EventWords → ℕ → Option ℕ
 reading_by w d = if same_number w.device d then w.counter else None
 
 abbrev up_by : EventWords → ℕ → Option Bool
@@ -33,7 +33,7 @@ abbrev failed_by : EventWords → Thing → Option Bool
 failed_by w x = if is_thing w.failure x then Some true else if is_thing w.mended x then Some false else None
 
 -- a start and a join are readings
-made_reads : (e : Event) (d : ℕ) → makes d e ≡ true → (c : ℕ) × (reading_by (words_of e) d ≡ Some c)
+pub made_reads : (e : Event) (d : ℕ) → makes d e ≡ true → (c : ℕ) × (reading_by (words_of e) d ≡ Some c)
 made_reads (event.Start reference device counter clock eps) d made = go (nat_eq device d) made
   where
     go : (b : Bool) → (b || false) ≡ true → (c : ℕ) × ((if b then Some counter else None) ≡ Some c)
