@@ -1,19 +1,30 @@
 -- The law of two histories that agree: behind both the rules admit the same events, with the same alarms and reports, and both go on agreeing.
-use Rattle.std.specs.Prelude.{◌≡◌, ℕ, true, List, [], ◌∷◌, ◌++◌, length, map, refl}
+use Rattle.std.specs.Prelude.{◌≡◌, ℕ, Bool, true, false, ◌||◌, not, nat_eq, Some, List, [], ◌∷◌, ◌++◌, length, map, refl}
 use Rattle.std.proofs.Common.{sym, ◌∙◌, ap, subst}
 use Rattle.sd_history.specs.Core.Topo.Network.{Network}
 use Rattle.sd_history.specs.Core.Plan.declared.Plan.{Plan}
 use Rattle.sd_history.specs.Core.declared.registers.Registers.{Registers}
 use Rattle.sd_history.specs.Sched.declared.Event.{Event}
-use Rattle.sd_history.specs.World.{Setting, setting_over, Seen}
-use Rattle.sd_history.specs.Steps.{Step, events_of, step_of}
-use Rattle.sd_history.specs.Chronicle.{chronicle}
+use Rattle.std.proofs.lemmas.Bool.{eq-eqb}
+use Rattle.sd_history.specs.Sched.declared.Event.TheVariants as event
+use Rattle.sd_history.specs.Sched.Events.{device_of, counter_of}
+use Rattle.sd_history.specs.World.{Setting, setting_over, Seen, makes, is_up}
+use Rattle.sd_history.specs.Steps.{Step, seen_of, events_of, step_of}
+use Rattle.sd_history.specs.Refusals.{not_started}
+use Rattle.sd_history.specs.Chronicle.{next_step, chronicle}
 use Rattle.sd_history.specs.Nodes.{NodeStep, steps_of}
 use Rattle.sd_history.specs.Admitted.{Admits, IsAdmitted, IsAdmittedRun}
+use Rattle.sd_history.proofs.Among.{first as first_, later as later_}
+use Rattle.sd_history.proofs.Admitted.{rule_holds}
+use Rattle.sd_history.proofs.Given.{some_is}
 use Rattle.sd_history.proofs.Devices.{device, admitted_devices_run, admitted_devices_have_history}
-use Rattle.sd_proof_resume.specs.Shifts.{Shift, raised_event}
+use Rattle.sd_proof_resume.specs.Shifts.{Shift, raised_event, raised_seen}
 use Rattle.sd_proof_resume.specs.Agreement.{raised_told, MayFollow, Agree}
 use Rattle.sd_proof_resume.specs.Law.{whole, NamesSome, alarms_and_report, HistoriesAgree, AllMayFollow, SaysAlike}
+use Rattle.sd_proof_resume.specs.Views.{LooksAlike}
+use Rattle.sd_proof_resume.specs.Premised.{PremisesAgree}
+use Rattle.sd_proof_resume.proofs.Stepping.{step_agrees}
+use Rattle.sd_proof_resume.proofs.Judging.{premises_agree_after}
 use Rattle.sd_proof_resume.proofs.Accepted.{admitted_same}
 use Rattle.sd_proof_resume.proofs.Lines.{lines_same}
 use Rattle.sd_proof_resume.proofs.Running.{GoesOn, goes_on}
@@ -23,12 +34,43 @@ run_is : (setting : Setting) (run : List (NodeStep Registers)) (events : List Ev
     → steps_of run ≡ chronicle setting events
 run_is setting run events runs happened = admitted_devices_run setting run runs ∙ ap (chronicle setting) happened
 
+-- the first step, else another
+abbrev first_of : Step → List Step → Step
+first_of other [] = other
+first_of other (s ∷ steps) = s
+
+-- an accepted reading is of a device that is up, or that it makes
+up_at_reading : (seen : List Seen) (e : Event) (d c : ℕ) → not_started seen e ≡ false → device_of e ≡ Some d → counter_of e ≡ Some c → makes d e ≡ false
+    → is_up seen d ≡ true
+up_at_reading seen e d c rule named reads unmade = go e rule named reads unmade
+  where
+    up : (m : ℕ) (b : Bool) → is_up seen m ≡ b → not b ≡ false → Some m ≡ Some d → is_up seen d ≡ true
+    up m true is rest same = subst (λ x. is_up seen x ≡ true) (some_is same) is
+    up m false is rest same = cc
+    made : (m : ℕ) → Some m ≡ Some d → nat_eq m d ≡ true
+    made m same = eq-eqb m d (some_is same)
+    both : (b : Bool) → b ≡ true → (b || false) ≡ false → is_up seen d ≡ true
+    both true made_ unmade_ = cc
+    both false made_ unmade_ = cc
+    go : (e : Event) → not_started seen e ≡ false → device_of e ≡ Some d → counter_of e ≡ Some c → makes d e ≡ false → is_up seen d ≡ true
+    go (event.Start reference m counter clock eps) rule' named' reads' unmade' = both (nat_eq m d) (made m named') unmade'
+    go (event.Join reference m counter clock eps) rule' named' reads' unmade' =
+        let made_ : nat_eq m d ≡ true = made m named' in let unmade_ : nat_eq m d ≡ false = unmade' in cc
+    go (event.Tick reference m counter) rule' named' reads' unmade' = up m (is_up seen m) refl rule' named'
+    go (event.Recv reference m counter message) rule' named' reads' unmade' = up m (is_up seen m) refl rule' named'
+    go (event.Fix reference m counter clock eps) rule' named' reads' unmade' = up m (is_up seen m) refl rule' named'
+    go (event.Ask reference m counter) rule' named' reads' unmade' = up m (is_up seen m) refl rule' named'
+    go (event.Commit reference m counter) rule' named' reads' unmade' = up m (is_up seen m) refl rule' named'
+    go _ rule' named' reads' unmade' = cc
+
 module _ (shift : Shift) (net : Network) (front plans : List Plan) where
   -- what one event does
   pub record OneMore (one other : List Event) (e : Event) : Type 0 where
     pub agree : HistoriesAgree shift net front plans (raised_event shift e ∷ one) (e ∷ other)
     pub says : alarms_and_report (whole net front plans) (chronicle (whole net front plans) (raised_event shift e ∷ one))
         ≡ alarms_and_report (setting_over net plans) (chronicle (setting_over net plans) (e ∷ other))
+    pub seen : (next_step (whole net front plans) (chronicle (whole net front plans) one) (raised_event shift e)).seen
+        ≡ raised_seen shift (next_step (setting_over net plans) (chronicle (setting_over net plans) other) e).seen
 
   one_more : (one other : List Event) (e : Event) → HistoriesAgree shift net front plans one other → NamesSome e
       → MayFollow (chronicle (setting_over net plans) other) e
@@ -52,6 +94,13 @@ module _ (shift : Shift) (net : Network) (front plans : List Plan) where
             ∙ ap (alarms_and_report (setting_over net plans))
             (ap (λ s. s ∷ steps_of h.second) (sym on.second_is)
             ∙ run_is (setting_over net plans) (on.second ∷ h.second) (e ∷ other) second_runs second_happened);
+        seen =
+            ap (λ (s : Step). s.seen)
+            (sym (ap (first_of on.first.step) (run_is (whole net front plans) (on.first ∷ h.first) (raised_event shift e ∷ one) first_runs first_happened)) ∙ on.first_is)
+            ∙ (step_agrees shift net front plans h.behind (steps_of h.first) (steps_of h.second) h.agree.steps e some on.told).seen
+            ∙ ap (λ (s : Step). raised_seen shift s.seen)
+            (sym on.second_is
+            ∙ ap (first_of on.second.step) (run_is (setting_over net plans) (on.second ∷ h.second) (e ∷ other) second_runs second_happened));
       }
     where
       is : chronicle (setting_over net plans) other ≡ steps_of h.second
@@ -126,3 +175,34 @@ module _ (shift : Shift) (net : Network) (front plans : List Plan) where
       subst (λ s. Admits (setting_over net plans) s e) (sym second_is)
       (sym (admitted_same shift net front plans on.agree.behind (steps_of on.agree.first) (steps_of on.agree.second) on.agree.agree.steps e may.1 may.2.start)
       ∙ subst (λ s. Admits (whole net front plans) s (raised_event shift e)) first_is is.1))
+
+  -- What breaks behind the second breaks behind the first, of the premises but loss.
+  pub breaks_in_both : (one other : List Event) → HistoriesAgree shift net front plans one other
+      → PremisesAgree (whole net front plans) (setting_over net plans) (seen_of (chronicle (whole net front plans) one))
+      (seen_of (chronicle (setting_over net plans) other))
+      → (later : List Event) → AllMayFollow (setting_over net plans) other later → IsAdmitted (setting_over net plans) (later ++ other)
+      → PremisesAgree (whole net front plans) (setting_over net plans)
+      (seen_of (chronicle (whole net front plans) (map (raised_event shift) later ++ one))) (seen_of (chronicle (setting_over net plans) (later ++ other)))
+  breaks_in_both one other h premises [] may is = premises
+  breaks_in_both one other h premises (e ∷ later) may is =
+      let steps_one : List Step = chronicle (whole net front plans) (map (raised_event shift) later ++ one) in
+      let steps_other : List Step = chronicle (setting_over net plans) (later ++ other) in
+      let before : PremisesAgree (whole net front plans) (setting_over net plans) (seen_of steps_one) (seen_of steps_other) =
+      breaks_in_both one other h premises later may.0 is.0 in
+      let on : GoOn one other later = resumed one other h later may.0 is.0 in
+      let now : OneMore (map (raised_event shift) later ++ one) (later ++ other) e =
+      one_more (map (raised_event shift) later ++ one) (later ++ other) e on.agree may.1 may.2 is.1 in
+      let first_is : steps_of on.agree.first ≡ steps_one =
+      run_is (whole net front plans) on.agree.first (map (raised_event shift) later ++ one) on.agree.first_runs on.agree.first_happened in
+      let second_is : steps_of on.agree.second ≡ steps_other =
+      run_is (setting_over net plans) on.agree.second (later ++ other) on.agree.second_runs on.agree.second_happened in
+      let looks : LooksAlike shift (seen_of steps_one) (seen_of steps_other) =
+      subst (λ s. LooksAlike shift (seen_of s) (seen_of steps_other)) first_is
+      (subst (λ s. LooksAlike shift (seen_of (steps_of on.agree.first)) (seen_of s)) second_is on.agree.agree.steps.seen) in
+      let rule : not_started (seen_of steps_other) e ≡ false =
+      rule_holds (setting_over net plans) steps_other e _ is.1 (later_ (later_ (later_ (later_ (later_ (later_ (later_ (later_ (later_ first_))))))))) refl in
+      subst (λ s. PremisesAgree (whole net front plans) (setting_over net plans) (s ∷ seen_of steps_one)
+      ((next_step (setting_over net plans) steps_other e).seen ∷ seen_of steps_other)) (sym now.seen)
+      (premises_agree_after shift net front plans on.agree.behind (seen_of steps_one) (seen_of steps_other) looks before
+      (next_step (setting_over net plans) steps_other e).seen may.2.start
+      (λ d c named reads unmade. up_at_reading (seen_of steps_other) e d c rule named reads unmade))

@@ -12,3 +12,4 @@ pub mod Running
 pub mod Lines
 pub mod Laws
 pub mod Judging
+pub mod Openings

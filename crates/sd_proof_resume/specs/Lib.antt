@@ -4,4 +4,5 @@ pub mod Likeness
 pub mod Views
 pub mod Agreement
 pub mod Law
+pub mod Cuts
 pub mod Premised
