@@ -33,7 +33,7 @@ use Rattle.sd_history.proofs.Known.{up_case}
 and_on : (a b c d : Bool) → (a ≡ true → b ≡ true) → (c ≡ true → d ≡ true) → (a && c) ≡ true → (b && d) ≡ true
 and_on a b c d first second both = let parts : (a ≡ true) × (c ≡ true) = and_parts a c both in and_from b d (first parts.0) (second parts.1)
 
-all_on : {A : Type 0} (p q : A → Bool) → ((x : A) → p x ≡ true → q x ≡ true) → (xs : List A) → list_all p xs ≡ true → list_all q xs ≡ true
+pub all_on : {A : Type 0} (p q : A → Bool) → ((x : A) → p x ≡ true → q x ≡ true) → (xs : List A) → list_all p xs ≡ true → list_all q xs ≡ true
 all_on p q each [] all = refl
 all_on p q each (x ∷ xs) all = and_on (p x) (q x) (list_all p xs) (list_all q xs) (each x) (all_on p q each xs) all
 

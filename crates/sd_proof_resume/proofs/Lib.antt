@@ -10,6 +10,7 @@ pub mod Stepping
 pub mod Accepted
 pub mod Running
 pub mod Lines
-pub mod Laws
 pub mod Judging
+pub mod Losing
+pub mod Laws
 pub mod Openings

@@ -6,3 +6,4 @@ pub mod Agreement
 pub mod Law
 pub mod Cuts
 pub mod Premised
+pub mod Losses
