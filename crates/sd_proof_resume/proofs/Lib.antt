@@ -14,3 +14,4 @@ pub mod Judging
 pub mod Losing
 pub mod Laws
 pub mod Openings
+pub mod Spent

@@ -62,7 +62,7 @@ among_filter p x [] among pass = elim among [ ]
 among_filter p x (y ∷ xs) first pass = filtered_here p x xs (p x) refl pass
 among_filter p x (y ∷ xs) (later among) pass = filtered_by p x y xs (p y) (among_filter p x xs among pass)
 
-any_by : {A : Type 0} (p : A → Bool) (xs : List A) → list_any p xs ≡ true → (x : A) × Among x xs × (p x ≡ true)
+pub any_by : {A : Type 0} (p : A → Bool) (xs : List A) → list_any p xs ≡ true → (x : A) × Among x xs × (p x ≡ true)
 any_by p [] any = cc
 any_by p (x ∷ xs) any = go (p x) refl any (any_by p xs)
   where

@@ -30,12 +30,12 @@ use Rattle.sd_proof_resume.specs.Cuts.{IsOpening}
 use Rattle.sd_proof_resume.proofs.Running.{answers_alike, answers_are_nodes}
 
 -- the steps of a run of devices
-run_has_steps : (setting : Setting) (run : List (NodeStep Registers)) → IsRun device setting run → AreSteps setting (steps_of run)
+pub run_has_steps : (setting : Setting) (run : List (NodeStep Registers)) → IsRun device setting run → AreSteps setting (steps_of run)
 run_has_steps setting [] is = tt
 run_has_steps setting (x ∷ earlier) is = (run_has_steps setting earlier is.0, is.1, is.2.is)
 
 -- a message that was used was sent
-used_was_sent : (setting : Setting) (steps : List Step) (n : ℕ) → AreSteps setting steps → was_used steps n ≡ true → n ≤ flight_count steps
+pub used_was_sent : (setting : Setting) (steps : List Step) (n : ℕ) → AreSteps setting steps → was_used steps n ≡ true → n ≤ flight_count steps
 used_was_sent setting [] n are used = cc
 used_was_sent setting (s ∷ earlier) n are used =
     go (same_number (message_of s.seen.event) n) refl used (used_was_sent setting earlier n are.0)
@@ -59,7 +59,7 @@ used_was_sent setting (s ∷ earlier) n are used =
         (rule_holds setting earlier s.seen.event _ (accepted_is_admitted setting earlier s.seen.event are.1) (later (later (later (later first)))) refl) same)
     go false other any rest = grows (rest any)
 
-unused : (setting : Setting) (steps : List Step) (n : ℕ) → AreSteps setting steps → flight_count steps < n → was_used steps n ≡ false
+pub unused : (setting : Setting) (steps : List Step) (n : ℕ) → AreSteps setting steps → flight_count steps < n → was_used steps n ≡ false
 unused setting steps n are past =
     false_from_ne_true (was_used steps n) (λ used. never n (flight_count steps) past (used_was_sent setting steps n are used))
   where

@@ -73,11 +73,11 @@ find_passes n (g ∷ fs) f is = go (nat_eq g.number n) refl is (find_passes n fs
     go false other there rest = rest there
 
 -- the step fails the link or the receiver of the flight
-abbrev sweeps : Flight → Step → Bool
+abbrev pub sweeps : Flight → Step → Bool
 sweeps f x = fails (thing.Link f.link) x.seen.event || fails (thing.Device f.receiver) x.seen.event
 
 -- whether a flight is swept, where a step comes
-swept_step : (s : Step) (earlier : List Step) (f : Flight)
+pub swept_step : (s : Step) (earlier : List Step) (f : Flight)
     → was_swept (s ∷ earlier) f
     ≡ (if list_any (λ g. nat_eq g.number f.number) s.sent then false
     else (fails (thing.Link f.link) s.seen.event || fails (thing.Device f.receiver) s.seen.event) || was_swept earlier f)

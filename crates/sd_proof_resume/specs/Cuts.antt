@@ -1,11 +1,16 @@
 -- Where one history may be cut and another begins: what has to be compared there.
-use Rattle.std.specs.Prelude.{◌≡◌, ℕ, true, List, length}
+use Rattle.std.specs.Prelude.{◌≡◌, ℕ, ◌≤◌, Bool, true, not, List, length, Some}
 use Rattle.sd_history.specs.Core.Topo.Network.{Network}
 use Rattle.sd_history.specs.Core.Plan.declared.Plan.{Plan}
 use Rattle.sd_history.specs.Core.declared.registers.Registers.{Registers}
 use Rattle.sd_history.specs.Core.contracts.device.DeviceNode.TheImpl.{ghosts}
-use Rattle.sd_history.specs.World.{setting_over, is_up, latest_reading}
-use Rattle.sd_history.specs.Steps.{seen_of, flight_count}
+use Rattle.std.specs.List.{list_all}
+use Rattle.sd_history.specs.Core.Plan.Plans.{members}
+use Rattle.sd_history.specs.Msg.declared.Flight.{Flight}
+use Rattle.sd_history.specs.World.{Setting, Seen, setting_over, is_up, is_untouched, plan_numbered, latest_reading}
+use Rattle.sd_history.specs.Steps.{Step, seen_of, flight_count, flight_numbered}
+use Rattle.sd_history.specs.Refusals.{is_spent}
+use Rattle.sd_history.specs.Premises.{all_hold, readings, latest_tick, failures_since_closing}
 use Rattle.sd_history.specs.Nodes.{NodeStep, steps_of, node_in, IsRun}
 use Rattle.sd_proof_resume.specs.Shifts.{Shift}
 use Rattle.sd_proof_resume.specs.Likeness.{AreAlike}
@@ -22,3 +27,17 @@ pub record IsOpening (shift : Shift) (net : Network) (front plans : List Plan) (
   pub seen : LooksAlike shift (seen_of (steps_of first)) (seen_of (steps_of second))
   pub devices : (d : ℕ) → is_up (seen_of (steps_of second)) d ≡ true
       → AreAlike shift (latest_reading (seen_of (steps_of second)) d) (node_in first d) (node_in second d)
+
+-- no message up to this number is on its way: each was received, was lost, ended with its link or its receiver, or is too old
+abbrev pub NoneOnItsWay : ℕ → List Step → Type 0
+NoneOnItsWay last steps = (n : ℕ) (f : Flight) → n ≤ last → flight_numbered steps n ≡ Some f → is_spent steps 0 f ≡ true
+
+-- No premise of the second is broken. Of a device that is up it has no reading that the first has not, and its latest tick is no earlier; it has made
+-- or failed each member of its first plan and each device that the first has; and the same failed since the latest closing.
+pub record IsHonestOpening (part : Setting) (one other : List Seen) : Type 0 where
+  pub holds : all_hold part other ≡ true
+  pub readings : (d : ℕ) (test : ℕ × ℕ → Bool) → is_up other d ≡ true → list_all test (readings one d) ≡ true → list_all test (readings other d) ≡ true
+  pub ticks : (d : ℕ) → is_up other d ≡ true → latest_tick one d ≤ latest_tick other d
+  pub members : list_all (λ d. not (is_untouched other d)) (members part.net (plan_numbered part 1)) ≡ true
+  pub untouched : (d : ℕ) → is_untouched other d ≡ true → is_untouched one d ≡ true
+  pub failures : failures_since_closing one ≡ failures_since_closing other

@@ -1,5 +1,5 @@
 -- The law: what holds of every later event where two histories agree.
-use Rattle.std.specs.Prelude.{◌≡◌, ℕ, ◌+◌, ◌≤◌, List, [], ◌∷◌, ◌++◌, length, map, Some}
+use Rattle.std.specs.Prelude.{◌≡◌, ℕ, ◌+◌, ◌≤◌, true, List, [], ◌∷◌, ◌++◌, length, map, Some}
 use Rattle.sd_history.specs.Sched.Num.Lists.{map_or}
 use Rattle.sd_history.specs.Core.Topo.Network.{Network}
 use Rattle.sd_history.specs.Core.Plan.declared.Plan.{Plan}
@@ -7,11 +7,12 @@ use Rattle.sd_history.specs.Core.declared.registers.Registers.{Registers}
 use Rattle.sd_history.specs.Core.contracts.device.DeviceNode.TheImpl.{ghosts}
 use Rattle.sd_history.specs.Sched.declared.Event.{Event}
 use Rattle.sd_history.specs.Sched.Events.{reference_of, message_of}
-use Rattle.sd_history.specs.World.{Setting, setting_over}
+use Rattle.sd_history.specs.World.{Setting, Seen, setting_over}
 use Rattle.sd_history.specs.Steps.{Step, events_of}
 use Rattle.sd_history.specs.Chronicle.{chronicle}
 use Rattle.sd_history.specs.Nodes.{NodeStep, steps_of}
 use Rattle.sd_history.specs.Admitted.{IsAdmitted, IsAdmittedRun}
+use Rattle.sd_history.specs.Premises.{start_holds, drift_holds, delay_holds, tick_holds, loss_holds, domain_holds, renew_holds}
 use Rattle.sd_history.specs.Lines.{Line, first_on_loop, roots, asked_report, loop_lines, root_lines, report_lines}
 use Rattle.sd_proof_resume.specs.Shifts.{Shift, raised_event}
 use Rattle.sd_proof_resume.specs.Agreement.{MayFollow, Agree}
@@ -55,3 +56,13 @@ SaysAlike shift whole part one other (e ∷ later) =
     SaysAlike shift whole part one other later
     × (alarms_and_report whole (chronicle whole (raised_event shift e ∷ (map (raised_event shift) later ++ one)))
     ≡ alarms_and_report part (chronicle part (e ∷ (later ++ other))))
+
+-- each premise that holds of what was seen of the first holds of the second
+pub record NoMoreBroken (whole part : Setting) (one other : List Seen) : Type 0 where
+  pub start : start_holds one ≡ true → start_holds other ≡ true
+  pub drift : drift_holds whole one ≡ true → drift_holds part other ≡ true
+  pub delay : delay_holds whole one ≡ true → delay_holds part other ≡ true
+  pub tick : tick_holds whole one ≡ true → tick_holds part other ≡ true
+  pub loss : loss_holds whole one ≡ true → loss_holds part other ≡ true
+  pub domain : domain_holds whole one ≡ true → domain_holds part other ≡ true
+  pub renew : renew_holds whole one ≡ true → renew_holds part other ≡ true
