@@ -1,20 +1,28 @@
 -- The law of two histories that agree: behind both the rules admit the same events, with the same alarms and reports, and both go on agreeing.
-use Rattle.std.specs.Prelude.{◌≡◌, ℕ, Bool, true, false, ◌||◌, not, nat_eq, Some, List, [], ◌∷◌, ◌++◌, length, map, refl}
-use Rattle.std.proofs.Common.{sym, ◌∙◌, ap, subst}
+use Rattle.std.specs.Prelude.{◌≡◌, ℕ, ◌+◌, ◌≤◌, Option, None, Bool, true, false, ◌||◌, not, nat_eq, Some, List, [], ◌∷◌, ◌++◌, length, map, refl}
+use Rattle.std.proofs.Common.{arith, sym, ◌∙◌, ap, subst}
 use Rattle.sd_history.specs.Core.Topo.Network.{Network}
 use Rattle.sd_history.specs.Core.Plan.declared.Plan.{Plan}
 use Rattle.sd_history.specs.Core.declared.registers.Registers.{Registers}
 use Rattle.sd_history.specs.Sched.declared.Event.{Event}
 use Rattle.std.proofs.lemmas.Bool.{eq-eqb}
 use Rattle.sd_history.specs.Sched.declared.Event.TheVariants as event
-use Rattle.sd_history.specs.Sched.Events.{device_of, counter_of}
-use Rattle.sd_history.specs.World.{Setting, setting_over, Seen, makes, is_up}
-use Rattle.sd_history.specs.Steps.{Step, seen_of, events_of, step_of}
+use Rattle.sd_history.specs.Sched.Events.{reference_of, device_of, counter_of}
+use Rattle.sd_history.specs.World.{Setting, setting_over, Seen, makes, is_up, latest_reference}
+use Rattle.sd_history.specs.Steps.{Answers, Step, seen_of, events_of, changed, flight_count, flights_to, ends_at, flights_by, flights_of, act_by, step_of}
 use Rattle.sd_history.specs.Refusals.{not_started}
-use Rattle.sd_history.specs.Chronicle.{next_step, chronicle}
+use Rattle.sd_history.specs.Chronicle.{told_by, next_step, chronicle}
 use Rattle.sd_history.specs.Nodes.{NodeStep, steps_of}
 use Rattle.sd_history.specs.Admitted.{Admits, IsAdmitted, IsAdmittedRun}
-use Rattle.sd_history.proofs.Among.{first as first_, later as later_}
+use Rattle.sd_history.specs.Sched.Num.Lists.{map_or}
+use Rattle.sd_history.specs.Core.Plan.declared.End.{End}
+use Rattle.sd_history.specs.Msg.declared.Message.{Message}
+use Rattle.sd_history.specs.Msg.declared.Flight.{Flight}
+use Rattle.sd_history.specs.Core.declared.Effect.{Effect}
+use Rattle.sd_history.specs.Core.declared.Effect.TheVariants.{Quiet, Send}
+use Rattle.sd_history.proofs.Among.{Among, first as first_, later as later_}
+use Rattle.sd_history.proofs.Filters.{kept_among}
+use Rattle.sd_history.proofs.Contained.{admitted_time_goes_on}
 use Rattle.sd_history.proofs.Admitted.{rule_holds}
 use Rattle.sd_history.proofs.Given.{some_is}
 use Rattle.sd_history.proofs.Devices.{device, admitted_devices_run, admitted_devices_have_history}
@@ -24,13 +32,15 @@ use Rattle.sd_proof_resume.specs.Law.{whole, NamesSome, alarms_and_report, Histo
 use Rattle.sd_proof_resume.specs.Views.{LooksAlike}
 use Rattle.sd_proof_resume.specs.Premised.{PremisesAgree}
 use Rattle.sd_proof_resume.proofs.Stepping.{step_agrees}
+use Rattle.sd_proof_resume.specs.Losses.{LossesAgree}
 use Rattle.sd_proof_resume.proofs.Judging.{premises_agree_after}
+use Rattle.sd_proof_resume.proofs.Losing.{losses_agree_after}
 use Rattle.sd_proof_resume.proofs.Accepted.{admitted_same}
 use Rattle.sd_proof_resume.proofs.Lines.{lines_same}
 use Rattle.sd_proof_resume.proofs.Running.{GoesOn, goes_on}
 
 -- a run of devices is the chronicle of its events
-run_is : (setting : Setting) (run : List (NodeStep Registers)) (events : List Event) → IsAdmittedRun device setting run → events_of (steps_of run) ≡ events
+pub run_is : (setting : Setting) (run : List (NodeStep Registers)) (events : List Event) → IsAdmittedRun device setting run → events_of (steps_of run) ≡ events
     → steps_of run ≡ chronicle setting events
 run_is setting run events runs happened = admitted_devices_run setting run runs ∙ ap (chronicle setting) happened
 
@@ -62,6 +72,29 @@ up_at_reading seen e d c rule named reads unmade = go e rule named reads unmade
     go (event.Ask reference m counter) rule' named' reads' unmade' = up m (is_up seen m) refl rule' named'
     go (event.Commit reference m counter) rule' named' reads' unmade' = up m (is_up seen m) refl rule' named'
     go _ rule' named' reads' unmade' = cc
+
+-- what is sent has a number, and is due no earlier
+to_facts : (setting : Setting) (steps : List Step) (r d : ℕ) (m : Message) (n : ℕ) (ends : List End) (f : Flight) → 1 ≤ n
+    → Among f (flights_to setting steps r d m n ends) → (1 ≤ f.number) × (r ≤ f.due)
+to_facts setting steps r d m n [] f some among = elim among [ ]
+to_facts setting steps r d m n (e ∷ ends) f some first_ = (some, omega arith)
+to_facts setting steps r d m n (e ∷ ends) f some (later_ among) = to_facts setting steps r d m (n + 1) ends f (omega arith) among
+
+sent_facts : (setting : Setting) (steps : List Step) (e : Event) (f : Flight) → Among f (next_step setting steps e).seen.sent
+    → (1 ≤ f.number) × (reference_of e ≤ f.due)
+sent_facts setting steps e f among =
+    by (changed (act_by setting steps e)) (told_by steps (act_by setting steps e)).answers (told_by steps (act_by setting steps e)).effect
+    (kept_among (λ g. g.reaches) (flights_of setting steps (reference_of e) (act_by setting steps e) (told_by steps (act_by setting steps e))) f among)
+  where
+    sends : (d epoch : ℕ) (effect : Effect) → Among f (flights_by setting steps (reference_of e) d epoch effect) → (1 ≤ f.number) × (reference_of e ≤ f.due)
+    sends d epoch Quiet a = elim a [ ]
+    sends d epoch (Send m) a =
+        to_facts setting steps (reference_of e) d m (flight_count steps + 1) (ends_at setting steps epoch d) f (omega arith) a
+    by : (o : Option ℕ) (a : Option Answers) (effect : Effect)
+        → Among f (map_or o [] (λ d. map_or a [] (λ x. flights_by setting steps (reference_of e) d x.epoch effect))) → (1 ≤ f.number) × (reference_of e ≤ f.due)
+    by None a effect among' = elim among' [ ]
+    by (Some d) None effect among' = elim among' [ ]
+    by (Some d) (Some x) effect among' = sends d x.epoch effect among'
 
 module _ (shift : Shift) (net : Network) (front plans : List Plan) where
   -- what one event does
@@ -206,3 +239,30 @@ module _ (shift : Shift) (net : Network) (front plans : List Plan) where
       (premises_agree_after shift net front plans on.agree.behind (seen_of steps_one) (seen_of steps_other) looks before
       (next_step (setting_over net plans) steps_other e).seen may.2.start
       (λ d c named reads unmade. up_at_reading (seen_of steps_other) e d c rule named reads unmade))
+
+  -- And of lost rounds.
+  pub loses_in_both : (one other : List Event) → HistoriesAgree shift net front plans one other
+      → LossesAgree shift (seen_of (chronicle (whole net front plans) one)) (seen_of (chronicle (setting_over net plans) other))
+      → (later : List Event) → AllMayFollow (setting_over net plans) other later → IsAdmitted (setting_over net plans) (later ++ other)
+      → LossesAgree shift (seen_of (chronicle (whole net front plans) (map (raised_event shift) later ++ one)))
+      (seen_of (chronicle (setting_over net plans) (later ++ other)))
+  loses_in_both one other h losses [] may is = losses
+  loses_in_both one other h losses (e ∷ later) may is =
+      let steps_one : List Step = chronicle (whole net front plans) (map (raised_event shift) later ++ one) in
+      let steps_other : List Step = chronicle (setting_over net plans) (later ++ other) in
+      let before : LossesAgree shift (seen_of steps_one) (seen_of steps_other) = loses_in_both one other h losses later may.0 is.0 in
+      let on : GoOn one other later = resumed one other h later may.0 is.0 in
+      let now : OneMore (map (raised_event shift) later ++ one) (later ++ other) e =
+      one_more (map (raised_event shift) later ++ one) (later ++ other) e on.agree may.1 may.2 is.1 in
+      let first_is : steps_of on.agree.first ≡ steps_one =
+      run_is (whole net front plans) on.agree.first (map (raised_event shift) later ++ one) on.agree.first_runs on.agree.first_happened in
+      let second_is : steps_of on.agree.second ≡ steps_other =
+      run_is (setting_over net plans) on.agree.second (later ++ other) on.agree.second_runs on.agree.second_happened in
+      let time : latest_reference (seen_of steps_one) ≡ latest_reference (seen_of steps_other) =
+      subst (λ s. latest_reference (seen_of s) ≡ latest_reference (seen_of steps_other)) first_is
+      (subst (λ s. latest_reference (seen_of (steps_of on.agree.first)) ≡ latest_reference (seen_of s)) second_is on.agree.agree.steps.seen.time) in
+      let goes : latest_reference (seen_of steps_other) ≤ reference_of e = admitted_time_goes_on (setting_over net plans) steps_other e is.1 in
+      subst (λ s. LossesAgree shift (s ∷ seen_of steps_one) ((next_step (setting_over net plans) steps_other e).seen ∷ seen_of steps_other)) (sym now.seen)
+      (losses_agree_after shift (next_step (setting_over net plans) steps_other e).seen (seen_of steps_one) (seen_of steps_other) before
+      (subst (λ t. t ≤ reference_of e) (sym time) goes) goes
+      (λ f among. sent_facts (setting_over net plans) steps_other e f among))

@@ -15,3 +15,4 @@ pub mod Losing
 pub mod Laws
 pub mod Openings
 pub mod Spent
+pub mod Resume

@@ -145,7 +145,7 @@ module _ (shift : Shift) (one other : List Seen) (agree : (f : Flight) → Among
 -- An event
 
 -- with an event, what lies past is past
-past_after : (s : Seen) (seen : List Seen) → latest_reference seen ≤ reference_of s.event → ArePast seen → ArePast (s ∷ seen)
+pub past_after : (s : Seen) (seen : List Seen) → latest_reference seen ≤ reference_of s.event → ArePast seen → ArePast (s ∷ seen)
 past_after s seen goes past =
     and_from _ _ (le-leb (reference_of s.event) (reference_of s.event) (omega arith))
     (all_on (λ x. nat_le (reference_of x.event) (latest_reference seen)) (λ x. nat_le (reference_of x.event) (reference_of s.event))

@@ -1,0 +1,200 @@
+-- The result: behind an opening all later events are as behind the history that it opens.
+use Rattle.std.specs.Prelude.{◌≡◌, ℕ, zero, suc, ◌+◌, ◌<◌, ◌≤◌, Bool, true, false, ◌||◌, List, [], ◌∷◌, ◌++◌, length, map, filter, nat_eq, nat_le, Option, Some, None, option_and_then, ◌⊎◌, refl}
+use Rattle.std.specs.List.{list_any}
+use Rattle.std.proofs.Common.{arith, sym, ◌∙◌, ap, subst, inl, inr}
+use Rattle.std.proofs.lemmas.Bool.{eqb-true, eq-eqb}
+use Rattle.sd_history.specs.Sched.Num.Lists.{map_or, same_number}
+use Rattle.sd_history.specs.Core.Topo.Network.{Network}
+use Rattle.sd_history.specs.Core.Plan.declared.Plan.{Plan}
+use Rattle.sd_history.specs.Core.declared.registers.Registers.{Registers}
+use Rattle.sd_history.specs.Msg.declared.Flight.{Flight}
+use Rattle.sd_history.specs.Sched.declared.Event.{Event}
+use Rattle.sd_history.specs.Sched.Events.{reference_of, message_of, received}
+use Rattle.sd_history.specs.World.{Setting, Seen, setting_over, latest_reference}
+use Rattle.sd_history.specs.Steps.{Step, seen_of, events_of, flights, flight_count, flight_numbered, taken_by}
+use Rattle.sd_history.specs.Refusals.{was_used}
+use Rattle.sd_history.specs.Accepted.{AreSteps}
+use Rattle.sd_history.specs.Premises.{reaching_flights, was_received}
+use Rattle.sd_history.specs.Chronicle.{chronicle}
+use Rattle.sd_history.specs.Nodes.{NodeStep, steps_of}
+use Rattle.sd_history.specs.Admitted.{Admits, IsAdmitted}
+use Rattle.sd_history.proofs.Admitted.{run_is_admitted}
+use Rattle.sd_history.proofs.Among.{Among, either_side}
+use Rattle.sd_history.proofs.Contained.{time_goes_on}
+use Rattle.sd_history.proofs.Filters.{kept_among}
+use Rattle.sd_history.proofs.Parts.{AllHold, premises_of}
+use Rattle.sd_history.proofs.Shared.{received_message}
+use Rattle.sd_history.proofs.Devices.{device}
+use Rattle.sd_history.proofs.flights.Sending.{counted}
+use Rattle.sd_proof_resume.specs.Shifts.{Shift, raised_event}
+use Rattle.sd_proof_resume.specs.Law.{whole, HistoriesAgree, AllMayFollow, SaysAlike, NoMoreBroken}
+use Rattle.sd_proof_resume.specs.Cuts.{IsOpening, NoneOnItsWay, IsHonestOpening}
+use Rattle.sd_proof_resume.specs.Premised.{PremisesAgree}
+use Rattle.sd_proof_resume.specs.Losses.{ArePast, LossesAgree}
+use Rattle.sd_proof_resume.proofs.Steps.{find_passes}
+use Rattle.sd_proof_resume.proofs.Losing.{past_after, loss_on}
+use Rattle.sd_proof_resume.proofs.Openings.{run_has_steps, unused, opening_histories_agree}
+use Rattle.sd_proof_resume.proofs.Laws.{GoOn, run_is, resumed, resumed_back, breaks_in_both, loses_in_both}
+
+-- an opening that sent nothing has no flight
+none_reach : (setting : Setting) (steps_ : List Step) → AreSteps setting steps_ → flight_count steps_ ≡ 0 → (f : Flight)
+    → Among f (reaching_flights (seen_of steps_)) → ⊥
+none_reach setting [] are none f among = elim among [ ]
+none_reach setting (s ∷ earlier) are none f among = elim (either_side s.seen.sent (reaching_flights (seen_of earlier)) among) [
+  | inl here ↦ empty s.sent (none_now (length s.sent) (flight_count earlier) (sym (counted s earlier) ∙ none)) f
+    (kept_among (λ g. g.reaches) s.sent f (subst (Among f) sent_is here))
+  | inr before ↦ none_reach setting earlier are.0 (none_before (length s.sent) (flight_count earlier) (sym (counted s earlier) ∙ none)) f before
+]
+  where
+    none_now : (a b : ℕ) → a + b ≡ 0 → a ≡ 0
+    none_now a b same = omega (arith, same)
+    none_before : (a b : ℕ) → a + b ≡ 0 → b ≡ 0
+    none_before a b same = omega (arith, same)
+    empty : (fs : List Flight) → length fs ≡ 0 → (f : Flight) → Among f fs → ⊥
+    empty [] none' f' a = elim a [ ]
+    empty (g ∷ fs) none' f' a = absurd (never (length fs) none')
+      where
+        never : (n : ℕ) → suc n ≡ 0 → ⊥
+        never n same = omega (arith, same)
+    sent_is : s.seen.sent ≡ filter (λ g. g.reaches) s.sent
+    sent_is = ap (λ (x : Step). x.seen.sent) are.2 ∙ sym (ap (λ (x : Step). filter (λ (g : Flight). g.reaches) x.sent) are.2)
+
+-- a message that was received was used
+received_was_used : (setting : Setting) (steps_ : List Step) (n : ℕ) → AreSteps setting steps_ → was_received (seen_of steps_) n ≡ true → was_used steps_ n ≡ true
+received_was_used setting [] n are got = cc
+received_was_used setting (s ∷ earlier) n are got =
+    go (map_or s.seen.taken false (λ f. nat_eq f.number n)) refl got (received_was_used setting earlier n are.0)
+  where
+    or_right : (a b : Bool) → b ≡ true → (a || b) ≡ true
+    or_right true b is = refl
+    or_right false b is = is
+    or_left : (a b : Bool) → a ≡ true → (a || b) ≡ true
+    or_left true b is = refl
+    or_left false b is = cc
+    by : (o : Option ℕ) → received s.seen.event ≡ o → map_or (option_and_then (flight_numbered earlier) o) false (λ f. nat_eq f.number n) ≡ true
+        → same_number (message_of s.seen.event) n ≡ true
+    by None is taken = cc
+    by (Some m) is taken = found_by (flight_numbered earlier m) refl taken
+      where
+        found_by : (o : Option Flight) → flight_numbered earlier m ≡ o → map_or o false (λ f. nat_eq f.number n) ≡ true → same_number (message_of s.seen.event) n ≡ true
+        found_by None found taken' = cc
+        found_by (Some f) found taken' =
+            let same : m ≡ n = sym (find_passes m (flights earlier) f found) ∙ eqb-true f.number n taken' in
+            ap (λ o. same_number o n) (received_message s.seen.event m is) ∙ eq-eqb m n same
+    go : (b : Bool) → map_or s.seen.taken false (λ f. nat_eq f.number n) ≡ b → (b || was_received (seen_of earlier) n) ≡ true
+        → (was_received (seen_of earlier) n ≡ true → was_used earlier n ≡ true) → was_used (s ∷ earlier) n ≡ true
+    go true is any rest =
+        or_left (same_number (message_of s.seen.event) n) (was_used earlier n)
+        (by (received s.seen.event) refl (sym (ap (λ (x : Step). map_or x.seen.taken false (λ (f : Flight). nat_eq f.number n)) are.2) ∙ is))
+    go false is any rest = or_right (same_number (message_of s.seen.event) n) (was_used earlier n) (rest any)
+
+unreceived : (setting : Setting) (steps_ : List Step) (n : ℕ) → AreSteps setting steps_ → flight_count steps_ < n → was_received (seen_of steps_) n ≡ false
+unreceived setting steps_ n are past = go (was_received (seen_of steps_) n) refl
+  where
+    go : (b : Bool) → was_received (seen_of steps_) n ≡ b → b ≡ false
+    go false is = refl
+    go true is =
+        let used : was_used steps_ n ≡ true = received_was_used setting steps_ n are is in
+        let none : was_used steps_ n ≡ false = unused setting steps_ n are past in
+        cc
+
+all_past : (setting : Setting) (steps_ : List Step) → AreSteps setting steps_ → ArePast (seen_of steps_)
+all_past setting [] are = refl
+all_past setting (s ∷ earlier) are = past_after s.seen (seen_of earlier) (time_goes_on setting earlier s.seen.event are.1) (all_past setting earlier are.0)
+
+module _ (shift : Shift) (net : Network) (front plans : List Plan) (first second : List (NodeStep Registers))
+    (is : IsOpening shift net front plans first second) where
+  abbrev one : List Event
+  one = events_of (steps_of first)
+
+  abbrev other : List Event
+  other = events_of (steps_of second)
+
+  agree : HistoriesAgree shift net front plans one other
+  agree = opening_histories_agree shift net front plans first second is
+
+  first_is : steps_of first ≡ chronicle (whole net front plans) one
+  first_is = run_is (whole net front plans) first one (run_is_admitted device (whole net front plans) first is.first_runs) refl
+
+  second_is : steps_of second ≡ chronicle (setting_over net plans) other
+  second_is = run_is (setting_over net plans) second other (run_is_admitted device (setting_over net plans) second is.second_runs) refl
+
+  -- The rules admit the same events behind both.
+  pub admits_the_same : (later : List Event) → AllMayFollow (setting_over net plans) other later
+      → (IsAdmitted (setting_over net plans) (later ++ other) → IsAdmitted (whole net front plans) (map (raised_event shift) later ++ one))
+      × (IsAdmitted (whole net front plans) (map (raised_event shift) later ++ one) → IsAdmitted (setting_over net plans) (later ++ other))
+  admits_the_same later may = (
+    λ admitted. (resumed shift net front plans one other agree later may admitted).admitted,
+    λ admitted. resumed_back shift net front plans one other agree later may admitted,
+  )
+
+  -- Each of them has the same alarms and the same report.
+  pub says_the_same : (later : List Event) → AllMayFollow (setting_over net plans) other later → IsAdmitted (setting_over net plans) (later ++ other)
+      → SaysAlike shift (whole net front plans) (setting_over net plans) one other later
+  says_the_same later may admitted = (resumed shift net front plans one other agree later may admitted).says
+
+  module _ (honest : IsHonestOpening (setting_over net plans) (seen_of (steps_of first)) (seen_of (steps_of second))) where
+    premises : PremisesAgree (whole net front plans) (setting_over net plans) (seen_of (steps_of first)) (seen_of (steps_of second))
+    premises =
+        let all : AllHold (setting_over net plans) (seen_of (steps_of second)) = premises_of (setting_over net plans) (seen_of (steps_of second)) honest.holds in
+        record {
+          start = λ h. all.start;
+          drift = λ h. all.drift;
+          delay = λ h. all.delay;
+          tick = λ h. all.tick;
+          domain = λ h. all.domain;
+          renew = λ h. all.renew;
+          readings = honest.readings;
+          ticks = honest.ticks;
+          members = honest.members;
+          untouched = honest.untouched;
+          failures = honest.failures;
+        }
+
+    losses : LossesAgree shift (seen_of (steps_of first)) (seen_of (steps_of second))
+    losses =
+        record {
+          flights = λ f among. absurd (none_reach (setting_over net plans) (steps_of second) second_steps is.sent_none f among);
+          received = λ n some.
+              unreceived (whole net front plans) (steps_of first) (n + shift.messages) first_steps (beyond n (flight_count (steps_of first)) shift.messages is.sent some)
+              ∙ sym (unreceived (setting_over net plans) (steps_of second) n second_steps (above n (flight_count (steps_of second)) is.sent_none some));
+          past = all_past (whole net front plans) (steps_of first) first_steps;
+          past_other = all_past (setting_over net plans) (steps_of second) second_steps;
+        }
+      where
+        first_steps : AreSteps (whole net front plans) (steps_of first)
+        first_steps = run_has_steps (whole net front plans) first is.first_runs
+        second_steps : AreSteps (setting_over net plans) (steps_of second)
+        second_steps = run_has_steps (setting_over net plans) second is.second_runs
+        beyond : (n count messages : ℕ) → count ≡ messages → 1 ≤ n → count < n + messages
+        beyond n count messages same some = omega (arith, same, some)
+        above : (n count : ℕ) → count ≡ 0 → 1 ≤ n → count < n
+        above n count none some = omega (arith, none, some)
+
+    -- What breaks behind the opening breaks in the whole.
+    pub breaks_no_more : (later : List Event) → AllMayFollow (setting_over net plans) other later → IsAdmitted (setting_over net plans) (later ++ other)
+        → NoMoreBroken (whole net front plans) (setting_over net plans)
+        (seen_of (chronicle (whole net front plans) (map (raised_event shift) later ++ one))) (seen_of (chronicle (setting_over net plans) (later ++ other)))
+    breaks_no_more later may admitted =
+        let p : PremisesAgree (whole net front plans) (setting_over net plans)
+        (seen_of (chronicle (whole net front plans) (map (raised_event shift) later ++ one))) (seen_of (chronicle (setting_over net plans) (later ++ other))) =
+        breaks_in_both shift net front plans one other agree
+        (subst (λ s. PremisesAgree (whole net front plans) (setting_over net plans) (seen_of s) (seen_of (chronicle (setting_over net plans) other))) first_is
+        (subst (λ s. PremisesAgree (whole net front plans) (setting_over net plans) (seen_of (steps_of first)) (seen_of s)) second_is premises))
+        later may admitted in
+        let l : LossesAgree shift (seen_of (chronicle (whole net front plans) (map (raised_event shift) later ++ one)))
+        (seen_of (chronicle (setting_over net plans) (later ++ other))) =
+        loses_in_both shift net front plans one other agree
+        (subst (λ s. LossesAgree shift (seen_of s) (seen_of (chronicle (setting_over net plans) other))) first_is
+        (subst (λ s. LossesAgree shift (seen_of (steps_of first)) (seen_of s)) second_is losses))
+        later may admitted in
+        record {
+          start = p.start;
+          drift = p.drift;
+          delay = p.delay;
+          tick = p.tick;
+          loss = loss_on shift (seen_of (chronicle (whole net front plans) (map (raised_event shift) later ++ one)))
+              (seen_of (chronicle (setting_over net plans) (later ++ other))) l.flights (whole net front plans) (setting_over net plans) refl;
+          domain = p.domain;
+          renew = p.renew;
+        }
