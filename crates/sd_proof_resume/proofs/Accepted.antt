@@ -1,7 +1,7 @@
 -- After steps that agree, the rules admit an event where they admit the raised one.
-use Rattle.std.specs.Prelude.{◌≡◌, ℕ, ◌+◌, ◌<◌, ◌≤◌, Bool, true, false, ◌&&◌, ◌||◌, not, List, [], ◌∷◌, ◌++◌, length, find, max, nat_eq, nat_le, nat_lt, Option, Some, None, is_some, option_map, option_and_then, refl, if◌then◌else◌}
+use Rattle.std.specs.Prelude.{◌≡◌, ℕ, ◌+◌, ◌≤◌, Bool, true, false, ◌&&◌, ◌||◌, not, List, [], ◌∷◌, ◌++◌, length, max, nat_eq, nat_le, nat_lt, Option, Some, None, is_some, option_map, option_and_then, refl}
 use Rattle.std.specs.List.{list_all}
-use Rattle.std.proofs.Common.{arith, sym, ◌∙◌, ap, subst}
+use Rattle.std.proofs.Common.{arith, sym, ◌∙◌, ap}
 use Rattle.std.proofs.lemmas.Bool.Decides.{nat_tests}
 use Rattle.std.proofs.lemmas.List.{length-append}
 use Rattle.sd_history.specs.Sched.Num.Lists.{map_or, same_number}
@@ -14,21 +14,20 @@ use Rattle.sd_history.specs.Core.Plan.declared.Duty.{Duty}
 use Rattle.sd_history.specs.Msg.declared.Flight.{Flight}
 use Rattle.sd_history.specs.Sched.declared.Event.{Event}
 use Rattle.sd_history.specs.Sched.declared.Event.TheVariants as event
-use Rattle.sd_history.specs.Sched.Events.{reference_of, device_of, counter_of, link_of, message_of, received, started, joined, given, is_stage, is_commit, is_seal, is_end_event}
+use Rattle.sd_history.specs.Sched.Events.{reference_of, device_of, counter_of, link_of, message_of, received, started, joined, given, is_stage, is_commit, is_seal}
 use Rattle.sd_history.specs.Things.{failure_of, mended}
-use Rattle.sd_history.specs.World.{Setting, setting_over, Seen, is_up, was_made, has_failed, latest_reference, latest_reading, window_is_open, has_commit, epoch_in_force, staged_epoch, in_force, staged, is_staged_member, joined_in_window}
+use Rattle.sd_history.specs.World.{is_counted, Setting, setting_over, Seen, is_up, was_made, has_failed, latest_reference, latest_reading, window_is_open, has_commit, epoch_in_force, staged_epoch, in_force, staged, is_staged_member}
 use Rattle.sd_history.specs.Steps.{Answers, Step, seen_of, live_answers, flights, flight_count, flight_numbered, epoch_in, given_in}
 use Rattle.sd_history.specs.Refusals.{makes_some, was_used, was_swept, is_spent, unknown_device, unknown_link, dead_device, dead_link, unknown_message, spent_message, wrong_device, time_falls, counter_falls, not_started, started_twice, no_plan_left, past_preparing, window_order_seen, window_order_within, window_order, after_end, not_failed, not_member, too_many, causes}
 use Rattle.sd_history.specs.declared.ApplyFault.{ApplyFault}
 use Rattle.sd_history.specs.declared.ApplyFault.TheVariants as fault
 use Rattle.sd_history.specs.Admitted.{is_count}
-use Rattle.sd_proof_resume.specs.Shifts.{Shift, raised_epoch, raised_duty, raised_flight, raised_event, raised_seen}
-use Rattle.sd_proof_resume.specs.Views.{LooksAlike}
+use Rattle.sd_proof_resume.specs.Shifts.{Shift, raised_epoch, raised_duty, raised_flight, raised_event}
 use Rattle.sd_proof_resume.specs.Agreement.{raised_answers, StepsAgree}
 use Rattle.sd_proof_resume.specs.Law.{whole, NamesSome}
 use Rattle.sd_proof_resume.proofs.Words.{EventWords, words_of, same_words, raised_number, raised_received}
 use Rattle.sd_proof_resume.proofs.Stamps.{same_epoch}
-use Rattle.sd_proof_resume.proofs.Plans.{in_force_same, staged_same, staged_raised, staged_member_same, open_same, commit_same, joined_same}
+use Rattle.sd_proof_resume.proofs.Plans.{staged_same, staged_raised, staged_member_same, open_same, commit_same, counted_same}
 use Rattle.sd_proof_resume.proofs.Steps.{find_passes}
 use Rattle.sd_proof_resume.proofs.Acts.{epoch_of_same}
 
@@ -78,10 +77,6 @@ by_sixteen setting steps e =
     last a b c d e f g h i j k l m n o p true = refl
     last a b c d e f g h i j k l m n o p false = refl
 
--- a join of a device that may not: one that is up and a member, or that joined in this window
-abbrev may_not_join : Setting → List Seen → ℕ → Bool
-may_not_join setting seen d = is_up seen d && (is_member (in_force setting seen) d || joined_in_window seen d)
-
 -- an event that comes where the window does not allow it, by what is seen
 abbrev order_by : EventWords → (open_ past : Bool) → Option Plan → (committed : Bool) → Bool
 order_by w open_ past plan committed =
@@ -110,6 +105,7 @@ module _ (shift : Shift) (net : Network) (front plans : List Plan) (behind : shi
     (agree : StepsAgree shift one other) where
   abbrev seen_one : List Seen
   seen_one = seen_of one
+
   abbrev seen_other : List Seen
   seen_other = seen_of other
 
@@ -171,6 +167,7 @@ module _ (shift : Shift) (net : Network) (front plans : List Plan) (behind : shi
             → map_or (option_map (raised_flight shift) o) false (is_spent one (reference_of e)) ≡ map_or o false (is_spent other (reference_of e))
         by n least None found = refl
         by n least (Some f) found = spent_same n f (reference_of e) least found
+
         go : (m : Option ℕ) → ((n : ℕ) → m ≡ Some n → 1 ≤ n)
             → map_or (option_map (λ n. n + shift.messages) m) false (λ n. map_or (flight_numbered one n) false (is_spent one (reference_of e)))
             ≡ map_or m false (λ n. map_or (flight_numbered other n) false (is_spent other (reference_of e)))
@@ -189,10 +186,12 @@ module _ (shift : Shift) (net : Network) (front plans : List Plan) (behind : shi
         named : (e : Event) (n : ℕ) → received e ≡ Some n → message_of e ≡ Some n
         named (event.Recv reference device counter message) n is = is
         named _ n is = cc
+
         by : (o : Option Flight)
             → map_or (option_map (raised_flight shift) o) false (λ f. not (same_number (device_of e) f.receiver)) ≡ map_or o false (λ f. not (same_number (device_of e) f.receiver))
         by None = refl
         by (Some f) = refl
+
         go : (m : Option ℕ) → ((n : ℕ) → m ≡ Some n → 1 ≤ n)
             → map_or (option_map (λ n. n + shift.messages) m) false (λ n. map_or (flight_numbered one n) false (λ f. not (same_number (device_of e) f.receiver)))
             ≡ map_or m false (λ n. map_or (flight_numbered other n) false (λ f. not (same_number (device_of e) f.receiver)))
@@ -228,6 +227,7 @@ module _ (shift : Shift) (net : Network) (front plans : List Plan) (behind : shi
             up : (b : Bool) → not b ≡ false → b ≡ true
             up true is = refl
             up false is = cc
+
         by : (e : Event) → not_started seen_other e ≡ false
             → (not (makes_some e) && map_or (device_of e) false (λ d. map_or (counter_of e) false (λ c. nat_lt c (latest_reading seen_one d)))) ≡ counter_falls seen_other e
         by (event.FailDevice reference device) there' = refl
@@ -247,23 +247,16 @@ module _ (shift : Shift) (net : Network) (front plans : List Plan) (behind : shi
         by (event.Seal reference device) there' = refl
         by (event.End reference) there' = refl
 
-    joins_same : (d : ℕ) → may_not_join (whole net front plans) seen_one d ≡ may_not_join (setting_over net plans) seen_other d
-    joins_same d =
-        ap (λ b. b && (is_member (in_force (whole net front plans) seen_one) d || joined_in_window seen_one d)) (agree.seen.up d)
-        ∙ ap (λ p. is_up seen_other d && (is_member p d || joined_in_window seen_one d)) (in_force_same shift net front plans behind seen_one seen_other agree.seen)
-        ∙ ap (λ b. is_up seen_other d && (is_member (in_force (setting_over net plans) seen_other) d || b))
-        (joined_same shift net front plans behind seen_one seen_other agree.seen d)
-
     twice_same : started_twice (whole net front plans) seen_one (raised_event shift e) ≡ started_twice (setting_over net plans) seen_other e
     twice_same =
-        ap (λ w. map_or w.started false (was_made seen_one) || map_or w.joined false (may_not_join (whole net front plans) seen_one)) words
-        ∙ ap (λ o. map_or o false (was_made seen_one) || map_or (joined e) false (may_not_join (whole net front plans) seen_one)) no_start
+        ap (λ w. map_or w.started false (was_made seen_one) || map_or w.joined false (is_counted (whole net front plans) seen_one)) words
+        ∙ ap (λ o. map_or o false (was_made seen_one) || map_or (joined e) false (is_counted (whole net front plans) seen_one)) no_start
         ∙ go (joined e)
-        ∙ ap (λ o. map_or o false (was_made seen_other) || map_or (joined e) false (may_not_join (setting_over net plans) seen_other)) (sym no_start)
+        ∙ ap (λ o. map_or o false (was_made seen_other) || map_or (joined e) false (is_counted (setting_over net plans) seen_other)) (sym no_start)
       where
-        go : (o : Option ℕ) → map_or o false (may_not_join (whole net front plans) seen_one) ≡ map_or o false (may_not_join (setting_over net plans) seen_other)
+        go : (o : Option ℕ) → map_or o false (is_counted (whole net front plans) seen_one) ≡ map_or o false (is_counted (setting_over net plans) seen_other)
         go None = refl
-        go (Some d) = joins_same d
+        go (Some d) = counted_same shift net front plans behind seen_one seen_other agree.seen d
 
     left_same : no_plan_left (whole net front plans) seen_one (raised_event shift e) ≡ no_plan_left (setting_over net plans) seen_other e
     left_same =
@@ -299,6 +292,7 @@ module _ (shift : Shift) (net : Network) (front plans : List Plan) (behind : shi
             ≡ same_number (option_map (λ (u : Duty). u.epoch) o) epoch
         by n None = refl
         by n (Some u) = same_epoch shift u.epoch n
+
         go : (a : Option Answers) → same_number (given_by (option_map (raised_answers shift) a)) (raised_epoch shift epoch) ≡ same_number (given_by a) epoch
         go None = refl
         go (Some a) = by epoch a.given

@@ -1,16 +1,13 @@
 -- What an event does, and what is told and sent at it, is alike after steps that agree.
-use Rattle.std.specs.Prelude.{◌≡◌, ℕ, zero, suc, ◌+◌, ◌*◌, ◌≤◌, Bool, true, false, ◌&&◌, ◌||◌, not, List, [], ◌∷◌, ◌++◌, length, map, filter, nat_eq, nat_le, count_by, Option, Some, None, option_map, option_and_then, refl, if◌then◌else◌}
-use Rattle.std.specs.List.{list_all}
-use Rattle.std.proofs.Common.{arith, sym, ◌∙◌, ap, subst}
+use Rattle.std.specs.Prelude.{◌≡◌, ℕ, ◌+◌, Bool, true, false, ◌&&◌, ◌||◌, not, List, [], ◌∷◌, length, map, filter, nat_eq, Option, Some, None, option_map, option_and_then, refl, if◌then◌else◌}
+use Rattle.std.specs.List.{list_any, list_all}
+use Rattle.std.proofs.Common.{arith, ◌∙◌, ap}
 use Rattle.sd_history.specs.Sched.Num.Lists.{map_or, same_number}
-use Rattle.sd_history.specs.Core.Topo.Network.{Network, rates_of}
+use Rattle.sd_history.specs.Core.Topo.Network.{Network}
 use Rattle.sd_history.specs.Core.Topo.declared.Thing.TheVariants as thing
 use Rattle.sd_history.specs.Core.Plan.declared.Plan.{Plan}
-use Rattle.sd_history.specs.Core.Plan.declared.Duty.{Duty}
-use Rattle.sd_history.specs.Core.Plan.declared.Edge.{Edge}
 use Rattle.sd_history.specs.Core.Plan.declared.End.{End}
 use Rattle.sd_history.specs.Core.Plan.Duties.{duty_of, ends_of}
-use Rattle.sd_history.specs.Core.Plan.Plans.{members}
 use Rattle.sd_history.specs.Msg.declared.Message.{Message}
 use Rattle.sd_history.specs.Msg.declared.Flight.{Flight}
 use Rattle.sd_history.specs.Core.declared.Effect.{Effect}
@@ -18,17 +15,15 @@ use Rattle.sd_history.specs.Core.declared.Effect.TheVariants.{Quiet, Send}
 use Rattle.sd_history.specs.Core.Calls as calls
 use Rattle.sd_history.specs.Sched.declared.Event.{Event}
 use Rattle.sd_history.specs.Sched.declared.Event.TheVariants as event
-use Rattle.sd_history.specs.Sched.Events.{reference_of, device_of, message_of, received}
-use Rattle.sd_history.specs.World.{Setting, setting_over, Seen, makes, is_up, link_has_failed, window_is_open, has_commit, epoch_in_force, staged_epoch, in_force, staged, current_plan}
-use Rattle.sd_history.specs.Steps.{Act, Makes, Calls, Asks, Passes, Answers, Told, Step, seen_of, changed, live_answers, acts_in, epoch_in, has_settled, flights, flight_count, flight_numbered, flight_to, flights_to, ends_at, flights_by, flights_of, act_by, can_close, taken_by, acted_by, first_step, has_turned, activated_by, complete, step_of}
-use Rattle.sd_proof_resume.specs.Shifts.{Shift, raised_epoch, raised_message, raised_duty, raised_flight, raised_effect, raised_making, raised_call, raised_event, raised_seen}
-use Rattle.sd_proof_resume.specs.Views.{LooksAlike}
+use Rattle.sd_history.specs.Sched.Events.{device_of, message_of, received}
+use Rattle.sd_history.specs.World.{setting_over, is_up, link_has_failed, epoch_in_force, staged_epoch, in_force, staged}
+use Rattle.sd_history.specs.Steps.{Act, Makes, Calls, Asks, Passes, Answers, Told, Step, seen_of, changed, live_answers, acts_in, epoch_in, has_settled, flight_count, flight_numbered, flight_to, flights_to, ends_at, flights_by, flights_of, act_by, taken_by, acted_by}
+use Rattle.sd_proof_resume.specs.Shifts.{Shift, raised_epoch, raised_message, raised_duty, raised_flight, raised_effect, raised_event}
 use Rattle.sd_proof_resume.specs.Law.{whole, NamesSome}
 use Rattle.sd_proof_resume.specs.Agreement.{raised_answers, raised_told, raised_act, StepsAgree}
-use Rattle.sd_proof_resume.proofs.Words.{EventWords, words_of, same_words, raised_number, raised_received}
+use Rattle.sd_proof_resume.proofs.Words.{same_words, raised_received}
 use Rattle.sd_proof_resume.proofs.Stamps.{same_epoch}
-use Rattle.sd_proof_resume.proofs.Plans.{epoch_raised, staged_raised, in_force_same, staged_same, current_same, open_same, commit_same}
-use Rattle.sd_proof_resume.proofs.Steps.{StepAgrees, steps_agree_after}
+use Rattle.sd_proof_resume.proofs.Plans.{epoch_raised, staged_raised, in_force_same, staged_same, current_same}
 
 -- devices
 
@@ -68,6 +63,10 @@ module _ (shift : Shift) (one other : List Step) (agree : StepsAgree shift one o
 pub all_same : {A : Type 0} (p q : A → Bool) → ((x : A) → p x ≡ q x) → (xs : List A) → list_all p xs ≡ list_all q xs
 all_same p q same [] = refl
 all_same p q same (x ∷ xs) = ap (λ b. b && list_all p xs) (same x) ∙ ap (λ b. q x && b) (all_same p q same xs)
+
+pub any_same : {A : Type 0} (p q : A → Bool) → ((x : A) → p x ≡ q x) → (xs : List A) → list_any p xs ≡ list_any q xs
+any_same p q same [] = refl
+any_same p q same (x ∷ xs) = ap (λ b. b || list_any p xs) (same x) ∙ ap (λ b. q x || b) (any_same p q same xs)
 
 pub filter_same : {A : Type 0} (p q : A → Bool) → ((x : A) → p x ≡ q x) → (xs : List A) → filter p xs ≡ filter q xs
 filter_same p q same [] = refl
@@ -176,6 +175,7 @@ module _ (shift : Shift) (net : Network) (front plans : List Plan) (behind : shi
       changed_same (Calls d call) = refl
       changed_same (Asks d counter) = refl
       changed_same Passes = refl
+
       go : (o : Option ℕ) (a : Option Answers)
           → map_or o [] (λ d. map_or (option_map (raised_answers shift) a) [] (λ x. flights_by (whole net front plans) one reference d x.epoch (raised_effect shift told.effect)))
           ≡ map (raised_flight shift) (map_or o [] (λ d. map_or a [] (λ x. flights_by (setting_over net plans) other reference d x.epoch told.effect)))
@@ -191,6 +191,7 @@ module _ (shift : Shift) (net : Network) (front plans : List Plan) (behind : shi
       named : (e : Event) (n : ℕ) → received e ≡ Some n → message_of e ≡ Some n
       named (event.Recv reference device counter message) n is = is
       named _ n is = cc
+
       go : (f : Event) (o : Option ℕ) → received e ≡ o
           → option_and_then (flight_numbered one) (option_map (λ n. n + shift.messages) o) ≡ option_map (raised_flight shift) (option_and_then (flight_numbered other) o)
       go f None is = refl

@@ -1,5 +1,5 @@
 -- A device whose numbers are raised does at each call what the other does, with raised numbers.
-use Rattle.std.specs.Prelude.{◌≡◌, ℕ, zero, suc, ◌+◌, ◌-◌, ◌≤◌, Bool, true, false, ◌&&◌, nat_eq, nat_le, Option, Some, None, IfSome, option_map, option_and_then, refl, if◌then◌else◌}
+use Rattle.std.specs.Prelude.{◌≡◌, ℕ, ◌+◌, ◌≤◌, Bool, true, false, ◌&&◌, nat_eq, Option, Some, None, IfSome, option_map, option_and_then, refl, if◌then◌else◌}
 use Rattle.std.proofs.Common.{arith, sym, ◌∙◌, ap, subst}
 use Rattle.sd_history.specs.Sched.Num.Lists.{map_or}
 use Rattle.sd_history.specs.Core.Plan.declared.Duty.{Duty}
@@ -11,7 +11,7 @@ use Rattle.sd_history.specs.Msg.declared.Stamp.{Stamp}
 use Rattle.sd_history.specs.Msg.declared.Message.{Message}
 use Rattle.sd_history.specs.Msg.Stamps.{stamp, is_newer, message_of, carried}
 use Rattle.sd_history.specs.Core.declared.Effect.{Effect}
-use Rattle.sd_history.specs.Core.declared.Effect.TheVariants.{Quiet, Send}
+use Rattle.sd_history.specs.Core.declared.Effect.TheVariants.{Send}
 use Rattle.sd_history.specs.Core.declared.registers.Registers.{Registers}
 use Rattle.sd_history.specs.Core.declared.registers.Mode.{Mode}
 use Rattle.sd_history.specs.Core.declared.registers.Mode.TheVariants.{Primary, Backup, Acting, Idle}
@@ -20,7 +20,7 @@ use Rattle.sd_history.specs.Core.declared.turns.Turn.TheVariants.{Emit, TakeOver
 use Rattle.sd_history.specs.Core.Calls.{Call, Tick, Receive, Fix, Give, Commit, Seal}
 use Rattle.sd_history.specs.Core.Words.{counter_of, over_link}
 use Rattle.sd_history.specs.Sched.Num.declared.Rates.{Rates}
-use Rattle.sd_history.specs.Core.Rules.{turn_of, turn_with, turned, called, entering, accepting, accepted, entered, quietly, committed, is_acting_mode, epoch_in, edge_in}
+use Rattle.sd_history.specs.Core.Rules.{turn_with, turned, called, entering, accepting, accepted, entered, quietly, is_acting_mode, edge_in}
 use Rattle.sd_proof_resume.specs.Shifts.{Shift, raised_epoch, raised_stamp, raised_message, raised_duty, raised_effect, raised_call, raised_registers}
 use Rattle.sd_proof_resume.specs.Likeness.{ReportsAlike, IsAlike}
 use Rattle.sd_proof_resume.proofs.Stamps.{same_epoch, same_newer, next_round, next_term}
@@ -87,7 +87,10 @@ module _ (shift : Shift) (now : ℕ) where
       record {
         sends = refl;
         alike = record {
-          stamp = other; estimate = estimate; kept = refl; stamps = same;
+          stamp = other;
+          estimate = estimate;
+          kept = refl;
+          stamps = same;
           reports = later_reports now counter r.rates estimate r.estimate later reports;
         };
       }
@@ -95,7 +98,10 @@ module _ (shift : Shift) (now : ℕ) where
       record {
         sends = refl;
         alike = record {
-          stamp = other; estimate = estimate; kept = refl; stamps = same;
+          stamp = other;
+          estimate = estimate;
+          kept = refl;
+          stamps = same;
           reports = later_reports now counter r.rates estimate r.estimate later reports;
         };
       }
@@ -108,7 +114,10 @@ module _ (shift : Shift) (now : ℕ) where
       record {
         sends = refl;
         alike = record {
-          stamp = other; estimate = estimate; kept = refl; stamps = tt;
+          stamp = other;
+          estimate = estimate;
+          kept = refl;
+          stamps = tt;
           reports = later_reports now counter r.rates estimate r.estimate later reports;
         };
       }
@@ -136,6 +145,7 @@ module _ (shift : Shift) (now : ℕ) where
       epoch_of : (duty : Option Duty) → map_or (option_map (raised_duty shift) duty) 0 (λ d. d.epoch) ≡ raised_epoch shift (map_or duty 0 (λ d. d.epoch))
       epoch_of None = refl
       epoch_of (Some d) = refl
+
       either : (duty : Option Duty) → IfSome duty (λ d. raised_stamp shift message.stamp ≡ raised_stamp shift message.stamp)
       either None = tt
       either (Some d) = refl
@@ -178,10 +188,10 @@ module _ (shift : Shift) (now : ℕ) where
   edge_alike Idle duty = refl
 
   no_edge : (mode : Mode) → elim mode as (λ (m : Mode). Option Edge) [
-        | Primary ↦ map_or None None (λ (d : Duty). d.primary)
-        | Backup ↦ map_or None None (λ (d : Duty). d.backup)
-        | _ ↦ None
-      ] ≡ None
+    | Primary ↦ map_or None None (λ (d : Duty). d.primary)
+    | Backup ↦ map_or None None (λ (d : Duty). d.backup)
+    | _ ↦ None
+  ] ≡ None
   no_edge Primary = refl
   no_edge Backup = refl
   no_edge Acting = refl
@@ -223,7 +233,10 @@ module _ (shift : Shift) (now : ℕ) where
       record {
         sends = refl;
         alike = record {
-          stamp = other; estimate = estimate; kept = refl; stamps = same;
+          stamp = other;
+          estimate = estimate;
+          kept = refl;
+          stamps = same;
           reports = later_reports now counter r.rates estimate r.estimate later reports;
         };
       }
@@ -261,7 +274,10 @@ module _ (shift : Shift) (now : ℕ) where
       record {
         sends = refl;
         alike = record {
-          stamp = other; estimate = estimate; kept = refl; stamps = same;
+          stamp = other;
+          estimate = estimate;
+          kept = refl;
+          stamps = same;
           reports = later_reports now counter r.rates estimate r.estimate later reports;
         };
       }
@@ -269,7 +285,10 @@ module _ (shift : Shift) (now : ℕ) where
       record {
         sends = refl;
         alike = record {
-          stamp = other; estimate = estimate; kept = refl; stamps = stamped;
+          stamp = other;
+          estimate = estimate;
+          kept = refl;
+          stamps = stamped;
           reports = rw (rates duty refl) (later_reports now counter r.rates estimate r.estimate later reports);
         };
       }

@@ -1,5 +1,5 @@
 -- What breaks in the second of two histories that agree breaks in the first, as an event comes and its raised one.
-use Rattle.std.specs.Prelude.{◌≡◌, ℕ, zero, suc, ◌+◌, ◌-◌, ◌≤◌, Bool, true, false, ◌&&◌, ◌||◌, not, List, [], ◌∷◌, ◌++◌, length, map, filter, filter_map, nat_eq, nat_le, nat_lt, Option, Some, None, is_some, option_map, option_to_list, refl, if◌then◌else◌}
+use Rattle.std.specs.Prelude.{◌≡◌, ℕ, zero, suc, ◌+◌, ◌≤◌, Bool, true, false, ◌&&◌, ◌||◌, not, List, [], ◌∷◌, ◌++◌, length, map, filter_map, nat_eq, nat_le, Option, Some, None, is_some, option_map, option_to_list, refl, if◌then◌else◌}
 use Rattle.std.specs.List.{list_any, list_all, cons_option}
 use Rattle.std.proofs.Common.{arith, sym, ◌∙◌, ap, subst}
 use Rattle.std.proofs.lemmas.Bool.{and_parts, and_from, leb-true, le-leb}
@@ -7,7 +7,6 @@ use Rattle.std.proofs.lemmas.List.Folds.{list_all-append}
 use Rattle.sd_history.specs.Sched.Num.Lists.{map_or, same_number, find_map_or, leading, has}
 use Rattle.sd_history.specs.Core.Topo.Network.{Network, rates_of, device_numbers, link_numbers, joins}
 use Rattle.sd_history.specs.Core.Topo.Joined.{joined_within}
-use Rattle.sd_history.specs.Core.Topo.declared.Thing.{Thing}
 use Rattle.sd_history.specs.Core.Topo.declared.Thing.TheVariants as thing
 use Rattle.sd_history.specs.Core.Domain.Domains.{within_one}
 use Rattle.sd_history.specs.Core.Plan.declared.Plan.{Plan}
@@ -18,16 +17,16 @@ use Rattle.sd_history.specs.Sched.declared.Event.{Event}
 use Rattle.sd_history.specs.Sched.declared.Event.TheVariants as event
 use Rattle.sd_history.specs.Sched.Events.{reference_of, device_of, counter_of, started, joined, given, ticked, is_stage, is_commit, is_seal}
 use Rattle.sd_history.specs.Things.{failure_of, mended}
-use Rattle.sd_history.specs.World.{Setting, setting_over, Seen, makes, fails, is_thing, is_up, link_has_failed, was_made, has_ever_failed, is_untouched, window, in_window, has_commit, in_force, staged, is_staged_member, plan_numbered, joined_in_window, has_entered}
-use Rattle.sd_history.specs.Premises.{at_each, readings, reads_honestly, is_in_time, arrives_in_time, latest_tick, is_current_member, first_reference, ticks_in_time, failures_since_closing, fails_within_one, was_given, leaves_out_cleanly, leaves_out_failed, is_prepared, commits_orderly, has_seal, seals_orderly, has_mend, fails_orderly, begins_orderly}
+use Rattle.sd_history.specs.World.{Setting, setting_over, Seen, makes, fails, is_thing, is_up, link_has_failed, was_made, has_ever_failed, is_untouched, window, has_commit, in_force, staged, is_staged_member, plan_numbered, joined_in_window, has_entered}
+use Rattle.sd_history.specs.Premises.{readings, reads_honestly, is_in_time, arrives_in_time, latest_tick, is_current_member, first_reference, ticks_in_time, failures_since_closing, fails_within_one, was_given, leaves_out_cleanly, leaves_out_failed, is_prepared, commits_orderly, has_seal, seals_orderly, has_mend, fails_orderly, begins_orderly}
 use Rattle.sd_proof_resume.specs.Shifts.{Shift, raised_flight, raised_event, raised_seen}
 use Rattle.sd_proof_resume.specs.Views.{LooksAlike}
 use Rattle.sd_proof_resume.specs.Law.{whole}
 use Rattle.sd_proof_resume.specs.Premised.{PremisesAgree}
 use Rattle.sd_proof_resume.proofs.Words.{EventWords, words_of, same_words}
-use Rattle.sd_proof_resume.proofs.Plans.{in_force_same, staged_same, staged_member_same, open_same, in_window_same, commit_same, joined_same}
+use Rattle.sd_proof_resume.proofs.Plans.{in_force_same, staged_same, staged_member_same, in_window_same, commit_same, joined_same}
 use Rattle.sd_proof_resume.proofs.Views.{told, reading_by, made_reads}
-use Rattle.sd_proof_resume.proofs.Acts.{all_same}
+use Rattle.sd_proof_resume.proofs.Acts.{all_same, any_same}
 use Rattle.sd_history.proofs.Known.{up_case}
 
 and_on : (a b c d : Bool) → (a ≡ true → b ≡ true) → (c ≡ true → d ≡ true) → (a && c) ≡ true → (b && d) ≡ true
@@ -94,20 +93,16 @@ entered_raised shift d (s ∷ w) =
     (same_words shift s.event)
     ∙ ap (λ b. map_or (if same_number s.activated d then Some true else if makes d s.event then Some false else None) b (λ t. t)) (entered_raised shift d w)
 
-any_alike : {A : Type 0} (p q : A → Bool) → ((x : A) → p x ≡ q x) → (xs : List A) → list_any p xs ≡ list_any q xs
-any_alike p q same [] = refl
-any_alike p q same (x ∷ xs) = ap (λ b. b || list_any p xs) (same x) ∙ ap (λ b. q x || b) (any_alike p q same xs)
-
 joined_alike : (net : Network) (pass pass' cross cross' : ℕ → Bool) → ((d : ℕ) → pass d ≡ pass' d) → ((l : ℕ) → cross l ≡ cross' l) → (n d x : ℕ)
     → joined_within net pass cross n d x ≡ joined_within net pass' cross' n d x
 joined_alike net pass pass' cross cross' same same' zero d x = refl
 joined_alike net pass pass' cross cross' same same' (suc n) d x =
     ap (λ b. nat_eq d x || b)
-    (any_alike (λ e. (pass e && list_any (λ l. cross l && joins net l d e) (link_numbers net)) && joined_within net pass cross n e x)
+    (any_same (λ e. (pass e && list_any (λ l. cross l && joins net l d e) (link_numbers net)) && joined_within net pass cross n e x)
     (λ e. (pass' e && list_any (λ l. cross' l && joins net l d e) (link_numbers net)) && joined_within net pass' cross' n e x)
     (λ e. three (pass e) (pass' e) (list_any (λ l. cross l && joins net l d e) (link_numbers net)) (list_any (λ l. cross' l && joins net l d e) (link_numbers net))
     (joined_within net pass cross n e x) (joined_within net pass' cross' n e x) (same e)
-    (any_alike (λ l. cross l && joins net l d e) (λ l. cross' l && joins net l d e) (λ l. ap (λ b. b && joins net l d e) (same' l)) (link_numbers net))
+    (any_same (λ l. cross l && joins net l d e) (λ l. cross' l && joins net l d e) (λ l. ap (λ b. b && joins net l d e) (same' l)) (link_numbers net))
     (joined_alike net pass pass' cross cross' same same' n e x))
     (device_numbers net))
   where
@@ -255,6 +250,7 @@ module _ (shift : Shift) (net : Network) (front plans : List Plan) (behind : shi
           → (m || list_all (keeps_reading (rates_of net d) (reference_of s.event, c)) (readings other d)) ≡ true
       by d c true made named reads is' = refl
       by d c false made named reads is' = agree.readings d (keeps_reading (rates_of net d) (reference_of s.event, c)) (there d c named reads made) is'
+
       go : (o k : Option ℕ) → device_of s.event ≡ o → counter_of s.event ≡ k
           → map_or o true (λ d. map_or k true (λ c. makes d s.event || list_all (keeps_reading (rates_of net d) (reference_of s.event, c)) (readings one d))) ≡ true
           → map_or o true (λ d. map_or k true (λ c. makes d s.event || list_all (keeps_reading (rates_of net d) (reference_of s.event, c)) (readings other d))) ≡ true
@@ -291,6 +287,7 @@ module _ (shift : Shift) (net : Network) (front plans : List Plan) (behind : shi
       either : (a b : Bool) → a ≡ true → (a || b) ≡ true
       either true b is' = refl
       either false b is' = cc
+
       on : (d : ℕ) (up current : Bool) → is_up other d ≡ up
           → (not (up && current) || nat_le (reference_of s.event) (latest_tick one d + net.params.tick)) ≡ true
           → (not (up && current) || nat_le (reference_of s.event) (latest_tick other d + net.params.tick)) ≡ true
@@ -323,6 +320,7 @@ module _ (shift : Shift) (net : Network) (front plans : List Plan) (behind : shi
           both : (b : Bool) → b ≡ true → not b ≡ true → ⊥
           both true x y = cc
           both false x y = cc
+
       go : (o : Option ℕ) → map_or o true (λ d. not (is_member (in_force (setting_over net plans) other) d && is_untouched one d)) ≡ true
           → map_or o true (λ d. not (is_member (in_force (setting_over net plans) other) d && is_untouched other d)) ≡ true
       go None is' = refl
@@ -355,6 +353,7 @@ module _ (shift : Shift) (net : Network) (front plans : List Plan) (behind : shi
       both : (xs ys zs : List (ℕ × ℕ)) → (list_all test ys ≡ true → list_all test zs ≡ true) → list_all test (xs ++ ys) ≡ true → list_all test (xs ++ zs) ≡ true
       both xs ys zs on is = by_equal _ _ (sym (list_all-append test xs zs))
           (and_on (list_all test xs) (list_all test xs) (list_all test ys) (list_all test zs) (λ x. x) on (by_equal _ _ (list_all-append test xs ys) is))
+
       unmade : (m : Bool) → makes d s.event ≡ m → same_number (device_of s.event) d ≡ false → makes d s.event ≡ false
       unmade false made apart = made
       unmade true made apart =
@@ -362,6 +361,7 @@ module _ (shift : Shift) (net : Network) (front plans : List Plan) (behind : shi
           let none : reading_by (words_of s.event) d ≡ None = ap (λ b. if b then counter_of s.event else None) apart in
           let no : None ≡ Some reads.0 = sym none ∙ reads.1 in
           cc
+
       go : (b m : Bool) → same_number (device_of s.event) d ≡ b → makes d s.event ≡ m
           → list_all test (if b then (if m then here_by (words_of s.event) else here_by (words_of s.event) ++ readings one d) else readings one d) ≡ true
           → list_all test (if b then (if m then here_by (words_of s.event) else here_by (words_of s.event) ++ readings other d) else readings other d) ≡ true

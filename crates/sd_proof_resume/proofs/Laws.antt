@@ -1,5 +1,5 @@
 -- The law of two histories that agree: behind both the rules admit the same events, with the same alarms and reports, and both go on agreeing.
-use Rattle.std.specs.Prelude.{◌≡◌, ℕ, ◌+◌, ◌≤◌, Option, None, Bool, true, false, ◌||◌, not, nat_eq, Some, List, [], ◌∷◌, ◌++◌, length, map, refl}
+use Rattle.std.specs.Prelude.{◌≡◌, ℕ, ◌+◌, ◌≤◌, Option, None, Bool, true, false, ◌||◌, not, nat_eq, Some, List, [], ◌∷◌, ◌++◌, map, refl}
 use Rattle.std.proofs.Common.{arith, sym, ◌∙◌, ap, subst}
 use Rattle.sd_history.specs.Core.Topo.Network.{Network}
 use Rattle.sd_history.specs.Core.Plan.declared.Plan.{Plan}
@@ -9,7 +9,7 @@ use Rattle.std.proofs.lemmas.Bool.{eq-eqb}
 use Rattle.sd_history.specs.Sched.declared.Event.TheVariants as event
 use Rattle.sd_history.specs.Sched.Events.{reference_of, device_of, counter_of}
 use Rattle.sd_history.specs.World.{Setting, setting_over, Seen, makes, is_up, latest_reference}
-use Rattle.sd_history.specs.Steps.{Answers, Step, seen_of, events_of, changed, flight_count, flights_to, ends_at, flights_by, flights_of, act_by, step_of}
+use Rattle.sd_history.specs.Steps.{Answers, Step, seen_of, events_of, changed, flight_count, flights_to, ends_at, flights_by, flights_of, act_by}
 use Rattle.sd_history.specs.Refusals.{not_started}
 use Rattle.sd_history.specs.Chronicle.{told_by, next_step, chronicle}
 use Rattle.sd_history.specs.Nodes.{NodeStep, steps_of}
@@ -27,7 +27,7 @@ use Rattle.sd_history.proofs.Admitted.{rule_holds}
 use Rattle.sd_history.proofs.Given.{some_is}
 use Rattle.sd_history.proofs.Devices.{device, admitted_devices_run, admitted_devices_have_history}
 use Rattle.sd_proof_resume.specs.Shifts.{Shift, raised_event, raised_seen}
-use Rattle.sd_proof_resume.specs.Agreement.{raised_told, MayFollow, Agree}
+use Rattle.sd_proof_resume.specs.Agreement.{MayFollow}
 use Rattle.sd_proof_resume.specs.Law.{whole, NamesSome, alarms_and_report, HistoriesAgree, AllMayFollow, SaysAlike}
 use Rattle.sd_proof_resume.specs.Views.{LooksAlike}
 use Rattle.sd_proof_resume.specs.Premised.{PremisesAgree}
@@ -57,11 +57,14 @@ up_at_reading seen e d c rule named reads unmade = go e rule named reads unmade
     up : (m : ℕ) (b : Bool) → is_up seen m ≡ b → not b ≡ false → Some m ≡ Some d → is_up seen d ≡ true
     up m true is rest same = subst (λ x. is_up seen x ≡ true) (some_is same) is
     up m false is rest same = cc
+
     made : (m : ℕ) → Some m ≡ Some d → nat_eq m d ≡ true
     made m same = eq-eqb m d (some_is same)
+
     both : (b : Bool) → b ≡ true → (b || false) ≡ false → is_up seen d ≡ true
     both true made_ unmade_ = cc
     both false made_ unmade_ = cc
+
     go : (e : Event) → not_started seen e ≡ false → device_of e ≡ Some d → counter_of e ≡ Some c → makes d e ≡ false → is_up seen d ≡ true
     go (event.Start reference m counter clock eps) rule' named' reads' unmade' = both (nat_eq m d) (made m named') unmade'
     go (event.Join reference m counter clock eps) rule' named' reads' unmade' =
@@ -90,6 +93,7 @@ sent_facts setting steps e f among =
     sends d epoch Quiet a = elim a [ ]
     sends d epoch (Send m) a =
         to_facts setting steps (reference_of e) d m (flight_count steps + 1) (ends_at setting steps epoch d) f (omega arith) a
+
     by : (o : Option ℕ) (a : Option Answers) (effect : Effect)
         → Among f (map_or o [] (λ d. map_or a [] (λ x. flights_by setting steps (reference_of e) d x.epoch effect))) → (1 ≤ f.number) × (reference_of e ≤ f.due)
     by None a effect among' = elim among' [ ]
@@ -203,11 +207,12 @@ module _ (shift : Shift) (net : Network) (front plans : List Plan) where
       let first_is : chronicle (whole net front plans) (map (raised_event shift) later ++ one) ≡ steps_of on.agree.first =
       sym (run_is (whole net front plans) on.agree.first (map (raised_event shift) later ++ one) on.agree.first_runs on.agree.first_happened) in
       let second_is : chronicle (setting_over net plans) (later ++ other) ≡ steps_of on.agree.second =
-      sym (run_is (setting_over net plans) on.agree.second (later ++ other) on.agree.second_runs on.agree.second_happened) in
-      (before,
-      subst (λ s. Admits (setting_over net plans) s e) (sym second_is)
-      (sym (admitted_same shift net front plans on.agree.behind (steps_of on.agree.first) (steps_of on.agree.second) on.agree.agree.steps e may.1 may.2.start)
-      ∙ subst (λ s. Admits (whole net front plans) s (raised_event shift e)) first_is is.1))
+      sym (run_is (setting_over net plans) on.agree.second (later ++ other) on.agree.second_runs on.agree.second_happened) in (
+        before,
+        subst (λ s. Admits (setting_over net plans) s e) (sym second_is)
+            (sym (admitted_same shift net front plans on.agree.behind (steps_of on.agree.first) (steps_of on.agree.second) on.agree.agree.steps e may.1 may.2.start)
+            ∙ subst (λ s. Admits (whole net front plans) s (raised_event shift e)) first_is is.1),
+      )
 
   -- What breaks behind the second breaks behind the first, of the premises but loss.
   pub breaks_in_both : (one other : List Event) → HistoriesAgree shift net front plans one other

@@ -1,7 +1,6 @@
 -- After steps that agree the alarms and reports of an event are the same.
-use Rattle.std.specs.Prelude.{◌≡◌, ℕ, zero, suc, ◌+◌, Bool, true, false, ◌&&◌, ◌||◌, List, [], ◌∷◌, ◌++◌, length, find, filter, Option, Some, None, option_map, option_and_then, refl, if◌then◌else◌}
-use Rattle.std.specs.List.{list_any}
-use Rattle.std.proofs.Common.{sym, ◌∙◌, ap, append_assoc}
+use Rattle.std.specs.Prelude.{◌≡◌, ℕ, zero, suc, ◌+◌, Bool, ◌&&◌, List, [], ◌∷◌, ◌++◌, length, find, Option, Some, None, option_map, option_and_then, refl, if◌then◌else◌}
+use Rattle.std.proofs.Common.{◌∙◌, ap, append_assoc}
 use Rattle.sd_history.specs.Sched.Num.Lists.{map_or, same_number, follow}
 use Rattle.sd_history.specs.Core.Topo.Network.{Network, device_numbers}
 use Rattle.sd_history.specs.Core.Plan.declared.Plan.{Plan}
@@ -16,9 +15,9 @@ use Rattle.sd_history.specs.Lines.{Line, counted_parent, is_on_loop, first_on_lo
 use Rattle.sd_proof_resume.specs.Shifts.{Shift, raised_event}
 use Rattle.sd_proof_resume.specs.Agreement.{raised_answers, raised_told, StepsAgree}
 use Rattle.sd_proof_resume.specs.Law.{whole, NamesSome, alarms_and_report}
-use Rattle.sd_proof_resume.proofs.Words.{words_of, same_words}
+use Rattle.sd_proof_resume.proofs.Words.{same_words}
 use Rattle.sd_proof_resume.proofs.Plans.{counted_same}
-use Rattle.sd_proof_resume.proofs.Acts.{acts_same, filter_same}
+use Rattle.sd_proof_resume.proofs.Acts.{acts_same, filter_same, any_same}
 use Rattle.sd_proof_resume.proofs.Stepping.{agree_after}
 
 -- the lines of an event are those that name a broken premise, and these
@@ -38,10 +37,6 @@ follow_same f g same (suc n) d = ap (option_and_then f) (follow_same f g same n 
     go : (o : Option ℕ) → option_and_then f o ≡ option_and_then g o
     go None = refl
     go (Some x) = same x
-
-any_same : {A : Type 0} (p q : A → Bool) → ((x : A) → p x ≡ q x) → (xs : List A) → list_any p xs ≡ list_any q xs
-any_same p q same [] = refl
-any_same p q same (x ∷ xs) = ap (λ b. b || list_any p xs) (same x) ∙ ap (λ b. q x || b) (any_same p q same xs)
 
 find_same : {A : Type 0} (p q : A → Bool) → ((x : A) → p x ≡ q x) → (xs : List A) → find p xs ≡ find q xs
 find_same p q same [] = refl

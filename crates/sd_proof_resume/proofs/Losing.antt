@@ -1,9 +1,8 @@
 -- A run of lost rounds in the second of two histories that agree is one in the first.
-use Rattle.std.specs.Prelude.{◌≡◌, ℕ, zero, suc, ◌+◌, ◌<◌, ◌≤◌, Bool, true, false, ◌&&◌, ◌||◌, not, List, [], ◌∷◌, ◌++◌, length, map, filter, nat_eq, nat_le, nat_lt, Option, Some, None, option_map, ◌⊎◌, refl, if◌then◌else◌}
+use Rattle.std.specs.Prelude.{◌≡◌, ℕ, zero, suc, ◌+◌, ◌≤◌, Bool, true, false, ◌&&◌, ◌||◌, not, List, [], ◌∷◌, ◌++◌, map, filter, nat_eq, nat_le, nat_lt, Option, Some, None, option_map, refl, if◌then◌else◌}
 use Rattle.std.specs.List.{list_any, list_all}
 use Rattle.std.proofs.Common.{arith, sym, ◌∙◌, ap, subst, inl, inr}
-use Rattle.std.proofs.lemmas.Bool.{and_parts, and_from, eqb-true, eq-eqb, leb-true, le-leb, le-ltb, cases_Bool}
-use Rattle.std.proofs.lemmas.Bool.Decides.{nat_tests}
+use Rattle.std.proofs.lemmas.Bool.{and_parts, and_from, eqb-true, eq-eqb, leb-true, le-leb, le-ltb}
 use Rattle.sd_history.specs.Sched.Num.Lists.{map_or, below}
 use Rattle.sd_history.specs.Core.Topo.declared.Thing.TheVariants as thing
 use Rattle.sd_history.specs.Msg.declared.Flight.{Flight}
@@ -15,7 +14,7 @@ use Rattle.sd_history.proofs.Among.{Among, first, later, passes, all_pass, on_ri
 use Rattle.sd_proof_resume.specs.Shifts.{Shift, raised_round, raised_stamp, raised_flight, raised_seen}
 use Rattle.sd_proof_resume.specs.Losses.{FlightAgrees, ArePast, LossesAgree}
 use Rattle.sd_proof_resume.proofs.Words.{EventWords, words_of, same_words}
-use Rattle.sd_proof_resume.proofs.Steps.{any_number_raised}
+use Rattle.sd_proof_resume.proofs.Steps.{any_number_raised, same_numbers}
 use Rattle.sd_proof_resume.proofs.Judging.{all_on}
 
 -- Lists
@@ -90,6 +89,7 @@ same_run shift term round i o is =
   where
     later_round : (n round i by : ℕ) → n ≡ round + i → n + by ≡ round + by + i
     later_round n round i by same = omega (arith, same)
+
     go : (term round t n : ℕ) → t ≡ term → n ≡ round + i
         → is_round (raised_round shift t n) (raised_round shift term round).term ((raised_round shift term round).round + i) ≡ true
     go zero round zero n same same' =
@@ -164,6 +164,7 @@ not_overdue (s ∷ seen) latest due f is le past =
   where
     by : (d r l u : ℕ) → d ≡ u → l ≤ u → nat_le r l ≡ true → nat_lt d r ≡ false
     by d r l u same le' is' = let h : r ≤ l = leb-true r l is' in le-ltb d r (omega (arith, h, le', same))
+
     neither : (a b : Bool) → a ≡ false → b ≡ false → (a || b) ≡ false
     neither a b x y = rw (x, y) refl
 
@@ -183,9 +184,6 @@ interrupted_step s seen f = go (list_any (λ g. nat_eq g.number f.number) s.sent
         ≡ (if b then false else interrupts (words_of s.event) f || was_interrupted seen f)
     go true = refl
     go false = refl
-
-same_numbers : (n m by : ℕ) → nat_eq (n + by) (m + by) ≡ nat_eq n m
-same_numbers n m by = grind (arith, nat_tests)
 
 module _ (shift : Shift) (s : Seen) (one other : List Seen) (agree : LossesAgree shift one other)
     (goes : latest_reference one ≤ reference_of s.event) (goes_other : latest_reference other ≤ reference_of s.event)

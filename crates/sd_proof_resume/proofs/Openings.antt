@@ -1,5 +1,5 @@
 -- An opening agrees with the history that it opens: all that a definition of agreement has beside follows, since the opening has sent no message.
-use Rattle.std.specs.Prelude.{◌≡◌, ℕ, zero, suc, ◌+◌, ◌<◌, ◌≤◌, Bool, true, false, ◌&&◌, ◌||◌, not, List, [], ◌∷◌, length, nat_eq, nat_le, nat_lt, Option, Some, None, option_map, refl, if◌then◌else◌}
+use Rattle.std.specs.Prelude.{◌≡◌, ℕ, ◌+◌, ◌<◌, ◌≤◌, Bool, true, false, ◌||◌, List, [], ◌∷◌, length, nat_eq, nat_lt, Option, Some, None, option_map, refl, if◌then◌else◌}
 use Rattle.std.proofs.Common.{arith, sym, ◌∙◌, ap, subst}
 use Rattle.std.proofs.lemmas.Bool.{eqb-true, false_from_ne_true}
 use Rattle.std.proofs.lemmas.Bool.Decides.{nat_tests}
@@ -7,16 +7,14 @@ use Rattle.sd_history.specs.Sched.Num.Lists.{map_or, same_number}
 use Rattle.sd_history.specs.Core.Topo.Network.{Network}
 use Rattle.sd_history.specs.Core.Plan.declared.Plan.{Plan}
 use Rattle.sd_history.specs.Core.declared.registers.Registers.{Registers}
-use Rattle.sd_history.specs.Msg.declared.Flight.{Flight}
 use Rattle.sd_history.specs.Msg.Books.{is_given}
-use Rattle.sd_history.specs.Sched.declared.Event.{Event}
 use Rattle.sd_history.specs.Sched.Events.{message_of}
 use Rattle.sd_history.specs.World.{Setting, setting_over, is_up, latest_reading}
-use Rattle.sd_history.specs.Steps.{Answers, Step, seen_of, events_of, answers_in, live_answers, flight_count, flight_numbered}
-use Rattle.sd_history.specs.Refusals.{refusal, was_used, was_swept, unknown_message}
+use Rattle.sd_history.specs.Steps.{Step, seen_of, events_of, answers_in, live_answers, flight_count, flight_numbered}
+use Rattle.sd_history.specs.Refusals.{was_used}
 use Rattle.sd_history.specs.Accepted.{AreSteps}
-use Rattle.sd_history.specs.Nodes.{answers_of, NodeStep, steps_of, node_in, IsRun}
-use Rattle.sd_history.specs.Admitted.{Admits, IsAdmittedRun}
+use Rattle.sd_history.specs.Nodes.{answers_of, NodeStep, steps_of, node_in}
+use Rattle.sd_history.proofs.Accepting.{run_is_accepted}
 use Rattle.sd_history.proofs.Among.{first, later}
 use Rattle.sd_history.proofs.Admitted.{rule_holds, accepted_is_admitted, run_is_admitted}
 use Rattle.sd_history.proofs.Devices.{device}
@@ -24,15 +22,10 @@ use Rattle.sd_history.proofs.flights.Numbers.{numbered_none}
 use Rattle.sd_history.proofs.flights.Sending.{counted}
 use Rattle.sd_proof_resume.specs.Shifts.{Shift, raised_flight}
 use Rattle.sd_proof_resume.specs.Likeness.{AreAlike}
-use Rattle.sd_proof_resume.specs.Agreement.{raised_answers, StepsAgree, Agree}
+use Rattle.sd_proof_resume.specs.Agreement.{raised_answers, Agree}
 use Rattle.sd_proof_resume.specs.Law.{whole, HistoriesAgree}
 use Rattle.sd_proof_resume.specs.Cuts.{IsOpening}
 use Rattle.sd_proof_resume.proofs.Running.{answers_alike, answers_are_nodes}
-
--- the steps of a run of devices
-pub run_has_steps : (setting : Setting) (run : List (NodeStep Registers)) → IsRun device setting run → AreSteps setting (steps_of run)
-run_has_steps setting [] is = tt
-run_has_steps setting (x ∷ earlier) is = (run_has_steps setting earlier is.0, is.1, is.2.is)
 
 -- a message that was used was sent
 pub used_was_sent : (setting : Setting) (steps : List Step) (n : ℕ) → AreSteps setting steps → was_used steps n ≡ true → n ≤ flight_count steps
@@ -42,16 +35,19 @@ used_was_sent setting (s ∷ earlier) n are used =
   where
     grows : n ≤ flight_count earlier → n ≤ flight_count (s ∷ earlier)
     grows le = let more : flight_count (s ∷ earlier) ≡ length s.sent + flight_count earlier = counted s earlier in omega (arith, le, more)
+
     within : (m : ℕ) (b : Bool) → b ≡ (nat_eq m 0 || nat_lt (flight_count earlier) m) → b ≡ false → m ≤ flight_count earlier
     within m b is none = by m (nat_eq m 0) (sym is ∙ none)
       where
         by : (m : ℕ) (z : Bool) → (z || nat_lt (flight_count earlier) m) ≡ false → m ≤ flight_count earlier
         by m true none = cc
         by m false none = grind (arith, nat_tests, none)
+
     named : (o : Option ℕ) → map_or o false (λ m. nat_eq m 0 || nat_lt (flight_count earlier) m) ≡ false → same_number o n ≡ true → n ≤ flight_count earlier
     named None rule same = cc
     named (Some m) rule same =
         subst (λ x. x ≤ flight_count earlier) (eqb-true m n same) (within m (nat_eq m 0 || nat_lt (flight_count earlier) m) refl rule)
+
     go : (b : Bool) → same_number (message_of s.seen.event) n ≡ b → (b || was_used earlier n) ≡ true → (was_used earlier n ≡ true → n ≤ flight_count earlier)
         → n ≤ flight_count (s ∷ earlier)
     go true same any rest =
@@ -71,10 +67,10 @@ not_given count n past = grind (arith, nat_tests, past)
 
 module _ (shift : Shift) (net : Network) (front plans : List Plan) (run other : List (NodeStep Registers)) (is : IsOpening shift net front plans run other) where
   first_steps : AreSteps (whole net front plans) (steps_of run)
-  first_steps = run_has_steps (whole net front plans) run is.first_runs
+  first_steps = run_is_accepted device (whole net front plans) run is.first_runs
 
   second_steps : AreSteps (setting_over net plans) (steps_of other)
-  second_steps = run_has_steps (setting_over net plans) other is.second_runs
+  second_steps = run_is_accepted device (setting_over net plans) other is.second_runs
 
   beyond : (n : ℕ) → 1 ≤ n → flight_count (steps_of run) < n + shift.messages
   beyond n some = by n (flight_count (steps_of run)) shift.messages is.sent some
@@ -102,6 +98,7 @@ module _ (shift : Shift) (net : Network) (front plans : List Plan) (run other : 
       by (Some s) None alike = absurd alike
       by None (Some r) alike = absurd alike
       by None None alike = absurd alike
+
       go : (b : Bool) → is_up (seen_of (steps_of other)) d ≡ b
           → (if b then answers_in (steps_of run) d else None) ≡ option_map (raised_answers shift) (if b then answers_in (steps_of other) d else None)
       go true up =

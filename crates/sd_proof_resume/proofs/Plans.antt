@@ -1,22 +1,20 @@
 -- What follows of alike views: the same plans are in force and staged, and the open windows have the same in them.
-use Rattle.std.specs.Prelude.{◌≡◌, ℕ, zero, suc, ◌+◌, ◌-◌, ◌<◌, ◌≤◌, Bool, true, false, ◌&&◌, ◌||◌, not, List, [], ◌∷◌, ◌++◌, length, map, nat_eq, nat_le, count_by, slice_get, Option, Some, None, is_some, option_map, ◌⊎◌, refl, if◌then◌else◌}
+use Rattle.std.specs.Prelude.{◌≡◌, ℕ, ◌+◌, ◌-◌, ◌<◌, ◌≤◌, Bool, false, ◌&&◌, ◌||◌, List, [], ◌∷◌, ◌++◌, length, map, nat_eq, count_by, slice_get, Option, Some, None, is_some, option_map, ◌⊎◌, refl, if◌then◌else◌}
 use Rattle.std.specs.List.{list_any}
-use Rattle.std.proofs.Common.{arith, sym, ◌∙◌, ap, subst, inl, inr}
+use Rattle.std.proofs.Common.{arith, sym, ◌∙◌, ap, inl, inr}
 use Rattle.std.proofs.lemmas.Bool.{cases_lt}
-use Rattle.std.proofs.lemmas.Bool.Decides.{nat_tests}
 use Rattle.std.proofs.lemmas.List.{length-append, get_or-append-add}
 use Rattle.std.proofs.lemmas.Option.{slice_get_past, slice_get-get_or}
 use Rattle.sd_history.specs.Sched.Num.Lists.{map_or, same_number}
 use Rattle.sd_history.specs.Core.Topo.Network.{Network}
 use Rattle.sd_history.specs.Core.Plan.declared.Plan.{Plan}
 use Rattle.sd_history.specs.Core.Plan.Plans.{is_member}
-use Rattle.sd_history.specs.Sched.declared.Event.{Event}
 use Rattle.sd_history.specs.Sched.Events.{is_commit, joined}
-use Rattle.sd_history.specs.World.{Setting, setting_over, Seen, is_up, window, window_is_open, in_window, has_commit, epoch_in_force, staged_epoch, no_plan, plan_numbered, in_force, staged, is_staged_member, current_plan, joined_in_window, is_counted}
-use Rattle.sd_proof_resume.specs.Shifts.{Shift, raised_epoch, raised_event, raised_seen}
+use Rattle.sd_history.specs.World.{setting_over, Seen, is_up, window, window_is_open, in_window, has_commit, epoch_in_force, staged_epoch, no_plan, plan_numbered, in_force, staged, is_staged_member, current_plan, joined_in_window, is_counted}
+use Rattle.sd_proof_resume.specs.Shifts.{Shift, raised_epoch, raised_seen}
 use Rattle.sd_proof_resume.specs.Views.{LooksAlike}
 use Rattle.sd_proof_resume.specs.Law.{whole}
-use Rattle.sd_proof_resume.proofs.Words.{words_of, same_words}
+use Rattle.sd_proof_resume.proofs.Words.{same_words}
 use Rattle.sd_proof_resume.proofs.Stamps.{same_epoch, raised_plan}
 
 -- the plans behind the front ones

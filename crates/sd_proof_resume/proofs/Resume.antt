@@ -1,6 +1,5 @@
 -- The result: behind an opening all later events are as behind the history that it opens.
-use Rattle.std.specs.Prelude.{◌≡◌, ℕ, zero, suc, ◌+◌, ◌<◌, ◌≤◌, Bool, true, false, ◌||◌, List, [], ◌∷◌, ◌++◌, length, map, filter, nat_eq, nat_le, Option, Some, None, option_and_then, ◌⊎◌, refl}
-use Rattle.std.specs.List.{list_any}
+use Rattle.std.specs.Prelude.{◌≡◌, ℕ, suc, ◌+◌, ◌<◌, ◌≤◌, Bool, true, false, ◌||◌, List, [], ◌∷◌, ◌++◌, length, map, filter, nat_eq, Option, Some, None, option_and_then, refl}
 use Rattle.std.proofs.Common.{arith, sym, ◌∙◌, ap, subst, inl, inr}
 use Rattle.std.proofs.lemmas.Bool.{eqb-true, eq-eqb}
 use Rattle.sd_history.specs.Sched.Num.Lists.{map_or, same_number}
@@ -9,16 +8,17 @@ use Rattle.sd_history.specs.Core.Plan.declared.Plan.{Plan}
 use Rattle.sd_history.specs.Core.declared.registers.Registers.{Registers}
 use Rattle.sd_history.specs.Msg.declared.Flight.{Flight}
 use Rattle.sd_history.specs.Sched.declared.Event.{Event}
-use Rattle.sd_history.specs.Sched.Events.{reference_of, message_of, received}
-use Rattle.sd_history.specs.World.{Setting, Seen, setting_over, latest_reference}
-use Rattle.sd_history.specs.Steps.{Step, seen_of, events_of, flights, flight_count, flight_numbered, taken_by}
+use Rattle.sd_history.specs.Sched.Events.{message_of, received}
+use Rattle.sd_history.specs.World.{Setting, setting_over}
+use Rattle.sd_history.specs.Steps.{Step, seen_of, events_of, flights, flight_count, flight_numbered}
 use Rattle.sd_history.specs.Refusals.{was_used}
 use Rattle.sd_history.specs.Accepted.{AreSteps}
 use Rattle.sd_history.specs.Premises.{reaching_flights, was_received}
-use Rattle.sd_history.specs.Chronicle.{chronicle}
+use Rattle.sd_history.specs.Chronicle.{next_step, chronicle, IsHistory}
 use Rattle.sd_history.specs.Nodes.{NodeStep, steps_of}
-use Rattle.sd_history.specs.Admitted.{Admits, IsAdmitted}
-use Rattle.sd_history.proofs.Admitted.{run_is_admitted}
+use Rattle.sd_history.specs.Admitted.{IsAdmitted}
+use Rattle.sd_history.proofs.Admitted.{accepted_is_admitted, run_is_admitted}
+use Rattle.sd_history.proofs.Accepting.{run_is_accepted}
 use Rattle.sd_history.proofs.Among.{Among, either_side}
 use Rattle.sd_history.proofs.Contained.{time_goes_on}
 use Rattle.sd_history.proofs.Filters.{kept_among}
@@ -33,8 +33,9 @@ use Rattle.sd_proof_resume.specs.Premised.{PremisesAgree}
 use Rattle.sd_proof_resume.specs.Losses.{ArePast, LossesAgree}
 use Rattle.sd_proof_resume.proofs.Steps.{find_passes}
 use Rattle.sd_proof_resume.proofs.Losing.{past_after, loss_on}
-use Rattle.sd_proof_resume.proofs.Openings.{run_has_steps, unused, opening_histories_agree}
-use Rattle.sd_proof_resume.proofs.Laws.{GoOn, run_is, resumed, resumed_back, breaks_in_both, loses_in_both}
+use Rattle.sd_proof_resume.proofs.Openings.{unused, opening_histories_agree}
+use Rattle.sd_proof_resume.proofs.Spent.{lowered_event, raised_again, stays_spent, names_later}
+use Rattle.sd_proof_resume.proofs.Laws.{run_is, resumed, resumed_back, breaks_in_both, loses_in_both}
 
 -- an opening that sent nothing has no flight
 none_reach : (setting : Setting) (steps_ : List Step) → AreSteps setting steps_ → flight_count steps_ ≡ 0 → (f : Flight)
@@ -42,20 +43,23 @@ none_reach : (setting : Setting) (steps_ : List Step) → AreSteps setting steps
 none_reach setting [] are none f among = elim among [ ]
 none_reach setting (s ∷ earlier) are none f among = elim (either_side s.seen.sent (reaching_flights (seen_of earlier)) among) [
   | inl here ↦ empty s.sent (none_now (length s.sent) (flight_count earlier) (sym (counted s earlier) ∙ none)) f
-    (kept_among (λ g. g.reaches) s.sent f (subst (Among f) sent_is here))
+      (kept_among (λ g. g.reaches) s.sent f (subst (Among f) sent_is here))
   | inr before ↦ none_reach setting earlier are.0 (none_before (length s.sent) (flight_count earlier) (sym (counted s earlier) ∙ none)) f before
 ]
   where
     none_now : (a b : ℕ) → a + b ≡ 0 → a ≡ 0
     none_now a b same = omega (arith, same)
+
     none_before : (a b : ℕ) → a + b ≡ 0 → b ≡ 0
     none_before a b same = omega (arith, same)
+
     empty : (fs : List Flight) → length fs ≡ 0 → (f : Flight) → Among f fs → ⊥
     empty [] none' f' a = elim a [ ]
     empty (g ∷ fs) none' f' a = absurd (never (length fs) none')
       where
         never : (n : ℕ) → suc n ≡ 0 → ⊥
         never n same = omega (arith, same)
+
     sent_is : s.seen.sent ≡ filter (λ g. g.reaches) s.sent
     sent_is = ap (λ (x : Step). x.seen.sent) are.2 ∙ sym (ap (λ (x : Step). filter (λ (g : Flight). g.reaches) x.sent) are.2)
 
@@ -68,9 +72,11 @@ received_was_used setting (s ∷ earlier) n are got =
     or_right : (a b : Bool) → b ≡ true → (a || b) ≡ true
     or_right true b is = refl
     or_right false b is = is
+
     or_left : (a b : Bool) → a ≡ true → (a || b) ≡ true
     or_left true b is = refl
     or_left false b is = cc
+
     by : (o : Option ℕ) → received s.seen.event ≡ o → map_or (option_and_then (flight_numbered earlier) o) false (λ f. nat_eq f.number n) ≡ true
         → same_number (message_of s.seen.event) n ≡ true
     by None is taken = cc
@@ -81,6 +87,7 @@ received_was_used setting (s ∷ earlier) n are got =
         found_by (Some f) found taken' =
             let same : m ≡ n = sym (find_passes m (flights earlier) f found) ∙ eqb-true f.number n taken' in
             ap (λ o. same_number o n) (received_message s.seen.event m is) ∙ eq-eqb m n same
+
     go : (b : Bool) → map_or s.seen.taken false (λ f. nat_eq f.number n) ≡ b → (b || was_received (seen_of earlier) n) ≡ true
         → (was_received (seen_of earlier) n ≡ true → was_used earlier n ≡ true) → was_used (s ∷ earlier) n ≡ true
     go true is any rest =
@@ -133,6 +140,51 @@ module _ (shift : Shift) (net : Network) (front plans : List Plan) (first second
       → SaysAlike shift (whole net front plans) (setting_over net plans) one other later
   says_the_same later may admitted = (resumed shift net front plans one other agree later may admitted).says
 
+  -- Where no message of before is on its way, each event that is accepted behind the first is a raised one.
+  module _ (spent : NoneOnItsWay shift.messages (steps_of first)) where
+    record StaysSpent (later : List Event) : Type 0 where
+      are : AreSteps (whole net front plans) (chronicle (whole net front plans) (later ++ one))
+      sent : shift.messages ≤ flight_count (chronicle (whole net front plans) (later ++ one))
+      none : NoneOnItsWay shift.messages (chronicle (whole net front plans) (later ++ one))
+
+    behind_first : (later : List Event) → IsHistory (whole net front plans) (later ++ one) → StaysSpent later
+    behind_first [] history =
+        record {
+          are = subst (AreSteps (whole net front plans)) first_is (run_is_accepted device (whole net front plans) first is.first_runs);
+          sent = subst (λ steps_. shift.messages ≤ flight_count steps_) first_is (same (flight_count (steps_of first)) shift.messages is.sent);
+          none = subst (NoneOnItsWay shift.messages) first_is spent;
+        }
+      where
+        same : (a b : ℕ) → a ≡ b → b ≤ a
+        same a b equal = omega (arith, equal)
+    behind_first (e ∷ later) history =
+        let before : StaysSpent later = behind_first later history.0 in
+        let steps_ : List Step = chronicle (whole net front plans) (later ++ one) in
+        let now : AreSteps (whole net front plans) (next_step (whole net front plans) steps_ e ∷ steps_) = (before.are, history.1, refl) in
+        record {
+          are = now;
+          sent = more (length (next_step (whole net front plans) steps_ e).sent) (flight_count steps_) (flight_count (next_step (whole net front plans) steps_ e ∷ steps_))
+              (counted (next_step (whole net front plans) steps_ e) steps_) before.sent;
+          none = stays_spent (whole net front plans) shift.messages (next_step (whole net front plans) steps_ e) steps_ now before.sent before.none;
+        }
+      where
+        more : (a b c : ℕ) → c ≡ a + b → shift.messages ≤ b → shift.messages ≤ c
+        more a b c equal le = omega (arith, equal, le)
+
+    pub nothing_else_comes : (later : List Event) → IsHistory (whole net front plans) (later ++ one) → map (raised_event shift) (map (lowered_event shift) later) ≡ later
+    nothing_else_comes [] history = refl
+    nothing_else_comes (e ∷ later) history =
+        let before : StaysSpent later = behind_first later history.0 in
+        let steps_ : List Step = chronicle (whole net front plans) (later ++ one) in
+        ap (λ x. x ∷ map (raised_event shift) (map (lowered_event shift) later))
+        (raised_again shift e (λ n named. at_least shift.messages n
+        (names_later (whole net front plans) steps_ shift.messages before.none before.are before.sent e
+        (accepted_is_admitted (whole net front plans) steps_ e history.1) n named)))
+        ∙ ap (λ xs. e ∷ xs) (nothing_else_comes later history.0)
+      where
+        at_least : (a b : ℕ) → a < b → a ≤ b
+        at_least a b less = omega (arith, less)
+
   module _ (honest : IsHonestOpening (setting_over net plans) (seen_of (steps_of first)) (seen_of (steps_of second))) where
     premises : PremisesAgree (whole net front plans) (setting_over net plans) (seen_of (steps_of first)) (seen_of (steps_of second))
     premises =
@@ -163,11 +215,14 @@ module _ (shift : Shift) (net : Network) (front plans : List Plan) (first second
         }
       where
         first_steps : AreSteps (whole net front plans) (steps_of first)
-        first_steps = run_has_steps (whole net front plans) first is.first_runs
+        first_steps = run_is_accepted device (whole net front plans) first is.first_runs
+
         second_steps : AreSteps (setting_over net plans) (steps_of second)
-        second_steps = run_has_steps (setting_over net plans) second is.second_runs
+        second_steps = run_is_accepted device (setting_over net plans) second is.second_runs
+
         beyond : (n count messages : ℕ) → count ≡ messages → 1 ≤ n → count < n + messages
         beyond n count messages same some = omega (arith, same, some)
+
         above : (n count : ℕ) → count ≡ 0 → 1 ≤ n → count < n
         above n count none some = omega (arith, none, some)
 

@@ -1,5 +1,5 @@
 -- Devices that agree go on agreeing: after an event that the rules admit, both runs go on, alike.
-use Rattle.std.specs.Prelude.{◌≡◌, ℕ, zero, suc, ◌+◌, ◌≤◌, Bool, true, false, ◌&&◌, ◌||◌, not, List, [], ◌∷◌, length, nat_eq, nat_le, nat_lt, Option, Some, None, is_some, IfSome, option_map, option_and_then, refl, if◌then◌else◌}
+use Rattle.std.specs.Prelude.{◌≡◌, ℕ, zero, suc, ◌≤◌, Bool, true, false, ◌&&◌, ◌||◌, not, List, [], ◌∷◌, length, nat_eq, nat_le, nat_lt, Option, Some, None, is_some, IfSome, option_map, refl, if◌then◌else◌}
 use Rattle.std.proofs.Common.{arith, sym, ◌∙◌, ap, subst}
 use Rattle.std.proofs.lemmas.Bool.{eqb-true, eq-eqb}
 use Rattle.sd_history.specs.Sched.Num.Lists.{map_or, same_number}
@@ -14,7 +14,6 @@ use Rattle.sd_history.specs.Clock.Estimates.{estimate_at}
 use Rattle.sd_history.specs.Msg.declared.Flight.{Flight}
 use Rattle.sd_history.specs.Msg.declared.Stamp.{Stamp}
 use Rattle.sd_history.specs.Msg.Stamps.{stamp}
-use Rattle.sd_history.specs.Core.declared.Effect.TheVariants.{Quiet}
 use Rattle.sd_history.specs.Core.declared.registers.Registers.{Registers}
 use Rattle.sd_history.specs.Core.declared.registers.Mode.{Mode}
 use Rattle.sd_history.specs.Core.declared.registers.Mode.TheVariants.{Primary, Backup, Acting, Idle}
@@ -22,19 +21,18 @@ use Rattle.sd_history.specs.Core.Calls as calls
 use Rattle.sd_history.specs.Core.Calls.{Making, Call, Past}
 use Rattle.sd_history.specs.Core.Words as words
 use Rattle.sd_history.specs.Core.Lives.{past_of}
-use Rattle.sd_history.specs.Core.Rules.{made, called, report_in, epoch_in, parent_in, acts_in, edge_in, follows_a_plan, is_acting_mode}
-use Rattle.sd_history.specs.Core.Standing.{registers_of}
+use Rattle.sd_history.specs.Core.Rules.{made, called, report_in, acts_in, follows_a_plan, is_acting_mode}
 use Rattle.sd_history.specs.Sched.declared.Event.{Event}
 use Rattle.sd_history.specs.Sched.declared.Event.TheVariants as event
-use Rattle.sd_history.specs.Sched.Events.{device_of, counter_of, message_of, started, is_commit}
+use Rattle.sd_history.specs.Sched.Events.{device_of, counter_of, message_of}
 use Rattle.sd_history.specs.Things.{failure_of, mended}
 use Rattle.sd_history.specs.World.{Setting, setting_over, Seen, makes, fails, is_up, latest_reading, staged, staged_epoch}
 use Rattle.sd_history.specs.Steps as steps
 use Rattle.sd_history.specs.Steps.{Act, Makes, Calls, Asks, Passes, Answers, Told, tells_nothing, tells_made, tells_called, Step, seen_of, events_of, changed, answers_in, live_answers, act_by, acted_by, flight_numbered, flight_count, step_of}
-use Rattle.sd_history.specs.Refusals.{makes_some, counter_falls, not_started, unknown_message}
+use Rattle.sd_history.specs.Refusals.{makes_some}
 use Rattle.sd_history.specs.Lives.{tells_report}
-use Rattle.sd_history.specs.Chronicle.{chronicle, past_in}
-use Rattle.sd_history.specs.Nodes.{answers_of, NodeStep, steps_of, node_in, node_before, IsMade, IsCalled, IsAsked, Allows, Follows}
+use Rattle.sd_history.specs.Chronicle.{past_in}
+use Rattle.sd_history.specs.Nodes.{answers_of, NodeStep, steps_of, node_in, node_before, Allows, Follows}
 use Rattle.sd_history.specs.Admitted.{Admits, IsAdmittedRun}
 use Rattle.sd_history.proofs.Among.{first, later}
 use Rattle.sd_history.proofs.Admitted.{rule_holds}
@@ -42,13 +40,12 @@ use Rattle.sd_history.proofs.Given.{some_is}
 use Rattle.sd_history.proofs.Known.{up_case}
 use Rattle.sd_history.proofs.Owned.{OwnPast, rates_are_own}
 use Rattle.sd_history.proofs.Owning.{own_pasts}
-use Rattle.sd_history.proofs.Devices.{device, grows, not_falling, Lives, RunGoes, past_is, admitted_run_goes, admitted_devices_run, admitted_goes_forward}
-use Rattle.sd_proof_resume.specs.Shifts.{Shift, raised_epoch, raised_stamp, raised_duty, raised_flight, raised_effect, raised_making, raised_call, raised_event, raised_registers}
-use Rattle.sd_proof_resume.specs.Likeness.{ReportsAlike, IsAlike, AreAlike}
-use Rattle.sd_proof_resume.specs.Agreement.{raised_answers, raised_told, raised_act, StepsAgree, MayFollow, Agree}
+use Rattle.sd_history.proofs.Devices.{device, grows, not_falling, Lives, past_is, admitted_run_goes, admitted_devices_run, admitted_goes_forward}
+use Rattle.sd_proof_resume.specs.Shifts.{Shift, raised_epoch, raised_duty, raised_call, raised_event, raised_registers}
+use Rattle.sd_proof_resume.specs.Likeness.{IsAlike, AreAlike}
+use Rattle.sd_proof_resume.specs.Agreement.{raised_answers, raised_told, raised_act, MayFollow, Agree}
 use Rattle.sd_proof_resume.proofs.Calls.{IsCommittable, IsOrderlyCall, AreAlikeAfter, counter_after, called_alike}
 use Rattle.sd_proof_resume.specs.Law.{whole, NamesSome}
-use Rattle.sd_proof_resume.proofs.Words.{words_of, same_words}
 use Rattle.sd_proof_resume.proofs.Acts.{act_same}
 use Rattle.sd_proof_resume.proofs.Stepping.{makes_changes, agree_after}
 
@@ -57,8 +54,6 @@ use Rattle.sd_proof_resume.proofs.Stepping.{makes_changes, agree_after}
 same_follows : (shift : Shift) (epoch : ℕ) → nat_le 1 (raised_epoch shift epoch) ≡ nat_le 1 epoch
 same_follows shift epoch = go epoch shift.plans
   where
-
-
     go : (epoch k : ℕ) → nat_le 1 (raised_epoch (record { plans = k; messages = shift.messages; term = shift.term; round = shift.round }) epoch) ≡ nat_le 1 epoch
     go zero k = refl
     go (suc n) k = grind arith
@@ -73,17 +68,37 @@ answers_raised : (shift : Shift) (r : Registers) (duty : Option Duty) (mode : Mo
     ≡ raised_answers shift (answers_of device (record r { duty = duty; mode = mode }))
 answers_raised shift r None mode other estimate = refl
 answers_raised shift r (Some d) Primary other estimate =
-    ap (λ b. record { parent = if b then option_map (λ (edge : Edge). edge.parent) d.primary else None; acts = if b then false else false;
-      epoch = raised_epoch shift d.epoch; given = option_map (raised_duty shift) r.given; sealed = r.sealed }) (same_follows shift d.epoch)
+    ap (λ b. record {
+      parent = if b then option_map (λ (edge : Edge). edge.parent) d.primary else None;
+      acts = if b then false else false;
+      epoch = raised_epoch shift d.epoch;
+      given = option_map (raised_duty shift) r.given;
+      sealed = r.sealed;
+    }) (same_follows shift d.epoch)
 answers_raised shift r (Some d) Backup other estimate =
-    ap (λ b. record { parent = if b then option_map (λ (edge : Edge). edge.parent) d.backup else None; acts = if b then false else false;
-      epoch = raised_epoch shift d.epoch; given = option_map (raised_duty shift) r.given; sealed = r.sealed }) (same_follows shift d.epoch)
+    ap (λ b. record {
+      parent = if b then option_map (λ (edge : Edge). edge.parent) d.backup else None;
+      acts = if b then false else false;
+      epoch = raised_epoch shift d.epoch;
+      given = option_map (raised_duty shift) r.given;
+      sealed = r.sealed;
+    }) (same_follows shift d.epoch)
 answers_raised shift r (Some d) Acting other estimate =
-    ap (λ b. record { parent = if b then None else None; acts = if b then true else false;
-      epoch = raised_epoch shift d.epoch; given = option_map (raised_duty shift) r.given; sealed = r.sealed }) (same_follows shift d.epoch)
+    ap (λ b. record {
+      parent = if b then None else None;
+      acts = if b then true else false;
+      epoch = raised_epoch shift d.epoch;
+      given = option_map (raised_duty shift) r.given;
+      sealed = r.sealed;
+    }) (same_follows shift d.epoch)
 answers_raised shift r (Some d) Idle other estimate =
-    ap (λ b. record { parent = if b then None else None; acts = if b then false else false;
-      epoch = raised_epoch shift d.epoch; given = option_map (raised_duty shift) r.given; sealed = r.sealed }) (same_follows shift d.epoch)
+    ap (λ b. record {
+      parent = if b then None else None;
+      acts = if b then false else false;
+      epoch = raised_epoch shift d.epoch;
+      given = option_map (raised_duty shift) r.given;
+      sealed = r.sealed;
+    }) (same_follows shift d.epoch)
 
 pub answers_alike : (shift : Shift) (now : ℕ) (one r : Registers) → IsAlike shift now one r → answers_of device one ≡ raised_answers shift (answers_of device r)
 answers_alike shift now one r alike = ap (answers_of device) alike.kept ∙ answers_raised shift r r.duty r.mode alike.stamp alike.estimate
@@ -231,6 +246,7 @@ module _ (shift : Shift) (net : Network) (front plans : List Plan) (behind : shi
       up : (b : Bool) → not b ≡ false → b ≡ true
       up true is = refl
       up false is = cc
+
       go : (b : Bool) (o : Option ℕ) → (not b && map_or o false (λ d. not (is_up seen d))) ≡ false → b ≡ false → o ≡ Some m → is_up seen m ≡ true
       go true o rule none is = cc
       go false None rule none is = cc
@@ -370,6 +386,7 @@ names_some setting steps e admits n names =
     by : (n : ℕ) (b : Bool) → (nat_eq n 0 || b) ≡ false → 1 ≤ n
     by zero b known = cc
     by (suc n) b known = omega arith
+
     go : (o : Option ℕ) → map_or o false (λ n. nat_eq n 0 || nat_lt (flight_count steps) n) ≡ false → o ≡ Some n → 1 ≤ n
     go None known is = cc
     go (Some m) known is = subst (λ x. 1 ≤ x) (some_is is) (by m (nat_lt (flight_count steps) m) known)

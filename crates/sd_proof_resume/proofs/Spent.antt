@@ -1,9 +1,9 @@
 -- What the rules admit behind the first is a raised event: no message of before is on its way.
-use Rattle.std.specs.Prelude.{◌≡◌, ℕ, zero, suc, ◌+◌, ◌-◌, ◌<◌, ◌≤◌, Bool, true, false, ◌&&◌, ◌||◌, not, List, [], ◌∷◌, ◌++◌, length, map, filter, find, max, nat_eq, nat_le, nat_lt, Option, Some, None, option_map, option_and_then, ◌⊎◌, refl, if◌then◌else◌}
-use Rattle.std.specs.List.{list_any, list_all}
+use Rattle.std.specs.Prelude.{◌≡◌, ℕ, zero, suc, ◌+◌, ◌-◌, ◌<◌, ◌≤◌, Bool, true, false, ◌||◌, not, List, ◌∷◌, find, max, nat_eq, nat_lt, Option, Some, None, refl, if◌then◌else◌}
+use Rattle.std.specs.List.{list_any}
 use Rattle.std.specs.Option.{option_or}
-use Rattle.std.proofs.Common.{arith, sym, ◌∙◌, ap, subst, inl, inr}
-use Rattle.std.proofs.lemmas.Bool.{eqb-true, cases_lt, ltb-true, lt-ltb, ltb-false, false_from_ne_true, le-leb}
+use Rattle.std.proofs.Common.{arith, sym, ◌∙◌, ap, inl, inr}
+use Rattle.std.proofs.lemmas.Bool.{eqb-true, cases_lt, ltb-true, lt-ltb, false_from_ne_true}
 use Rattle.std.proofs.lemmas.Bool.Decides.{nat_tests}
 use Rattle.std.proofs.lemmas.List.Folds.{find-append}
 use Rattle.sd_history.specs.Sched.Num.Lists.{map_or, same_number}
@@ -13,7 +13,7 @@ use Rattle.sd_history.specs.Sched.declared.Event.TheVariants as event
 use Rattle.sd_history.specs.Sched.Events.{reference_of, message_of}
 use Rattle.sd_history.specs.World.{Setting, latest_reference}
 use Rattle.sd_history.specs.Steps.{Step, seen_of, flights, flight_count, flight_numbered}
-use Rattle.sd_history.specs.Refusals.{refusal, was_used, was_swept, is_spent, unknown_message, spent_message}
+use Rattle.sd_history.specs.Refusals.{was_used, was_swept, is_spent}
 use Rattle.sd_history.specs.Accepted.{AreSteps}
 use Rattle.sd_history.specs.Msg.Books.{is_given}
 use Rattle.sd_history.proofs.flights.Looks.{spent_at}
@@ -22,8 +22,8 @@ use Rattle.sd_history.proofs.Among.{Among, first, later, found}
 use Rattle.sd_history.proofs.Admitted.{rule_holds}
 use Rattle.sd_history.proofs.Contained.{time_goes_on}
 use Rattle.sd_history.proofs.flights.Numbers.{numbered_there}
-use Rattle.sd_history.proofs.flights.Sending.{step_numbered, counted}
-use Rattle.sd_history.proofs.flights.Finds.{within, some_has}
+use Rattle.sd_history.proofs.flights.Sending.{step_numbered}
+use Rattle.sd_history.proofs.flights.Finds.{within}
 use Rattle.sd_proof_resume.specs.Shifts.{Shift, raised_event}
 use Rattle.sd_proof_resume.specs.Cuts.{NoneOnItsWay}
 use Rattle.sd_proof_resume.proofs.Steps.{find_passes, sweeps, swept_step}
@@ -72,6 +72,7 @@ spent_on s earlier f goes apart spent =
   where
     older : (l a b : ℕ) → a ≤ b → nat_lt l (max 0 a) ≡ true → nat_lt l (max 0 b) ≡ true
     older l a b le is = let h : l < max 0 a = ltb-true l (max 0 a) is in lt-ltb l (max 0 b) (omega (arith, h, le))
+
     go : (m u k w w' o o' r : Bool) → w' ≡ (k || w) → (o ≡ true → o' ≡ true) → (u || w || o || r) ≡ true → ((m || u) || w' || o' || r) ≡ true
     go true u k w w' o o' r is on all = refl
     go false true k w w' o o' r is on all = refl

@@ -1,7 +1,7 @@
 -- Steps that agree go on agreeing where an event comes at which like things are told.
-use Rattle.std.specs.Prelude.{◌≡◌, ℕ, ◌+◌, ◌≤◌, Bool, true, false, ◌&&◌, ◌||◌, not, List, [], ◌∷◌, length, map, filter, nat_eq, nat_le, Option, Some, None, option_map, refl, if◌then◌else◌}
+use Rattle.std.specs.Prelude.{◌≡◌, ℕ, Bool, true, false, ◌&&◌, ◌||◌, not, List, ◌∷◌, length, map, filter, nat_eq, nat_le, Option, Some, None, option_map, refl, if◌then◌else◌}
 use Rattle.std.specs.List.{list_all}
-use Rattle.std.proofs.Common.{arith, sym, ◌∙◌, ap, subst}
+use Rattle.std.proofs.Common.{◌∙◌, ap}
 use Rattle.sd_history.specs.Sched.Num.Lists.{map_or, same_number}
 use Rattle.sd_history.specs.Core.Topo.Network.{Network}
 use Rattle.sd_history.specs.Core.Plan.declared.Plan.{Plan}
@@ -11,11 +11,11 @@ use Rattle.sd_history.specs.Sched.declared.Event.{Event}
 use Rattle.sd_history.specs.Sched.declared.Event.TheVariants as event
 use Rattle.sd_history.specs.Sched.Events.{reference_of, device_of}
 use Rattle.sd_history.specs.World.{Setting, setting_over, Seen, makes, is_up, window_is_open, has_commit, staged_epoch, staged}
-use Rattle.sd_history.specs.Steps.{Told, Step, seen_of, changed, has_settled, flights_of, act_by, can_close, taken_by, acted_by, epoch_in, first_step, has_turned, activated_by, complete, step_of}
-use Rattle.sd_proof_resume.specs.Shifts.{Shift, raised_epoch, raised_flight, raised_event, raised_seen}
-use Rattle.sd_proof_resume.specs.Agreement.{raised_told, raised_act, StepsAgree}
+use Rattle.sd_history.specs.Steps.{Told, Step, seen_of, changed, has_settled, flights_of, act_by, can_close, taken_by, acted_by, epoch_in, first_step, has_turned, activated_by, step_of}
+use Rattle.sd_proof_resume.specs.Shifts.{Shift, raised_epoch, raised_flight, raised_event}
+use Rattle.sd_proof_resume.specs.Agreement.{raised_told, StepsAgree}
 use Rattle.sd_proof_resume.specs.Law.{whole, NamesSome}
-use Rattle.sd_proof_resume.proofs.Words.{EventWords, words_of, same_words}
+use Rattle.sd_proof_resume.proofs.Words.{same_words}
 use Rattle.sd_proof_resume.proofs.Plans.{staged_raised, staged_same, open_same, commit_same}
 use Rattle.sd_proof_resume.proofs.Steps.{StepAgrees, steps_agree_after}
 use Rattle.sd_proof_resume.proofs.Acts.{all_same, filter_same, reaching_raised, act_same, taken_same, acted_same, flights_of_raised, epoch_of_same, settled_same}

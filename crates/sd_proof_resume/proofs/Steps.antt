@@ -1,5 +1,5 @@
 -- Two lists of steps that agree go on agreeing as like steps come.
-use Rattle.std.specs.Prelude.{◌≡◌, ℕ, ◌+◌, ◌≤◌, Bool, true, false, ◌&&◌, ◌||◌, not, List, [], ◌∷◌, ◌++◌, length, map, find, nat_eq, Option, Some, None, option_map, refl, if◌then◌else◌}
+use Rattle.std.specs.Prelude.{◌≡◌, ℕ, ◌+◌, ◌≤◌, Bool, true, false, ◌||◌, not, List, [], ◌∷◌, length, map, find, nat_eq, Option, Some, None, option_map, refl, if◌then◌else◌}
 use Rattle.std.specs.Option.{option_or}
 use Rattle.std.specs.List.{list_any}
 use Rattle.std.proofs.Common.{arith, sym, ◌∙◌, ap, subst}
@@ -12,11 +12,11 @@ use Rattle.sd_history.specs.Core.Topo.declared.Thing.TheVariants as thing
 use Rattle.sd_history.specs.Msg.declared.Flight.{Flight}
 use Rattle.sd_history.specs.Sched.Events.{message_of}
 use Rattle.sd_history.specs.World.{Seen, makes, fails, is_up, up_after, is_thing}
-use Rattle.sd_history.specs.Steps.{Act, Makes, Calls, Asks, Passes, Answers, Step, seen_of, changed, answers_in, live_answers, flights, flight_count, flight_numbered}
+use Rattle.sd_history.specs.Steps.{Act, Makes, Calls, Asks, Passes, Step, seen_of, changed, answers_in, live_answers, flights, flight_count, flight_numbered}
 use Rattle.sd_history.specs.Refusals.{was_used, was_swept, since_sending}
 use Rattle.sd_history.proofs.flights.Finds.{some_has}
 use Rattle.sd_history.proofs.flights.Sending.{counted}
-use Rattle.sd_proof_resume.specs.Shifts.{Shift, raised_flight, raised_event, raised_seen}
+use Rattle.sd_proof_resume.specs.Shifts.{Shift, raised_flight, raised_seen}
 use Rattle.sd_proof_resume.specs.Views.{LooksAlike}
 use Rattle.sd_proof_resume.specs.Agreement.{raised_answers, raised_told, raised_act, StepsAgree}
 use Rattle.sd_proof_resume.proofs.Words.{words_of, same_words, raised_number}
@@ -31,7 +31,7 @@ pub record StepAgrees (shift : Shift) (s t : Step) : Type 0 where
 
 -- Flights
 
-same_numbers : (n m by : ℕ) → nat_eq (n + by) (m + by) ≡ nat_eq n m
+pub same_numbers : (n m by : ℕ) → nat_eq (n + by) (m + by) ≡ nat_eq n m
 same_numbers n m by = grind (arith, nat_tests)
 
 find_raised : (shift : Shift) (n : ℕ) (fs : List Flight)

@@ -1,15 +1,14 @@
 -- What is seen of two histories stays alike as an event comes, and its raised one.
-use Rattle.std.specs.Prelude.{◌≡◌, ℕ, ◌+◌, Bool, true, false, ◌&&◌, ◌||◌, not, List, [], ◌∷◌, map, nat_eq, count_by, Option, Some, None, is_some, option_map, refl, if◌then◌else◌}
-use Rattle.std.specs.List.{list_any}
-use Rattle.std.proofs.Common.{arith, sym, ◌∙◌, ap, subst, cond}
+use Rattle.std.specs.Prelude.{◌≡◌, ℕ, ◌+◌, Bool, true, false, ◌||◌, List, [], ◌∷◌, map, nat_eq, count_by, Option, Some, None, option_map, refl, if◌then◌else◌}
+use Rattle.std.proofs.Common.{arith, sym, ◌∙◌, ap, cond}
 use Rattle.std.proofs.lemmas.List.Sums.{sum_by-cons}
-use Rattle.sd_history.specs.Sched.Num.Lists.{map_or, same_number, find_map_or}
+use Rattle.sd_history.specs.Sched.Num.Lists.{map_or, same_number}
 use Rattle.sd_history.specs.Core.Topo.declared.Thing.{Thing}
 use Rattle.sd_history.specs.Core.Topo.declared.Thing.TheVariants as thing
 use Rattle.sd_history.specs.Sched.declared.Event.{Event}
 use Rattle.sd_history.specs.Sched.declared.Event.TheVariants as event
-use Rattle.sd_history.specs.Sched.Events.{device_of, counter_of, is_stage}
-use Rattle.sd_history.specs.World.{Seen, makes, fails, is_thing, is_up, up_after, has_failed, failed_after, latest_reference, latest_reading, window, window_is_open, in_window, epoch_in_force}
+use Rattle.sd_history.specs.Sched.Events.{is_stage}
+use Rattle.sd_history.specs.World.{Seen, makes, fails, is_thing, is_up, up_after, has_failed, failed_after, latest_reading, window, epoch_in_force}
 use Rattle.sd_history.specs.Refusals.{after_end}
 use Rattle.sd_proof_resume.specs.Shifts.{Shift, raised_event, raised_seen}
 use Rattle.sd_proof_resume.specs.Views.{LooksAlike}
@@ -55,6 +54,7 @@ reads_alike shift s one other d before up = go (makes d s.event) refl (reading_b
     was_up : (f was : Bool) → told (if f then Some false else None) was ≡ true → was ≡ true
     was_up true was is = cc
     was_up false was is = is
+
     go : (m : Bool) → makes d s.event ≡ m → (c : Option ℕ) → reading_by (words_of s.event) d ≡ c
         → told (if m then Some true else if fails (thing.Device d) s.event then Some false else None) (is_up other d) ≡ true
         → told c (latest_reading one d) ≡ told c (latest_reading other d)
@@ -101,5 +101,6 @@ looks_alike_after shift s one other h =
   where
     words : words_of (raised_event shift s.event) ≡ words_of s.event
     words = same_words shift s.event
+
     regroup : (a b c : ℕ) → a + (b + c) ≡ a + b + c
     regroup a b c = omega arith

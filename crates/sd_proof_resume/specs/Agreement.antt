@@ -1,5 +1,5 @@
 -- When two histories agree: what later events can see of the second, with its numbers raised, is what they see of the first.
-use Rattle.std.specs.Prelude.{◌≡◌, ℕ, ◌+◌, ◌≤◌, true, List, Option, Some, None, option_map}
+use Rattle.std.specs.Prelude.{◌≡◌, ℕ, ◌+◌, ◌≤◌, true, List, Some, None, option_map}
 use Rattle.sd_history.specs.Core.declared.registers.Registers.{Registers}
 use Rattle.sd_history.specs.Msg.declared.Flight.{Flight}
 use Rattle.sd_history.specs.Sched.declared.Event.{Event}

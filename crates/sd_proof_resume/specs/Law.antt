@@ -1,5 +1,5 @@
 -- The law: what holds of every later event where two histories agree.
-use Rattle.std.specs.Prelude.{◌≡◌, ℕ, ◌+◌, ◌≤◌, true, List, [], ◌∷◌, ◌++◌, length, map, Some}
+use Rattle.std.specs.Prelude.{◌≡◌, ℕ, ◌≤◌, true, List, [], ◌∷◌, ◌++◌, length, map, Some}
 use Rattle.sd_history.specs.Sched.Num.Lists.{map_or}
 use Rattle.sd_history.specs.Core.Topo.Network.{Network}
 use Rattle.sd_history.specs.Core.Plan.declared.Plan.{Plan}
@@ -11,7 +11,7 @@ use Rattle.sd_history.specs.World.{Setting, Seen, setting_over}
 use Rattle.sd_history.specs.Steps.{Step, events_of}
 use Rattle.sd_history.specs.Chronicle.{chronicle}
 use Rattle.sd_history.specs.Nodes.{NodeStep, steps_of}
-use Rattle.sd_history.specs.Admitted.{IsAdmitted, IsAdmittedRun}
+use Rattle.sd_history.specs.Admitted.{IsAdmittedRun}
 use Rattle.sd_history.specs.Premises.{start_holds, drift_holds, delay_holds, tick_holds, loss_holds, domain_holds, renew_holds}
 use Rattle.sd_history.specs.Lines.{Line, first_on_loop, roots, asked_report, loop_lines, root_lines, report_lines}
 use Rattle.sd_proof_resume.specs.Shifts.{Shift, raised_event}

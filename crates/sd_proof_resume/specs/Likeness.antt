@@ -1,6 +1,5 @@
 -- When two devices answer alike from a counter on, where the numbers of the second are raised to those of the first.
-use Rattle.std.specs.Prelude.{◌≡◌, ℕ, ◌≤◌, Option, Some, None, IfSome}
-use Rattle.sd_history.specs.Core.Plan.declared.Duty.{Duty}
+use Rattle.std.specs.Prelude.{◌≡◌, ℕ, ◌≤◌, Option, Some, IfSome}
 use Rattle.sd_history.specs.Clock.declared.Estimate.{Estimate}
 use Rattle.sd_history.specs.Clock.Estimates.{report_of}
 use Rattle.sd_history.specs.Msg.declared.Stamp.{Stamp}

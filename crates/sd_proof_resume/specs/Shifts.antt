@@ -1,6 +1,6 @@
 -- How numbers of two histories correspond of which the second begins in the middle of the first: plans, messages, terms and rounds have lower
 -- numbers in it. What bears a number of the second is raised to what it is in the first.
-use Rattle.std.specs.Prelude.{ℕ, zero, suc, ◌+◌, List, map, Option, option_map}
+use Rattle.std.specs.Prelude.{ℕ, zero, suc, ◌+◌, map, option_map}
 use Rattle.sd_history.specs.Core.Plan.declared.Duty.{Duty}
 use Rattle.sd_history.specs.Clock.declared.Estimate.{Estimate}
 use Rattle.sd_history.specs.Msg.declared.Stamp.{Stamp}
@@ -10,7 +10,7 @@ use Rattle.sd_history.specs.Msg.Stamps.{stamp}
 use Rattle.sd_history.specs.Core.declared.Effect.{Effect}
 use Rattle.sd_history.specs.Core.declared.Effect.TheVariants.{Quiet, Send}
 use Rattle.sd_history.specs.Core.declared.registers.Registers.{Registers}
-use Rattle.sd_history.specs.Core.Calls.{Making, Started, Joined, Call, Tick, Receive, Fix, Give, Commit, Seal}
+use Rattle.sd_history.specs.Core.Calls.{Making, Started, Joined, Call, Receive, Give}
 use Rattle.sd_history.specs.Sched.declared.Event.{Event}
 use Rattle.sd_history.specs.Sched.declared.Event.TheVariants as event
 use Rattle.sd_history.specs.World.{Seen}
