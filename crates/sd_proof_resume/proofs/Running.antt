@@ -63,11 +63,11 @@ raised_epoch_in : (shift : Shift) (duty : Option Duty)
 raised_epoch_in shift None = refl
 raised_epoch_in shift (Some d) = refl
 
-answers_raised : (shift : Shift) (r : Registers) (duty : Option Duty) (mode : Mode) (other : Stamp) (estimate : Estimate)
-    → answers_of device (raised_registers shift (record r { duty = duty; mode = mode }) other estimate)
+answers_raised : (shift : Shift) (r : Registers) (duty : Option Duty) (mode : Mode) (last sent : ℕ) (other : Stamp) (estimate : Estimate)
+    → answers_of device (raised_registers shift (record r { duty = duty; mode = mode }) last sent other estimate)
     ≡ raised_answers shift (answers_of device (record r { duty = duty; mode = mode }))
-answers_raised shift r None mode other estimate = refl
-answers_raised shift r (Some d) Primary other estimate =
+answers_raised shift r None mode last sent other estimate = refl
+answers_raised shift r (Some d) Primary last sent other estimate =
     ap (λ b. record {
       parent = if b then option_map (λ (edge : Edge). edge.parent) d.primary else None;
       acts = if b then false else false;
@@ -75,7 +75,7 @@ answers_raised shift r (Some d) Primary other estimate =
       given = option_map (raised_duty shift) r.given;
       sealed = r.sealed;
     }) (same_follows shift d.epoch)
-answers_raised shift r (Some d) Backup other estimate =
+answers_raised shift r (Some d) Backup last sent other estimate =
     ap (λ b. record {
       parent = if b then option_map (λ (edge : Edge). edge.parent) d.backup else None;
       acts = if b then false else false;
@@ -83,7 +83,7 @@ answers_raised shift r (Some d) Backup other estimate =
       given = option_map (raised_duty shift) r.given;
       sealed = r.sealed;
     }) (same_follows shift d.epoch)
-answers_raised shift r (Some d) Acting other estimate =
+answers_raised shift r (Some d) Acting last sent other estimate =
     ap (λ b. record {
       parent = if b then None else None;
       acts = if b then true else false;
@@ -91,7 +91,7 @@ answers_raised shift r (Some d) Acting other estimate =
       given = option_map (raised_duty shift) r.given;
       sealed = r.sealed;
     }) (same_follows shift d.epoch)
-answers_raised shift r (Some d) Idle other estimate =
+answers_raised shift r (Some d) Idle last sent other estimate =
     ap (λ b. record {
       parent = if b then None else None;
       acts = if b then false else false;
@@ -101,15 +101,19 @@ answers_raised shift r (Some d) Idle other estimate =
     }) (same_follows shift d.epoch)
 
 pub answers_alike : (shift : Shift) (now : ℕ) (one r : Registers) → IsAlike shift now one r → answers_of device one ≡ raised_answers shift (answers_of device r)
-answers_alike shift now one r alike = ap (answers_of device) alike.kept ∙ answers_raised shift r r.duty r.mode alike.stamp alike.estimate
+answers_alike shift now one r alike = ap (answers_of device) alike.kept ∙ answers_raised shift r r.duty r.mode alike.last alike.sent alike.stamp alike.estimate
 
 -- later on, devices that were alike are
 later_alike : (shift : Shift) (now at : ℕ) (one other : Option Registers) → now ≤ at → AreAlike shift now one other → AreAlike shift at one other
 later_alike shift now at (Some one) (Some other) due alike =
     record {
+      last = alike.last;
+      sent = alike.sent;
       stamp = alike.stamp;
       estimate = alike.estimate;
       kept = alike.kept;
+      waited = alike.waited;
+      emitted = alike.emitted;
       stamps = alike.stamps;
       reports = λ counter h. alike.reports counter (omega (arith, due, h));
     }
@@ -335,7 +339,7 @@ module _ (shift : Shift) (net : Network) (front plans : List Plan) (behind : shi
       both (Makes m (calls.Joined (rates_of net m) counter clock eps)) is (tells_made (answers_of device (made (calls.Joined (rates_of net m) counter clock eps)))) (Some (made (calls.Joined (rates_of net m) counter clock eps))) (Some (made (calls.Joined (rates_of net m) counter clock eps)))
       (record { node = made (calls.Joined (rates_of net m) counter clock eps); made = refl; tells = refl; left = refl })
       (record { node = made (calls.Joined (rates_of net m) counter clock eps); made = refl; tells = refl; left = refl })
-      (λ d here. record { stamp = stamp 0 0; estimate = estimate_at clock eps counter; kept = refl; stamps = tt; reports = λ at due. refl })
+      (λ d here. record { last = counter; sent = counter; waited = λ need. refl; emitted = λ acts. refl; stamp = stamp 0 0; estimate = estimate_at clock eps counter; kept = refl; stamps = tt; reports = λ at due. refl })
       (λ d away. same_reading d away)
     where
       same_reading : (d : ℕ) → nat_eq m d ≡ false → latest_reading seen d ≤ reading_with seen e d

@@ -77,17 +77,17 @@ raised_call shift (Receive link message counter) = Receive link (raised_message 
 raised_call shift (Give duty) = Give (raised_duty shift duty)
 raised_call shift call = call
 
--- the registers of a device, with another stamp and estimate
-abbrev pub raised_registers : Shift → Registers → Stamp → Estimate → Registers
-raised_registers shift r other estimate =
+-- the registers of a device, with other counters, and another stamp and estimate
+abbrev pub raised_registers : Shift → Registers → (last sent : ℕ) → Stamp → Estimate → Registers
+raised_registers shift r last sent other estimate =
     record {
       duty = option_map (raised_duty shift) r.duty;
       given = option_map (raised_duty shift) r.given;
       mode = r.mode;
       sealed = r.sealed;
       stamp = other;
-      last = r.last;
-      sent = r.sent;
+      last = last;
+      sent = sent;
       estimate = estimate;
       rates = r.rates;
     }
