@@ -34,7 +34,8 @@ def as_files(options: argparse.Namespace, *names: str, streams: Sequence[str] = 
         for name in names:
             value = getattr(options, name, None)
             paths = [kept if path == "-" else path for path in _paths(value)]
-            setattr(options, name, paths if isinstance(value, list) else paths[0] if paths else None)
+            if paths:
+                setattr(options, name, paths if isinstance(value, list) else paths[0])
         try:
             yield
         except ToolError as fault:
@@ -43,8 +44,9 @@ def as_files(options: argparse.Namespace, *names: str, streams: Sequence[str] = 
             raise ToolError(fault.reason, NAME, fault.line) from None
 
 
-def _paths(value: "str | List[str] | None") -> List[str]:
-    return [] if value is None else [value] if isinstance(value, str) else value
+def _paths(value: object) -> List[str]:
+    # (an option of another command of the tool may have the name of a text, and be a number)
+    return value if isinstance(value, list) else [value] if isinstance(value, str) else []
 
 
 def shown(path: str) -> str:

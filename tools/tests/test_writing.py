@@ -108,13 +108,18 @@ sys.exit(run_tool("writer", main, sys.argv[2:]))
 """
 
 
+def unignore():
+    for number in signal.SIGINT, signal.SIGHUP:
+        signal.signal(number, signal.SIG_DFL)
+
+
 class Signals(unittest.TestCase):
     def test_no_temporary_file_is_left(self):
         for number in signal.SIGTERM, signal.SIGHUP, signal.SIGINT:
             with self.subTest(number), directory() as path:
                 words = [sys.executable, "-c", WRITER, TOOLS, path / "out"]
-                # (who runs the tests in the background ignores SIGINT, and so would the tool)
-                with subprocess.Popen(words, stdout=subprocess.PIPE, stderr=subprocess.PIPE, text=True, preexec_fn=lambda: signal.signal(signal.SIGINT, signal.SIG_DFL)) as tool:
+                # (who runs the tests in the background ignores SIGINT, or SIGHUP by nohup, and so would the tool)
+                with subprocess.Popen(words, stdout=subprocess.PIPE, stderr=subprocess.PIPE, text=True, preexec_fn=unignore) as tool:
                     self.assertEqual(tool.stdout.readline(), "begun\n")
                     self.assertEqual(len(os.listdir(path)), 1)
                     tool.send_signal(number)
