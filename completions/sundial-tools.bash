@@ -7,7 +7,7 @@ _sundial_tool() {
         sundial-exchanges) words="capture ptp chrony --asymmetry --device --help --hold --link --output --peer --seconds --version" ;;
         sundial-record) words="--counters --follow --help --no-losses --origin --output --plan --version" ;;
         sundial-cut) words="--at --every --follow --help --jobs --move --output --run --version" ;;
-        sundial-lines) words="--command --csv --exchanges --follow --help --output --plan --schedule --strings --topology --version" ;;
+        sundial-lines) words="--command --csv --exchanges --follow --help --lineage --output --plan --schedule --strings --topology --version" ;;
         sundial-watch) words="report --ask --bound --counters --every --fabric --follow --from --help --horizon --keep --listen --once --origin --output --plan --prometheus --reports --to --version" ;;
         sundial-why) words="--absent --follow --help --lines --output --version" ;;
         sundial-duty) words="--device --first-epoch --form --help --output --version" ;;

@@ -26,8 +26,9 @@
  *              is answered by NO_DEVICE; another change within the limits goes unseen.
  *   - message: it arrives as it was sent, over the link that it was sent over, at the device that it
  *              was sent to, and nobody forges one. A device gets none that was sent before it started
- *              or joined, or before its link failed: after a start, a join and a mend, drop what comes
- *              over a link until mid + half has surely passed.
+ *              or joined, or while its link was down or before that. So drop what comes over a link
+ *              while it is down, and after a start, a join and a mend until the link is clear of older
+ *              messages (sundial_clear_after).
  *   - start:   a clock that you set (start, join, fix) is within the eps that you give of the
  *              reference time.
  *   - drift:   while the counter advances by x ps, the reference time advances by x, plus or minus
@@ -405,6 +406,37 @@ static inline uint32_t sundial_now(const struct sundial_device *device, uint64_t
         now->latest = sundial_latest(&report);
     }
     return answer;
+}
+
+/* How the device takes part: SUNDIAL_PRIMARY, SUNDIAL_BACKUP, SUNDIAL_ACTING or SUNDIAL_IDLE.
+ * Faults: NO_DEVICE. */
+static inline uint32_t sundial_mode(const struct sundial_device *device, uint8_t *mode)
+{
+    uint32_t answer = sundial_made(device);
+    if (answer == SUNDIAL_DONE)
+        *mode = device->mode;
+    return answer;
+}
+
+/* The age of the estimate: by how much the counter, which shows this, has advanced since the clock was
+ * set, by a start, a join, a fix or a message that was accepted. Faults: those of a report. */
+static inline uint32_t sundial_age(const struct sundial_device *device, uint64_t counter, uint64_t *age)
+{
+    struct sundial_clock_report report = {{0, 0}, {0, 0}};
+    uint32_t answer = sundial_report(device, counter, &report);
+    if (answer == SUNDIAL_DONE)
+        *age = counter - device->estimate.at;
+    return answer;
+}
+
+/* By how much the counter has to advance after a start, a join or a mend of the link until no older
+ * message can come over this edge: then twice its greatest delay, mid + half, has surely passed. Until
+ * then drop what comes over it. The oscillator has these rates. All numbers are within their limits. */
+static inline uint64_t sundial_clear_after(const struct sundial_edge *edge, const struct sundial_rates *rates)
+{
+    uint64_t passes = 2 * (edge->mid + edge->half) + rates->grain + 2;
+    /* (a counter is at most 100000 ppm fast: so nine tenths of what it shows pass, less the grain) */
+    return passes + passes / 9 + 1;
 }
 
 /* 1 where the reference time has surely passed the stamp, and else 0: the end of a commit wait. */

@@ -5,8 +5,10 @@
 #
 # LIBRARY is libsd_device_c.a. With each compiler that is there: header and bindings compile
 # without a warning, as C11 and as C++17, and a program in C++ makes every call. Then, where the
-# compiler can: the duties of sundial-duty beside those of fabric.h, a device for years, clock.h by 8 threads and by 4 processes, the example under the address and undefined-behaviour sanitizers, the fuzzer for SECONDS (3),
-# a program without a C library, and what pkg-config says. What is not there is named and passed by.
+# compiler can: the duties of sundial-duty beside those of fabric.h, a device for years, clock.h by 8 threads and by
+# 4 processes, which messages the host drops, the example and the host under the address and undefined-behaviour
+# sanitizers, the fuzzer for SECONDS (3), a program without a C library, and what pkg-config says. What is not there is
+# named and passed by.
 set -u
 library=$(realpath "$1") || exit 2
 seconds=${2:-3}
@@ -84,6 +86,16 @@ fi
 
 "$compiler" -std=c11 -O2 "${warnings[@]}" -o "$work/years" years.c "$library" && "$work/years" 1 \
     || fail "a device for years"
+
+if [ "$(uname -s)" = Linux ] && there python3; then
+    "$compiler" -std=c11 -O2 "${warnings[@]}" -o "$work/host" host/host.c recorder.c "$library" \
+        && host/check "$work/host" || fail "the host"
+    if "$compiler" "${sanitizers[@]}" -o "$work/nothing" "$work/nothing.c" 2> "$work/said" && "$work/nothing"; then
+        "$compiler" -std=c11 "${sanitizers[@]}" "${warnings[@]}" -o "$work/host" host/host.c recorder.c "$library" \
+            && host/check "$work/host" > "$work/said" && echo "checks: the host under sanitizers" \
+            || fail "the host under sanitizers"
+    fi
+fi
 
 if [ "$(uname -s)" = Linux ]; then
     "$compiler" -std=c11 -O2 -pthread "${warnings[@]}" -o "$work/clock" clock_test.c "$library" \

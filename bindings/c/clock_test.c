@@ -5,6 +5,8 @@
  *     clock_test processes SECONDS  4 processes of 2 threads each; the writer is killed and comes again
  *     clock_test page               each answer of a read, and the edges of its numbers
  *     clock_test time               what a read takes
+ *     clock_test write FILE SECONDS a writer alone, whose reference time is that of its machine, for readers
+ *                                   in another language
  *
  * Each interval has to contain the reference time, no stamp may come twice or fall, and a stamp that
  * was waited for has to have passed. */
@@ -33,11 +35,14 @@ struct shared {
 };
 
 static struct shared *shared;
-static char path[64];
+static char path[256];
 
+/* Ends this process, and tells the others to end. */
 static void stop(const char *what)
 {
     fprintf(stderr, "clock: %s\n", what);
+    if (shared != NULL)
+        __atomic_store_n(&shared->stop, 1, __ATOMIC_RELEASE);
     _exit(1);
 }
 
@@ -239,6 +244,19 @@ static void await_growth(const uint64_t *count, const char *what)
     expect(load(count) != before, what);
 }
 
+/* Waits until a reader sees that the writer is gone: the clock is stale, or torn where the writer died
+ * while it wrote. */
+static void await_silence(void)
+{
+    const struct sundial_clock_page *page = NULL;
+    struct sundial_clock_now now;
+    expect(sundial_clock_open(path, &page) == 0, "no page after the writer is gone");
+    if (sundial_clock_read(page, GREATEST, &now) == SUNDIAL_CLOCK_TORN)
+        await_growth(&shared->torn, "no reader sees that the writer died while it wrote");
+    else
+        await_growth(&shared->stale, "no reader sees that the writer is gone");
+}
+
 static void processes(double seconds)
 {
     pid_t reader[PROCESSES], writer = fork_writer();
@@ -257,7 +275,7 @@ static void processes(double seconds)
         expect(sundial_clock_create(path, &page) != 0 && errno == EWOULDBLOCK, "two writers have one page");
         kill(writer, SIGKILL);
         waitpid(writer, NULL, 0);
-        await_growth(&shared->stale, "no reader sees that the writer is gone");
+        await_silence();
         writer = fork_writer();
     }
     await_growth(&shared->good, "no reader reads after the writer came again");
@@ -379,15 +397,29 @@ static void time_reads(void)
     }
 }
 
+static void write_for(double seconds)
+{
+    pthread_t writer;
+    expect(pthread_create(&writer, NULL, write_until_stop, NULL) == 0, "no thread");
+    pass(seconds);
+    __atomic_store_n(&shared->stop, 1, __ATOMIC_RELEASE);
+    pthread_join(writer, NULL);
+}
+
 int main(int count, char **words)
 {
     void *room = mmap(NULL, sizeof *shared, PROT_READ | PROT_WRITE, MAP_SHARED | MAP_ANONYMOUS, -1, 0);
-    double seconds = count > 2 ? strtod(words[2], NULL) : 1;
+    double seconds = count > 2 ? strtod(words[count - 1], NULL) : 1;
     if (count < 2 || room == MAP_FAILED) {
-        fprintf(stderr, "clock_test threads|processes|page|time [SECONDS]\n");
+        fprintf(stderr, "clock_test threads|processes|page|time [SECONDS]\nclock_test write FILE SECONDS\n");
         return 2;
     }
     shared = (struct shared *)room;
+    if (count == 4 && strcmp(words[1], "write") == 0) {
+        snprintf(path, sizeof path, "%s", words[2]);
+        write_for(seconds);
+        return 0;
+    }
     shared->begun = sundial_clock_raw() - 10000000;
     snprintf(path, sizeof path, "/tmp/sundial-clock-%d", (int)getpid());
     if (strcmp(words[1], "threads") == 0)

@@ -45,12 +45,14 @@ struct node {
     uint64_t changed_at; /* a reference time: that of its begin at first */
     uint64_t next_tick;
     uint64_t lowered; /* by how much rebases lowered its counter, in all */
+    uint64_t clear_at[LINKS]; /* the counter from which no older message can come over the link */
     int is_up;
 };
 
 static struct node nodes[DEVICES];
 static struct flight flights[FLIGHTS];
-static uint64_t now, reports, word;
+static struct flight held; /* the latest message to s2 over S2_L0 while that was down: it comes after the mend */
+static uint64_t now, reports, word, dropped;
 static struct sundial_recorder recorder;
 static int is_down[LINKS]; /* which links have failed */
 static int is_fast, is_late, is_faulty, has_lost, rebases;
@@ -140,16 +142,12 @@ static void send_on(uint32_t sender, const struct sundial_effect *effect)
         uint32_t receiver = ENDS[link][0] == sender ? ENDS[link][1] : ENDS[link][0];
         if (!follows(&DUTIES[epoch - 1][receiver], sender, link))
             continue;
-        uint64_t message = sundial_record_sent(&recorder);
-        if (!nodes[receiver].is_up || is_down[link])
-            continue;
-        struct flight *flight = free_place();
-        flight->number = message;
-        flight->comes_at = now + LEAST_DELAY + chance(GREATEST_DELAY - LEAST_DELAY + 1);
-        flight->link = link;
-        flight->receiver = receiver;
-        flight->message = effect->message;
-        flight->is_used = 1;
+        uint64_t comes_at = now + LEAST_DELAY + chance(GREATEST_DELAY - LEAST_DELAY + 1);
+        struct flight flight = {sundial_record_sent(&recorder), comes_at, link, receiver, effect->message, 1};
+        if (!is_down[link])
+            *free_place() = flight;
+        else if (link == S2_L0 && receiver == S2)
+            held = flight;
     }
 }
 
@@ -163,11 +161,24 @@ static void power_up(struct node *node)
     node->is_up = 1;
 }
 
+/* From now on the device drops what comes over the link, until no older message can. All links delay alike. */
+static void clear(struct node *node, uint32_t link)
+{
+    node->clear_at[link] = counter_of(node) + sundial_clear_after(&DUTIES[0][L0].primary, &DUTIES[0][L0].rates);
+}
+
+static void clear_all(struct node *node)
+{
+    for (uint32_t link = 0; link < LINKS; link++)
+        clear(node, link);
+}
+
 static void start(uint32_t number)
 {
     struct node *node = &nodes[number];
     uint64_t eps = number == S0 ? ROOT_EPS : EPS;
     power_up(node);
+    clear_all(node);
     uint64_t counter = counter_of(node), clock = clock_within(eps);
     check(sundial_start(&node->device, &DUTIES[0][number], counter, clock, eps), "start");
     recorded(sundial_record_start(&recorder, now, number, counter, clock, eps));
@@ -177,6 +188,7 @@ static void join(uint32_t number)
 {
     struct node *node = &nodes[number];
     power_up(node);
+    clear_all(node);
     uint64_t counter = counter_of(node), clock = clock_within(EPS);
     check(sundial_join(&node->device, &DUTIES[0][number].rates, counter, clock, EPS), "join");
     recorded(sundial_record_join(&recorder, now, number, counter, clock, EPS));
@@ -213,6 +225,12 @@ static void receive(struct flight *flight)
     struct node *node = &nodes[number];
     uint64_t counter = counter_of(node);
     flight->is_used = 0;
+    if (!node->is_up || is_down[flight->link])
+        return;
+    if (counter < node->clear_at[flight->link]) {
+        dropped++; /* (it may be older than the start, the join or the failure of the link) */
+        return;
+    }
     if (!has_lost && now > LOSE) {
         has_lost = 1;
         recorded(sundial_record_lose(&recorder, now, number, flight->link, &flight->message,
@@ -278,9 +296,6 @@ static void fix_first(void)
 static void fail_root(void)
 {
     nodes[S0].is_up = 0;
-    for (int i = 0; i < FLIGHTS; i++)
-        if (flights[i].receiver == S0)
-            flights[i].is_used = 0;
     recorded(sundial_record_fail_device(&recorder, now, S0));
 }
 
@@ -318,18 +333,20 @@ static void renew(void)
 static void cut(void)
 {
     is_down[S2_L0] = 1;
-    for (int i = 0; i < FLIGHTS; i++)
-        if (flights[i].link == S2_L0)
-            flights[i].is_used = 0;
     recorded(sundial_record_fail_link(&recorder, now, S2_L0));
 }
 
-/* s0 and the link are repaired, and plan 3 takes s0 in again. */
+/* s0 and the link are repaired, and plan 3 takes s0 in again. The network now brings what l0 sent while
+ * the link was down: s2 would accept it. */
 static void repair(void)
 {
     recorded(sundial_record_stage(&recorder, now));
     recorded(sundial_record_mend_link(&recorder, now, S2_L0));
     is_down[S2_L0] = 0;
+    clear(&nodes[S2], S2_L0);
+    clear(&nodes[L0], S2_L0);
+    held.comes_at = now + LEAST_DELAY;
+    *free_place() = held;
     recorded(sundial_record_mend_device(&recorder, now, S0));
     join(S0);
     ask(S0);
@@ -380,6 +397,8 @@ static void finish(void)
 {
     ask_all();
     check_parents();
+    if (dropped == 0)
+        stop("the message that was sent while the link was down was not dropped");
     uint64_t line = recorded(sundial_record_end(&recorder, now));
     printf("done %" PRIu64 " %" PRIu64 "\n", line, reports);
 }

@@ -49,8 +49,14 @@ int main()
     sundial_optional_parent parent = {};
     expect(sundial_parent(&device, &parent) == SUNDIAL_DONE && parent.has_parent != 0 && parent.parent == 0,
            "parent");
+    std::uint8_t mode = 0;
+    std::uint64_t age = 0;
+    expect(sundial_mode(&device, &mode) == SUNDIAL_DONE && mode == SUNDIAL_PRIMARY, "mode");
+    expect(sundial_age(&device, 150, &age) == SUNDIAL_DONE && age == 30, "age");
+    expect(sundial_age(&device, 119, &age) == SUNDIAL_COUNTER_FELL && age == 30, "age of a counter that fell");
     expect(sundial_tick(&device, 420, &effect) == SUNDIAL_DONE && effect.sends == 0, "the move");
     expect(sundial_tick(&device, 620, &effect) == SUNDIAL_DONE && effect.sends != 0, "the takeover");
+    expect(sundial_mode(&device, &mode) == SUNDIAL_DONE && mode == SUNDIAL_ACTING, "mode of a root");
     std::uint8_t acts = 0;
     expect(sundial_acts(&device, &acts) == SUNDIAL_DONE && acts == 1, "acts");
 
@@ -73,6 +79,7 @@ int main()
     expect(sundial_rebase(&device, 650, &lowered) == SUNDIAL_DONE && lowered == 620
                && sundial_report(&device, 650 - lowered, &report) == SUNDIAL_DONE && report.clock.low == 5010,
            "rebase");
+    expect(sundial_clear_after(&duty.primary, &duty.rates) > 2 * 10 + 1000, "clear_after");
     expect(sundial_join(&device, &duty.rates, 700, 5000, 10) == SUNDIAL_DONE, "join");
 
     sundial_wide clock = {5000, 1}, eps = {10, 0};

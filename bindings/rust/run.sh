@@ -24,7 +24,16 @@ if command -v python3 > /dev/null; then
 fi
 export RUSTFLAGS='-D warnings' RUSTDOCFLAGS='-D warnings'
 export SUNDIAL_DEVICE_LIB=${library%/*} SUNDIAL_EXAMPLE=$work
-where=(--offline --manifest-path "$work/Cargo.toml" --target-dir "$work/target")
+where=(--offline --all-features --manifest-path "$work/Cargo.toml" --target-dir "$work/target")
+# A writer in C, whose clock the tests read, where clock.h can be.
+if [ "$(uname -s)" = Linux ]; then
+    "${CC:-cc}" -std=c11 -O2 -pthread -I ../../include -I ../c -o "$work/clock" ../c/clock_test.c "$library" || exit 1
+    "$work/clock" write "$work/page" 600 &
+    writer=$!
+    trap 'kill "$writer"; rm -rf "$work"' EXIT
+    while [ ! -s "$work/page" ]; do sleep 0.01; done
+    export SUNDIAL_CLOCK=$work/page
+fi
 if cargo test "${where[@]}" > "$work/tested" 2>&1 && cargo doc "${where[@]}" >> "$work/tested" 2>&1; then
     echo "rust: $(grep -c '^test .* ok$' "$work/tested") tests passed, and docs on all"
 else

@@ -563,7 +563,9 @@ class Replays(unittest.TestCase):
                     sorted((line[1], line[2], int(line[4])) for line in reports),
                 )
                 heads = [node.text for node in tree.one("table", "reports").one("thead").all("th")]
-                self.assertEqual(heads, ["line", "reference, ms", "device", "clock, ms", "eps, us", "off, us", "of its eps"])
+                self.assertEqual(heads, ["line", "reference, ms", "device", "clock, ms", "eps, us", "off, us", "of its eps", "rests on"])
+                for row in rows:
+                    self.assertIn(row[2], row[7])
 
     def test_what_happened_is_marked_at_its_line(self):
         with directory() as path:

@@ -50,6 +50,7 @@ class Lines(unittest.TestCase):
                     more += ["--schedule", here / words[-1]]
                     for plan in words[3:-1]:
                         more += ["--plan", here / plan]
+                    more += ["--lineage"]
                 if not text or not all((here / word).is_file() for word in words[2:4]):
                     continue
                 self.check(self.rows(text, *more))

@@ -10,6 +10,8 @@
  *   - A receipt has the counter of the kernel's own timestamp of the packet, where that is not
  *     before the device's latest call. A sending has the counter of the call that sends; the kernel's
  *     timestamps of sendings tell how much later the packet went out.
+ *   - It drops what comes over a link until nothing can come any more that was sent before its start or join, or
+ *     before the mend of the link.
  *   - One thread. Nothing is allocated after the start.
  */
 #define _GNU_SOURCE
@@ -38,6 +40,7 @@ struct link {
     uint32_t number;
     int socket;
     uint64_t sent_raw; /* of its latest sending */
+    uint64_t clear_at; /* the counter from which no older message can come over it. Until then what comes is dropped */
 };
 
 static struct sundial_device device;
@@ -59,7 +62,7 @@ static char log_room[1 << 16];
 static uint64_t hold;                  /* a planted fault: each sending waits for this, in ns */
 static uint64_t late_after = UINT64_MAX, late; /* a message that waited here for longer, in ns, is dropped: how many were */
 static uint64_t go, least_delay = UINT64_MAX, greatest_delay, greatest_gap, ticked; /* ns, of CLOCK_MONOTONIC_RAW */
-static uint64_t sendings, stamped, latest_stamp, calls_refused, unstamped;
+static uint64_t sendings, stamped, latest_stamp, calls_refused, unstamped, early;
 static volatile sig_atomic_t ends;
 
 static void stop(const char *what)
@@ -114,6 +117,25 @@ static struct link *link_of(uint32_t wanted)
         if (links[i].number == wanted)
             return &links[i];
     return NULL;
+}
+
+static const struct sundial_edge *edge_over(const struct sundial_duty *duty, uint32_t link)
+{
+    if (duty->has_primary != 0 && duty->primary.link == link)
+        return &duty->primary;
+    return duty->has_backup != 0 && duty->backup.link == link ? &duty->backup : NULL;
+}
+
+/* From this counter on what comes over the link is dropped, until no older message can come. A link has the same delays in
+ * each plan, and one that leads to no parent in any plan brings nothing. */
+static void clear(struct link *link, uint64_t counter)
+{
+    link->clear_at = counter;
+    for (int plan = 0; plan < MOST_PLANS; plan++) {
+        const struct sundial_edge *edge = edge_over(&duties[plan], link->number);
+        if (edge != NULL)
+            link->clear_at = counter + sundial_clear_after(edge, &duties[plan].rates);
+    }
 }
 
 static void send_on(const struct sundial_effect *effect, uint64_t raw)
@@ -229,6 +251,10 @@ static int receive(struct link *link)
         return 1;
     }
     uint64_t raw = moment(stamp != 0 ? stamp : sundial_clock_raw()), counter = sundial_clock_counter(&mapping, raw);
+    if (counter < link->clear_at) {
+        early++; /* (it may be older than the start, the join or the failure of the link: so it counts as lost) */
+        return 1;
+    }
     uint64_t delay = raw - be64toh(words[7]);
     if (delay < least_delay)
         least_delay = delay;
@@ -247,7 +273,7 @@ static void obey(void)
     char text[64] = "";
     if (recv(control, text, sizeof text - 1, MSG_DONTWAIT) < 0)
         return;
-    unsigned plan = 0;
+    unsigned plan = 0, name = 0;
     uint64_t raw = moment(sundial_clock_raw()), counter = sundial_clock_counter(&mapping, raw);
     if (sscanf(text, "give %u", &plan) == 1 && plan > 0 && plan <= MOST_PLANS) {
         if (made(sundial_give(&device, &duties[plan - 1]), "give"))
@@ -258,6 +284,12 @@ static void obey(void)
     } else if (strcmp(text, "seal") == 0) {
         if (made(sundial_seal(&device), "seal"))
             sundial_record_seal(&recorder, reference_of(raw), number);
+    } else if (sscanf(text, "fail %u", &name) == 1) {
+        if (link_of(name) != NULL)
+            link_of(name)->clear_at = UINT64_MAX;
+    } else if (sscanf(text, "mend %u", &name) == 1) {
+        if (link_of(name) != NULL)
+            clear(link_of(name), counter);
     } else if (sscanf(text, "hold %" SCNu64, &hold) == 1) {
         return;
     } else if (strcmp(text, "fix") == 0) {
@@ -282,7 +314,7 @@ static void open_link(uint32_t link, const char *here, unsigned port, const char
         || connect(made_socket, (struct sockaddr *)&to, sizeof to) != 0)
         stop("a link cannot be opened");
     waited[link_count] = (struct pollfd){made_socket, POLLIN, 0};
-    links[link_count++] = (struct link){link, made_socket, 0};
+    links[link_count++] = (struct link){link, made_socket, 0, 0};
 }
 
 static void open_control(const char *path)
@@ -343,7 +375,8 @@ static void read_line(char *line)
             stop("no page for a clock");
     } else if (sscanf(line, "log %127s", word) == 1) {
         FILE *log = fopen(word, "w");
-        if (log == NULL || setvbuf(log, log_room, _IOFBF, sizeof log_room) != 0)
+        /* (line by line, so that a process that is killed has told all that it did) */
+        if (log == NULL || setvbuf(log, log_room, _IOLBF, sizeof log_room) != 0)
             stop("no log");
         recorder.to = log;
     } else
@@ -364,6 +397,8 @@ static void begin(void)
                             : sundial_start(&device, &duties[0], mapping.counter, clock, begin_eps);
     if (!made(answer, "begin"))
         exit(1);
+    for (uint32_t i = 0; i < link_count; i++)
+        clear(&links[i], mapping.counter);
     if (joins)
         sundial_record_join(&recorder, reference_of(raw), number, mapping.counter, clock, begin_eps);
     else
@@ -422,8 +457,8 @@ int main(int count, char **words)
     if (fclose((FILE *)recorder.to) != 0 || recorder.failed)
         stop("the log cannot be written");
     printf("{\"device\": %" PRIu32 ", \"sendings\": %" PRIu64 ", \"stamped\": %" PRIu64 ", \"latest_stamp_ns\": %" PRIu64
-           ", \"unstamped\": %" PRIu64 ", \"refused\": %" PRIu64 ", \"late\": %" PRIu64 ", \"least_delay_ns\": %" PRIu64
+           ", \"unstamped\": %" PRIu64 ", \"refused\": %" PRIu64 ", \"late\": %" PRIu64 ", \"early\": %" PRIu64 ", \"least_delay_ns\": %" PRIu64
            ", \"greatest_delay_ns\": %" PRIu64 ", \"greatest_gap_ns\": %" PRIu64 "}\n", number, sendings, stamped,
-           latest_stamp, unstamped, calls_refused, late, greatest_delay == 0 ? 0 : least_delay, greatest_delay, greatest_gap);
+           latest_stamp, unstamped, calls_refused, late, early, greatest_delay == 0 ? 0 : least_delay, greatest_delay, greatest_gap);
     return 0;
 }

@@ -2,10 +2,12 @@
 //! `docs/EMBED.md` says how to use it, and what its promise asks of you.
 //!
 //! The crate needs `core` alone: it allocates nothing and asks nothing of a system. All times are in
-//! picoseconds.
+//! picoseconds. The feature `clock` adds a clock for the processes of one machine, on Linux.
 #![no_std]
 #![deny(missing_docs)]
 
+#[cfg(all(feature = "clock", target_os = "linux", target_pointer_width = "64"))]
+pub mod clock;
 pub mod raw;
 
 use core::fmt;
@@ -57,6 +59,19 @@ impl fmt::Display for Fault {
 
 impl core::error::Error for Fault {}
 
+/// How a device takes part.
+#[derive(Clone, Copy, Debug, PartialEq, Eq)]
+pub enum Mode {
+    /// It follows its primary parent.
+    Primary,
+    /// It follows its backup parent.
+    Backup,
+    /// It acts as root.
+    Acting,
+    /// It has no duty yet.
+    Idle,
+}
+
 /// The reference time lies from `clock - eps` to `clock + eps`, in ps.
 #[derive(Clone, Copy, Debug, PartialEq, Eq)]
 pub struct Report {
@@ -101,6 +116,17 @@ impl Report {
     /// The interval that it allows.
     pub fn interval(self) -> Interval {
         Interval { earliest: self.earliest(), latest: self.latest() }
+    }
+}
+
+impl Edge {
+    /// By how much the counter has to advance after a start, a join or a mend of the link until no
+    /// older message can come over this edge. Until then drop what comes over it
+    /// ([`Device::receive`]). The oscillator has these rates.
+    pub fn clear_after(&self, rates: &Rates) -> u64 {
+        let passes = 2 * (self.mid + self.half) + rates.grain + 2;
+        // (a counter is at most 100000 ppm fast: so nine tenths of what it shows pass, less the grain)
+        passes + passes / 9 + 1
     }
 }
 
@@ -228,6 +254,19 @@ impl Device {
 
     /// A message that came over this link: what it sends on, if it accepts it. A message that it does
     /// not accept is no fault. Faults: `CounterFell`, `MessageTooGreat`.
+    ///
+    /// Hand it none that was sent before the device started or joined, or while the link was down or
+    /// before that. The device cannot tell, so drop what comes while the link is down, and until
+    /// [`Edge::clear_after`] has passed since the start, the join or the mend of the link:
+    ///
+    /// ```
+    /// # use sundial_device::{Edge, Rates};
+    /// # let (parent, rates) = (Edge { mid: 7, half: 3, parent: 0, link: 0 }, Rates { grain: 5, ppm: 200 });
+    /// # let (counter_at_start, counter) = (1_000, 1_020);
+    /// let clear_at = counter_at_start + parent.clear_after(&rates);
+    /// let is_dropped = counter < clear_at;
+    /// # assert!(is_dropped);
+    /// ```
     pub fn receive(
         &mut self,
         link: u32,
@@ -253,6 +292,24 @@ impl Device {
     /// report.
     pub fn now(&self, counter: u64) -> Result<Interval, Fault> {
         Ok(self.report(counter)?.interval())
+    }
+
+    /// The age of the estimate: by how much the counter has advanced since the clock was set, by a
+    /// start, a join, a fix or a message that was accepted. Faults: those of a report.
+    pub fn age(&self, counter: u64) -> Result<u64, Fault> {
+        self.report(counter)?;
+        Ok(counter - self.0.estimate.at)
+    }
+
+    /// How it takes part.
+    pub fn mode(&self) -> Result<Mode, Fault> {
+        done(unsafe { raw::sundial_made(&self.0) })?;
+        Ok(match self.0.mode {
+            raw::PRIMARY => Mode::Primary,
+            raw::BACKUP => Mode::Backup,
+            raw::ACTING => Mode::Acting,
+            _ => Mode::Idle,
+        })
     }
 
     /// The number of the device that it follows, if it follows one.

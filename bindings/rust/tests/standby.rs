@@ -1,7 +1,7 @@
 //! A backup root from its start to its takeover, beside values worked out by hand.
 
 use sundial_device::raw::{Stamp, Wide};
-use sundial_device::{Device, Duty, Edge, Fault, Message, Rates, Report};
+use sundial_device::{Device, Duty, Edge, Fault, Message, Mode, Rates, Report};
 
 fn edge(parent: u32, link: u32) -> Edge {
     Edge { mid: 7, half: 3, parent, link }
@@ -34,7 +34,10 @@ fn takes_over_after_two_silences() {
     };
     let relayed = device.receive(0, &heard, 120).unwrap().unwrap();
     assert_eq!((relayed.clock.low, relayed.eps.low), (117, 53));
+    assert_eq!((device.mode(), device.age(150)), (Ok(Mode::Primary), Ok(30)));
+    assert_eq!(device.age(119), Err(Fault::CounterFell));
     assert!(device.tick(420).unwrap().is_none());
+    assert_eq!((device.mode(), device.age(420)), (Ok(Mode::Backup), Ok(300)));
     assert_eq!(device.parent(), Ok(Some(2)));
     assert_eq!(device.report(500), Ok(Report { clock: 497, eps: 1_054 }));
     let mut again = Device::restore(device.kept()).unwrap();
@@ -42,7 +45,7 @@ fn takes_over_after_two_silences() {
     let sent = again.tick(620).unwrap().unwrap();
     assert_eq!((sent.stamp.term, sent.stamp.round), (1, 1));
     assert_eq!((sent.clock.low, sent.eps.low), (617, 1_054));
-    assert_eq!(again.acts(), Ok(true));
+    assert_eq!((again.acts(), again.mode()), (Ok(true), Ok(Mode::Acting)));
     assert_ne!(again, device);
     let now = again.now(700).unwrap();
     assert_eq!(now, again.report(700).unwrap().interval());
@@ -62,6 +65,29 @@ fn names_what_is_wrong() {
     let fault: Box<dyn std::error::Error> = Fault::CounterFell.into();
     assert_eq!(fault.to_string(), "the counter is below one that the device keeps");
     assert_eq!(Fault::Unknown(77).to_string(), "the library answered 77");
+}
+
+/// While the counter advances so far, more than twice the greatest delay passes by the fastest
+/// oscillator. Without it a device takes a message of before its start.
+#[test]
+fn clear_of_older_messages() {
+    const MOST: u64 = 1_000_000_000_000;
+    for mid in [0, 7, MOST] {
+        for grain in [0, 1_000, MOST] {
+            let edge = Edge { mid, half: 3, parent: 0, link: 0 };
+            let after = edge.clear_after(&Rates { grain, ppm: 100_000 });
+            assert!(after - after / 10 - grain > 2 * (mid + 3));
+        }
+    }
+    let old = Message {
+        clock: Wide { low: 110, high: 0 },
+        eps: Wide { low: 50, high: 0 },
+        stamp: Stamp { round: 1, term: 0 },
+        epoch: 1,
+    };
+    let mut device = Device::start(&standby(), 120, 120, 500).unwrap();
+    assert!(125 < 120 + standby().primary.clear_after(&standby().rates));
+    assert!(device.receive(0, &old, 125).unwrap().is_some());
 }
 
 /// What no call reads tells no two devices apart, and what one reads does.

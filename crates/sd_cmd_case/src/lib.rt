@@ -1,4 +1,4 @@
-//! The command `case` behind its words: a network of leaves and spines is made from its sizes and
+//! The command `case` after its words: a network of leaves and spines is made from its sizes and
 //! planned twice, and a replay is driven through the schedule that a number makes over it.
 //!
 //! So it keeps no event of the schedule, and none of the lines that a replay of it would print: the

@@ -60,7 +60,10 @@ fn tally_schedule(
 {
     let replay = Replay::new(alloc, topo, plans, NoObserver)?;
     let replayed = drive_schedule(alloc, Replayed { replay }, number)?;
-    Ok(replayed.replay.tally())
+    let tally = replayed.replay.tally();
+    // for the prover: at the end of the function it would be dropped field by field
+    drop(replayed);
+    Ok(tally)
 }
 
 /// Replays the schedule of a number over a topology and both plans, and makes the line of its tally.

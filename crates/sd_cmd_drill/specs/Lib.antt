@@ -4,3 +4,4 @@ pub mod Kinds
 pub mod Endings
 pub mod Printing
 pub mod Rooms
+pub mod Pages

@@ -17,3 +17,8 @@ pub record IsRoomFor (net : Network) (plan : Plan) (room : Room) : Type 0 where
 -- the budget of the drill
 abbrev pub budget_of : Room → Budget
 budget_of room = room.drill.times.budget
+
+-- a call that leaves the room ready, for the same budget
+pub record KeepsRoom (net : Network) (plan : Plan) (old new : Room) : Type 0 where
+  pub ready : IsRoomFor net plan new
+  pub budget : budget_of new ≡ budget_of old

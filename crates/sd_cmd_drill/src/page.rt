@@ -1,9 +1,9 @@
 //! The page of a domain: the lines of its members, one behind another.
 ghost use Rattle.std.specs.Prelude.{◌≡◌, ◌++◌, ◌≤◌, ◌<◌, [], length, Some, None, IfOk, OnOk, codes};
 ghost use Rattle.sd_cmd_drill.specs.Endings.{AreEndings};
+ghost use Rattle.sd_cmd_drill.specs.Pages.{HasLine};
 ghost use Rattle.sd_cmd_drill.specs.Printing.{IsShort, front_of, line_behind};
 ghost use Rattle.sd_outside.specs.Printed.{printed};
-ghost use Rattle.sd_topo.specs.Network as names;
 ghost use Rattle.sd_topo.specs.Topologies.{network};
 
 use crate::endings::{CachedSuffix, no_endings, show_ending};
@@ -89,12 +89,7 @@ impl Page {
     fn add_bound(&mut self, topo: &Topology, d: u32, bound: u128) -> Result<(), NoMemory>
         requires device { d < length (network topo.now).devices }
         requires endings { AreEndings (network topo.now) self.old.endings.items }
-        ensures text { OnOk result (self.new.text.items ≡ self.old.text.items
-            ++ line_behind (printed self.old.bound_front) (printed self.old.nobound_front)
-            (names.device_name (network topo.now) d) (Some bound)) }
-        ensures bound_front { printed self.new.bound_front ≡ printed self.old.bound_front }
-        ensures nobound_front { printed self.new.nobound_front ≡ printed self.old.nobound_front }
-        ensures endings { AreEndings (network topo.now) self.new.endings.items }
+        ensures { HasLine (network topo.now) self.old self.new d (Some bound) result }
     {
         show_ending(&mut self.endings, topo, d, bound);
         append(&mut self.text, self.bound_front.printed())?;
@@ -124,12 +119,7 @@ impl Page {
     ) -> Result<(), NoMemory>
         requires device { d < length (network topo.now).devices }
         requires endings { AreEndings (network topo.now) self.old.endings.items }
-        ensures text { OnOk result (self.new.text.items ≡ self.old.text.items
-            ++ line_behind (printed self.old.bound_front) (printed self.old.nobound_front)
-            (names.device_name (network topo.now) d) bound) }
-        ensures bound_front { printed self.new.bound_front ≡ printed self.old.bound_front }
-        ensures nobound_front { printed self.new.nobound_front ≡ printed self.old.nobound_front }
-        ensures endings { AreEndings (network topo.now) self.new.endings.items }
+        ensures { HasLine (network topo.now) self.old self.new d bound result }
     {
         match bound {
             Some(bound) => self.add_bound(topo, d, bound),

@@ -8,7 +8,7 @@ ghost use Rattle.sd_drill.specs.Printed.{IsLinesOf, bound_line, done_line};
 ghost use Rattle.sd_cmd_drill.specs.Adding.{AddsLines, Drills};
 ghost use Rattle.sd_cmd_drill.specs.Endings.{AreEndings};
 ghost use Rattle.sd_cmd_drill.specs.Kinds.{all_of};
-ghost use Rattle.sd_cmd_drill.specs.Rooms.{IsRoomFor, budget_of};
+ghost use Rattle.sd_cmd_drill.specs.Rooms.{IsRoomFor, KeepsRoom, budget_of};
 ghost use Rattle.sd_outside.specs.Causes.{RisesFor};
 ghost use Rattle.sd_outside.specs.Pieces.{piece_of};
 ghost use Rattle.sd_cmd_files.specs.Writes.{Adds};
@@ -99,8 +99,8 @@ fn prepare(
     ensures lines { OnOk result
         (IsLinesOf (network planned.entry.topo.now) planned.entry.plan.now
         (budget_of room.old) domain room.new.page.text.items) }
-    ensures room { IsRoomFor (network planned.entry.topo.now) planned.entry.plan.now room.new }
-    ensures budget { budget_of room.new ≡ budget_of room.old }
+    ensures room { KeepsRoom (network planned.entry.topo.now) planned.entry.plan.now room.old
+        room.new }
 {
     let bounds = room.drill.worst(alloc, planned, domain)?;
     print_domain(
@@ -125,8 +125,8 @@ fn write_domain<O: Sink>(
     requires room { IsRoomFor (network planned.topo.now) planned.plan.now room.old }
     ensures adds { AddsLines (network planned.entry.topo.now) planned.entry.plan.now
         (budget_of room.old) (domain ∷ []) (O.written out.old) (O.written out.new) result }
-    ensures room { IsRoomFor (network planned.entry.topo.now) planned.entry.plan.now room.new }
-    ensures budget { budget_of room.new ≡ budget_of room.old }
+    ensures room { KeepsRoom (network planned.entry.topo.now) planned.entry.plan.now room.old
+        room.new }
     ensures sink { RisesFor (result ≡ Err IoError.Sink) (O.faults out.old) (O.faults out.new) }
 {
     match prepare(alloc, planned, room, domain) {
@@ -148,8 +148,8 @@ fn write_kind<O: Sink>(
     ensures adds { AddsLines (network planned.entry.topo.now) planned.entry.plan.now
         (budget_of room.old) (all_of (network planned.entry.topo.now) kind) (O.written out.old)
         (O.written out.new) result }
-    ensures room { IsRoomFor (network planned.entry.topo.now) planned.entry.plan.now room.new }
-    ensures budget { budget_of room.new ≡ budget_of room.old }
+    ensures room { KeepsRoom (network planned.entry.topo.now) planned.entry.plan.now room.old
+        room.new }
     ensures sink { RisesFor (result ≡ Err IoError.Sink) (O.faults out.old) (O.faults out.new) }
 {
     for number in 0..kind.count(planned.topo) {
@@ -170,8 +170,8 @@ fn write_domains<O: Sink>(
     ensures adds { AddsLines (network planned.entry.topo.now) planned.entry.plan.now
         (budget_of room.old)
         (domains (network planned.entry.topo.now)) (O.written out.old) (O.written out.new) result }
-    ensures room { IsRoomFor (network planned.entry.topo.now) planned.entry.plan.now room.new }
-    ensures budget { budget_of room.new ≡ budget_of room.old }
+    ensures room { KeepsRoom (network planned.entry.topo.now) planned.entry.plan.now room.old
+        room.new }
     ensures sink { RisesFor (result ≡ Err IoError.Sink) (O.faults out.old) (O.faults out.new) }
 {
     write_kind(alloc, planned, room, Kind::Listed, out)?;

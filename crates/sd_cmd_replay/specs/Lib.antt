@@ -4,6 +4,7 @@ pub mod Replays
 pub mod Loaded
 pub mod Writes
 pub mod Early
+pub mod Runs
 pub mod Starting
 pub mod Doing
 pub mod Telling

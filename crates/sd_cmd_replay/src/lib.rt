@@ -1,4 +1,4 @@
-//! The commands `replay` and `order` behind their words: a schedule over a topology and plans is
+//! The commands `replay` and `order` after their words: a schedule over a topology and plans is
 //! replayed line by line, and each step's lines are written before the next line is read.
 //!
 //! `order` is `replay` with commit wait: it adds what each report begins, ends and disorders.

@@ -1,17 +1,16 @@
-//! `replay` and `order`: the schedule behind the topology and the plans, line by line.
+//! `replay` and `order`: the schedule after the topology and the plans, line by line.
 ghost use Rattle.std.specs.Prelude.{◌≡◌, ◌≤◌, All, [], ◌∷◌, true, Ok, Err, IsTrue, IfOk, IfSome, Some, length, map, string_bytes};
 ghost use Rattle.sd_outside.specs.Causes.{RisesFor};
 ghost use Rattle.sd_outside.specs.Shelves.{KeepsShelf};
 ghost use Rattle.sd_cmd_files.specs.Stream.Reader.{IsNear};
-ghost use Rattle.sd_cmd_files.specs.Inputs.{topology_of};
 ghost use Rattle.sd_cmd_files.specs.Statuses.{is_among};
 ghost use Rattle.sd_cmd_files.specs.Texts.{texts_of};
 ghost use Rattle.sd_cmd_files.specs.work.Ending.{LeavesAt};
 ghost use Rattle.sd_cmd_files.specs.work.Works.{InSteps, IsOutcome, Work, refused_part};
 ghost use Rattle.sd_cmd_files.specs.work.WholeLines.{WritesWhole};
 ghost use Rattle.sd_cmd_files.specs.Answering.{InWrites};
-ghost use Rattle.sd_cmd_replay.specs.Writes.{RunsIn};
-ghost use Rattle.sd_cmd_replay.specs.Replays.{order_work, refused_over, replay_work};
+ghost use Rattle.sd_cmd_replay.specs.Runs.{HasRun};
+ghost use Rattle.sd_cmd_replay.specs.Replays.{order_work, replay_work};
 
 use crate::Files;
 use crate::files::{end_early, start};
@@ -38,21 +37,8 @@ pub fn replay<S: Shelf, O: Sink>(
     requires schedule { IsTrue (S.serves shelf.old files.schedule.now) }
     requires some { 1 ≤ length files.plans.now }
     requires few { length files.plans.now ≤ 64 }
-    ensures outcome { IfSome (S.held shelf.old) (λ held.
-        LeavesAt true
-        (RunsIn replay_work (texts_of held files.entry.topology.now)
-        (map (λ name. texts_of held name) (map string_bytes files.entry.plans.now))
-        (texts_of held files.entry.schedule.now)) (O.written out.old) (O.written out.new) result) }
-    ensures gives { IfOk result
-        (λ status. IsTrue
-        (is_among (Status.Done ∷ Status.PlanRefused ∷ Status.InputRefused ∷ Status.Broken ∷ [])
-        status)) }
-    ensures near { result ≡ Ok Status.InputRefused → IfSome (S.held shelf.old) (λ held.
-        IfSome (refused_over (topology_of (texts_of held files.entry.topology.now))
-        (map (λ name. texts_of held name) (map string_bytes files.entry.plans.now))
-        (texts_of held files.entry.schedule.now)) (λ part. IsNear (Some part) (S.rest shelf.new))) }
-    ensures shelf { KeepsShelf S.Shelf (result ≡ Err IoError.Shelf) shelf.old shelf.new }
-    ensures sink { RisesFor (result ≡ Err IoError.Sink) (O.faults out.old) (O.faults out.new) }
+    ensures { HasRun S.Shelf O.Sink replay_work files.entry shelf.old shelf.new out.old out.new
+        result }
 {
     let line = LineBuffer::new(alloc)?;
     match start(alloc, shelf, files, NoObserver) {
@@ -64,7 +50,7 @@ pub fn replay<S: Shelf, O: Sink>(
     }
 }
 
-/// The same with commit wait: behind the lines of a step stand those of its report, by the same
+/// The same with commit wait: after the lines of a step come those of its report, by the same
 /// write.
 pub fn order<S: Shelf, O: Sink>(
     alloc: Global,
@@ -78,21 +64,8 @@ pub fn order<S: Shelf, O: Sink>(
     requires schedule { IsTrue (S.serves shelf.old files.schedule.now) }
     requires some { 1 ≤ length files.plans.now }
     requires few { length files.plans.now ≤ 64 }
-    ensures outcome { IfSome (S.held shelf.old) (λ held.
-        LeavesAt true
-        (RunsIn order_work (texts_of held files.entry.topology.now)
-        (map (λ name. texts_of held name) (map string_bytes files.entry.plans.now))
-        (texts_of held files.entry.schedule.now)) (O.written out.old) (O.written out.new) result) }
-    ensures gives { IfOk result
-        (λ status. IsTrue
-        (is_among (Status.Done ∷ Status.PlanRefused ∷ Status.InputRefused ∷ Status.Broken ∷ [])
-        status)) }
-    ensures near { result ≡ Ok Status.InputRefused → IfSome (S.held shelf.old) (λ held.
-        IfSome (refused_over (topology_of (texts_of held files.entry.topology.now))
-        (map (λ name. texts_of held name) (map string_bytes files.entry.plans.now))
-        (texts_of held files.entry.schedule.now)) (λ part. IsNear (Some part) (S.rest shelf.new))) }
-    ensures shelf { KeepsShelf S.Shelf (result ≡ Err IoError.Shelf) shelf.old shelf.new }
-    ensures sink { RisesFor (result ≡ Err IoError.Sink) (O.faults out.old) (O.faults out.new) }
+    ensures { HasRun S.Shelf O.Sink order_work files.entry shelf.old shelf.new out.old out.new
+        result }
 {
     let line = LineBuffer::new(alloc)?;
     match start(alloc, shelf, files, ToldWaits::new(alloc)) {

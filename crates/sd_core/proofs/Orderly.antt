@@ -20,7 +20,7 @@ use Rattle.sd_core.proofs.Reached.{reached}
 use Rattle.sd_core.proofs.Stands.{IsOrdered, IsDue, steps}
 
 -- the latest counter that the device was given, after this call
-abbrev latest_with : Call → ℕ → ℕ
+abbrev pub latest_with : Call → ℕ → ℕ
 latest_with call before = map_or (counter_of call) before (λ counter. counter)
 
 turned_last : (r : Registers) (counter : ℕ) (turn : Turn) → r.last ≤ counter → (turned r counter turn).0.last ≤ counter

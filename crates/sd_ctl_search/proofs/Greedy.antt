@@ -1,8 +1,5 @@
 -- What it means for a search that the greedy rule fails.
-use Rattle.std.proofs.Common.{◌<◌, ◌+◌, ℕ, List, Option, None, Some, add-one, get_or, length, subst, take}
-use Rattle.std.proofs.Math.Seq.{take-suc}
-use Rattle.std.proofs.lemmas.List.Elements.{All-push}
-use Rattle.std.specs.Prelude.{All}
+use Rattle.std.proofs.Common.{ℕ, Option, None, Some, subst}
 use Rattle.sd_topo.specs.Network.{Network}
 use Rattle.sd_plan.specs.declared.Absent.{Absent}
 use Rattle.sd_plan.specs.declared.Plan.{Plan}
@@ -27,11 +24,6 @@ fails_from net absent root plan breach greedy breached other also accepted =
 pub tried_none : (net : Network) (absent : Absent) (root : ℕ) (plan : Plan) (breach : Breach) → IsPlanned net root absent (planned.NoPlan plan breach)
     → IsTrial net absent (Some root) None
 tried_none net absent root plan breach (greedy, fits, breached) = fails_from net absent root plan breach greedy breached
-
--- one root more
-pub fails_more : (P : ℕ → Type 0) (roots : List ℕ) (k d : ℕ) → k < length roots → All P (take k roots) → P (get_or roots k d) → All P (take (k + 1) roots)
-fails_more P roots k d below before here =
-    rw (add-one k, take-suc roots k d below) (All-push P (take k roots) (get_or roots k d) before here)
 
 -- what is judged where the greedy rule fails
 pub none_either : (net : Network) (absent : Absent) (root : Option ℕ) (what : Found) → GreedyFails net absent root → IsJudged net absent root what

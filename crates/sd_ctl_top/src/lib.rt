@@ -9,6 +9,4 @@ mod whole;
 mod words;
 
 pub use sd_cmd_files::Status;
-// Handed on to the program.
-pub use sd_outside as outside;
 pub use top::run;

@@ -1,10 +1,11 @@
 -- What is wanted before the bound of a device is looked for, and what is had after.
-use Rattle.std.specs.Prelude.{ℕ, Option, IfOk, OnOk, Result}
+use Rattle.std.specs.Prelude.{ℕ, List, Option, IfOk, OnOk, Result}
 use Rattle.sd_num.specs.declared.NoMemory.{NoMemory}
 use Rattle.sd_topo.specs.Network.{Network}
 use Rattle.sd_domain.specs.declared.DomainId.{DomainId}
 use Rattle.sd_plan.specs.declared.Plan.{Plan}
 use Rattle.sd_checker.specs.CheckLoop.Loops.{HasNoCycle}
+use Rattle.sd_drill.specs.Bounds.{AreBounds}
 use Rattle.sd_drill.specs.Drill.{IsListed}
 use Rattle.sd_drill.specs.Times.{AreKnown, AreTimes}
 use Rattle.sd_drill.specs.declared.Budget.{Budget}
@@ -25,3 +26,9 @@ pub record HasBound (net : Network) (plan : Plan) (f : DomainId) (budget : Budge
     pub bound : IfOk result (IsListed net plan budget f d)
     pub known : AreKnown net plan budget cache
     pub ready : OnOk result (IsReadyFor net plan f cache.recoveries)
+
+-- the bounds of all devices were looked for: they are what is listed, and what is known serves another domain
+pub record HasBounds (net : Network) (plan : Plan) (f : DomainId) (budget : Budget) (result : Result (List (Option ℕ)) NoMemory) (cache : BoundCache) : Type 0
+  where
+    pub bounds : IfOk result (AreBounds net plan budget f)
+    pub known : AreKnown net plan budget cache

@@ -6,6 +6,7 @@ pub mod Times
 pub mod Bounding
 pub mod Printed
 pub mod Tight
+pub mod Tightening
 pub mod ages
 pub mod recovery
 -- Handed on: what crates above name of those below.

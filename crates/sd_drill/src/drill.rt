@@ -1,7 +1,7 @@
 //! A plan under drill: one domain after another.
 ghost use Rattle.std.specs.Prelude.{◌≡◌, ◌≤◌, ◌<◌, ◌+◌, length, IsTrue, IfOk};
 ghost use Rattle.sd_drill.specs.Bounds.{AreBounds};
-ghost use Rattle.sd_drill.specs.Bounding.{CanBound, HasBound};
+ghost use Rattle.sd_drill.specs.Bounding.{CanBound, HasBound, HasBounds};
 ghost use Rattle.sd_drill.specs.Budgets.{IsBudget};
 ghost use Rattle.sd_drill.specs.Drill.{IsListed};
 ghost use Rattle.sd_drill.specs.Spared as words;
@@ -154,9 +154,8 @@ fn all_bounds(
 ) -> Result<WorstList, NoMemory>
     requires can { CanBound (net_of outage.now) (plan_of outage.now) outage.now.domain times
         known.old }
-    ensures bounds { IfOk result
-        (AreBounds (net_of outage.now) (plan_of outage.now) times.budget outage.now.domain) }
-    ensures known { AreKnown (net_of outage.now) (plan_of outage.now) times.budget known.new }
+    ensures { HasBounds (net_of outage.now) (plan_of outage.now) outage.now.domain times.budget
+        result known.new }
 {
     let devices = outage.planned.topo.devices();
     let Ok(mut bounds) = Vec::with_capacity(alloc, devices as usize) else {
@@ -179,9 +178,8 @@ fn bounds_under(
     requires times { AreTimes (net_of outage.now) (plan_of outage.now) times }
     requires known { AreKnown (net_of outage.now) (plan_of outage.now) times.budget known.old }
     requires acyclic { HasNoCycle (net_of outage.now) (plan_of outage.now) outage.now.domain }
-    ensures bounds { IfOk result
-        (AreBounds (net_of outage.now) (plan_of outage.now) times.budget outage.now.domain) }
-    ensures known { AreKnown (net_of outage.now) (plan_of outage.now) times.budget known.new }
+    ensures { HasBounds (net_of outage.now) (plan_of outage.now) outage.now.domain times.budget
+        result known.new }
 {
     known.recoveries.clear();
     all_bounds(alloc, times, known, outage)

@@ -1,12 +1,13 @@
 //! A tighter number of each device, beside its bound: no report is above it either.
-ghost use Rattle.std.specs.Prelude.{◌≡◌, ◌≤◌, ◌<◌, ◌+◌, ◌*◌, ◌^◌, length, IfOk, OnOk};
+ghost use Rattle.std.specs.Prelude.{◌≡◌, ◌≤◌, ◌<◌, ◌+◌, ◌*◌, ◌^◌, length, IfOk};
 ghost use Rattle.sd_checker.specs.CheckHit.Outages.{net_of, plan_of};
 ghost use Rattle.sd_checker.specs.CheckLoop.Loops.{HasNoCycle};
 ghost use Rattle.sd_drill.specs.Budgets.{IsBudget};
 ghost use Rattle.sd_drill.specs.Tight as words;
 ghost use Rattle.sd_drill.specs.Tight.{AreTight, AreTightTimes, IsTightListed};
+ghost use Rattle.sd_drill.specs.Tightening.{CanTighten, HasNumber, HasNumbers};
 ghost use Rattle.sd_drill.specs.recovery.Recoveries.{IsRecovery};
-ghost use Rattle.sd_drill.specs.recovery.Searches.{HasRoom as HasRecoveryRoom, IsReadyFor};
+ghost use Rattle.sd_drill.specs.recovery.Searches.{HasRoom as HasRecoveryRoom};
 ghost use Rattle.sd_plan.specs.Plans.{Fits};
 ghost use Rattle.sd_topo.specs.Network.{rates_of};
 ghost use Rattle.sd_topo.specs.Topologies.{network};
@@ -131,16 +132,11 @@ fn number_of(
     outage: &Outage<'_>,
     d: u32,
 ) -> Result<Option<u128>, NoMemory>
-    requires times { AreTightTimes (net_of outage.now) (plan_of outage.now) times }
-    requires acyclic { HasNoCycle (net_of outage.now) (plan_of outage.now) outage.now.domain }
-    requires ready { IsReadyFor (net_of outage.now) (plan_of outage.now) outage.now.domain
+    requires can { CanTighten (net_of outage.now) (plan_of outage.now) outage.now.domain times
         recoveries.old }
     requires device { d < length (net_of outage.now).devices }
-    ensures number { IfOk result
-        (IsTightListed (net_of outage.now) (plan_of outage.now) times.budget outage.now.domain d) }
-    ensures ready { OnOk result
-        (IsReadyFor (net_of outage.now) (plan_of outage.now) outage.now.domain recoveries.new) }
-    ensures room { HasRecoveryRoom (net_of outage.now) recoveries.new }
+    ensures { HasNumber (net_of outage.now) (plan_of outage.now) outage.now.domain times.budget d
+        result recoveries.new }
 {
     let recovery = recoveries.of(outage, d)?;
     Ok(times.number_by(outage, d, recovery))
@@ -153,14 +149,10 @@ fn all_numbers(
     recoveries: &mut Recoveries,
     outage: &Outage<'_>,
 ) -> Result<WorstList, NoMemory>
-    requires times { AreTightTimes (net_of outage.now) (plan_of outage.now) times }
-    requires acyclic { HasNoCycle (net_of outage.now) (plan_of outage.now) outage.now.domain }
-    requires ready { IsReadyFor (net_of outage.now) (plan_of outage.now) outage.now.domain
+    requires can { CanTighten (net_of outage.now) (plan_of outage.now) outage.now.domain times
         recoveries.old }
-    requires room { HasRecoveryRoom (net_of outage.now) recoveries.old }
-    ensures numbers { IfOk result
-        (AreTight (net_of outage.now) (plan_of outage.now) times.budget outage.now.domain) }
-    ensures room { HasRecoveryRoom (net_of outage.now) recoveries.new }
+    ensures { HasNumbers (net_of outage.now) (plan_of outage.now) outage.now.domain times.budget
+        result recoveries.new }
 {
     let devices = outage.planned.topo.devices();
     let Ok(mut numbers) = Vec::with_capacity(alloc, devices as usize) else {
@@ -183,9 +175,8 @@ fn numbers_under(
     requires times { AreTightTimes (net_of outage.now) (plan_of outage.now) times }
     requires acyclic { HasNoCycle (net_of outage.now) (plan_of outage.now) outage.now.domain }
     requires room { HasRecoveryRoom (net_of outage.now) recoveries.old }
-    ensures numbers { IfOk result
-        (AreTight (net_of outage.now) (plan_of outage.now) times.budget outage.now.domain) }
-    ensures room { HasRecoveryRoom (net_of outage.now) recoveries.new }
+    ensures { HasNumbers (net_of outage.now) (plan_of outage.now) outage.now.domain times.budget
+        result recoveries.new }
 {
     recoveries.clear();
     all_numbers(alloc, times, recoveries, outage)

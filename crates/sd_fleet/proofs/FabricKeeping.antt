@@ -1,8 +1,7 @@
 -- What an accepted event asks of the parts of a fabric, and that a fabric stays sound.
-use Rattle.std.specs.Prelude.{◌≡◌, ℕ, ◌+◌, ◌^◌, ◌<◌, ◌≤◌, Bool, true, false, ◌&&◌, ◌||◌, List, [], length, find, filter, nat_eq, nat_le, ok_or, is_ok, is_some, Option, Some, None, IfSome, IsOkAnd, Result, Ok, Err, refl, if◌then◌else◌}
-use Rattle.std.specs.Result.{result_ok}
+use Rattle.std.specs.Prelude.{◌≡◌, ℕ, ◌+◌, ◌^◌, ◌<◌, ◌≤◌, Bool, true, false, ◌&&◌, ◌||◌, List, [], length, find, filter, nat_eq, nat_le, ok_or, is_ok, Option, Some, None, IfSome, IsOk, IsOkAnd, Result, Ok, Err, refl, if◌then◌else◌}
 use Rattle.std.proofs.Common.{arith, sym, ◌∙◌, ap, subst, inl, inr}
-use Rattle.std.proofs.lemmas.Bool.{and_parts, or_cases, eqb-true, eq-eqb, ne_eqb, leb-true, ltb-false, le-leb, lt-ltb, not-false}
+use Rattle.std.proofs.lemmas.Bool.{and_parts, or_cases, eqb-true, ne_eqb, leb-true, ltb-false, le-leb, lt-ltb, not-false}
 use Rattle.sd_num.specs.Lists.{map_or}
 use Rattle.sd_topo.specs.Network.{Network, Each}
 use Rattle.sd_topo.specs.Limits.{IsNetwork}
@@ -11,7 +10,7 @@ use Rattle.sd_plan.specs.Tables.{TableRow}
 use Rattle.sd_msg.specs.declared.Flight.{Flight}
 use Rattle.sd_msg.specs.declared.TakeFault.{TakeFault}
 use Rattle.sd_msg.specs.declared.TakeFault.TheVariants as take
-use Rattle.sd_msg.specs.Books.{Book, AreGiven, has_number, is_given, found, for_device, dismissed, is_current}
+use Rattle.sd_msg.specs.Books.{Book, AreGiven, has_number, is_given, found, dismissed, is_current}
 use Rattle.sd_core.specs.declared.Effect.{Effect}
 use Rattle.sd_core.specs.declared.Effect.TheVariants.{Quiet, Send}
 use Rattle.sd_sched.specs.declared.Event.{Event}
@@ -32,6 +31,7 @@ use Rattle.sd_fleet_state.proofs.membership.Observing.{length_answers}
 use Rattle.sd_fleet.specs.declared.Reply.{Reply}
 use Rattle.sd_fleet.specs.Registers.{Registers, kept, size_of}
 use Rattle.sd_fleet.specs.Causes.{refusal_in, is_for_another}
+use Rattle.sd_fleet.specs.Calm.{is_on_time}
 use Rattle.sd_fleet.specs.Doing.{IsReplyTo}
 use Rattle.sd_fleet.specs.Room.{ends_in, most_sent_in}
 use Rattle.sd_fleet.specs.Sending.{sent_by, sent_in}
@@ -96,20 +96,21 @@ found_and : (P : Flight → Type 0) (look : Result Flight TakeFault) → IsOkAnd
 found_and P (Ok f) is = (f, refl, is)
 found_and P (Err e) is = absurd is
 
-pub taken_is : (book : Book) (reference d n : ℕ) → AreGiven book → IsOkAnd (found book.last book.flights n) (λ f. (reference ≤ f.last) × (f.receiver ≡ d))
-    → for_device d (found book.last (filter (is_current reference) book.flights) n) ≡ found book.last book.flights n
-taken_is book reference d n given can =
-    let it : (f : Flight) × (found book.last book.flights n ≡ Ok f) × ((reference ≤ f.last) × (f.receiver ≡ d)) =
-    found_and (λ f. (reference ≤ f.last) × (f.receiver ≡ d)) (found book.last book.flights n) can in
-    ap (for_device d) (found_kept book.last n (is_current reference) book.flights it.0 given it.1 (le-leb reference it.0.last it.2.0))
-    ∙ ap (λ b. if b then Ok it.0 else Err take.WrongDevice) (eq-eqb it.0.receiver d it.2.1)
-    ∙ sym it.1
+-- a flight that can be received can be lost
+pub still_kept : (reference d : ℕ) (look : Result Flight TakeFault) → IsOkAnd look (λ f. (reference ≤ f.last) × (f.receiver ≡ d))
+    → IsOkAnd look (λ f. reference ≤ f.last)
+still_kept reference d (Ok f) is = is.0
+still_kept reference d (Err e) is = absurd is
 
-pub taken_some : (P : Flight → Type 0) (look : Result Flight TakeFault) → IsOkAnd look P → is_some (result_ok look) ≡ true
-taken_some P (Ok f) is = refl
-taken_some P (Err e) is = absurd is
+pub is_there : (P : Flight → Type 0) (look : Result Flight TakeFault) → IsOkAnd look P → IsOk look
+is_there P (Ok f) is = refl
+is_there P (Err e) is = absurd is
 
-pub lost_is : (book : Book) (reference n : ℕ) → AreGiven book → IsOkAnd (found book.last book.flights n) (λ f. reference ≤ f.last)
+pub on_time_there : (reference d : ℕ) (look : Result Flight TakeFault) → is_on_time reference d look ≡ true → IsOk look
+on_time_there reference d (Ok f) timed = refl
+on_time_there reference d (Err e) timed = cc
+
+lost_is : (book : Book) (reference n : ℕ) → AreGiven book → IsOkAnd (found book.last book.flights n) (λ f. reference ≤ f.last)
     → found book.last (filter (is_current reference) book.flights) n ≡ found book.last book.flights n
 lost_is book reference n given can =
     let it : (f : Flight) × (found book.last book.flights n ≡ Ok f) × (reference ≤ f.last) =
@@ -277,24 +278,17 @@ sound_first setting net r book same law tables stands given none size =
 
 -- What was taken and lost
 
-pub took_is : (book mid : Book) (ref d n r0 : ℕ) (took : Option Flight)
-    → IsOkAnd (found book.last book.flights n) (λ f. (ref ≤ f.last) × (f.receiver ≡ d)) → AreGiven book
-    → mid.last ≡ book.last → mid.flights ≡ filter (is_current r0) book.flights → r0 ≡ ref → took ≡ result_ok (for_device d (found mid.last mid.flights n))
-    → took ≡ result_ok (found book.last book.flights n)
-took_is book mid ref d n r0 took can given last flights same takes =
-    takes ∙ ap result_ok
-    (ap (λ l. for_device d (found l mid.flights n)) last
-    ∙ ap (λ fs. for_device d (found book.last fs n)) (flights ∙ ap (λ r. filter (is_current r) book.flights) same) ∙ taken_is book ref d n given can)
+pub found_still : (book mid : Book) (ref n r0 : ℕ) → IsOkAnd (found book.last book.flights n) (λ f. ref ≤ f.last) → AreGiven book
+    → mid.last ≡ book.last → mid.flights ≡ filter (is_current r0) book.flights → r0 ≡ ref → found mid.last mid.flights n ≡ found book.last book.flights n
+found_still book mid ref n r0 can given last flights same =
+    ap (λ l. found l mid.flights n) last ∙ ap (λ fs. found book.last fs n) (flights ∙ ap (λ r. filter (is_current r) book.flights) same)
+    ∙ lost_is book ref n given can
 
 pub lost_ok : (book mid : Book) (ref n r0 : ℕ) (lost : Result (Unit {0}) TakeFault) → IsOkAnd (found book.last book.flights n) (λ f. ref ≤ f.last)
     → AreGiven book
     → mid.last ≡ book.last → mid.flights ≡ filter (is_current r0) book.flights → r0 ≡ ref → lost ≡ dismissed (found mid.last mid.flights n) → is_ok lost ≡ true
 lost_ok book mid ref n r0 lost can given last flights same loses =
-    ap is_ok
-    (loses ∙ ap (λ l. dismissed (found l mid.flights n)) last
-    ∙ ap (λ fs. dismissed (found book.last fs n)) (flights ∙ ap (λ r. filter (is_current r) book.flights) same)
-    ∙ ap dismissed (lost_is book ref n given can))
-    ∙ by (found book.last book.flights n) can
+    ap is_ok (loses ∙ ap dismissed (found_still book mid ref n r0 can given last flights same)) ∙ by (found book.last book.flights n) can
   where
     by : (look : Result Flight TakeFault) → IsOkAnd look (λ f. ref ≤ f.last) → is_ok (dismissed look) ≡ true
     by (Ok f) is = refl

@@ -11,6 +11,7 @@ pub mod Firsts
 pub mod Calm
 pub mod Steady
 pub mod TickRests
+pub mod Staying
 pub mod FabricKeeping
 pub mod Room
 pub mod Replies
@@ -26,8 +27,7 @@ pub mod Applying
 pub mod Reporting
 pub mod Stepping
 pub mod NodeRests
-pub mod Hearing
-pub mod NodeHears
+pub mod NodeKeeps
 pub mod Devices
 pub mod Shared
 -- Handed on: what crates above name of those below.

@@ -1,14 +1,10 @@
 -- A tick while no window is open, and a receipt: the taking of its flight, and then a tick.
-use Rattle.std.specs.Prelude.{◌≡◌, ℕ, Bool, true, false, ◌&&◌, not, List, ◌++◌, length, filter, nat_le, Option, Some, None, IsOkAnd, Result, Ok, Err, refl, if◌then◌else◌}
+use Rattle.std.specs.Prelude.{◌≡◌, ℕ, Bool, true, false, ◌&&◌, not, List, ◌++◌, length, filter, nat_le, Some, None, refl, if◌then◌else◌}
 use Rattle.std.specs.List.{list_all}
-use Rattle.std.specs.Result.{result_ok}
 use Rattle.std.proofs.Common.{arith, sym, ◌∙◌, ap, subst}
-use Rattle.std.proofs.lemmas.Bool.{eq-eqb}
 use Rattle.sd_num.specs.Lists.{below}
 use Rattle.sd_msg.specs.declared.Flight.{Flight}
-use Rattle.sd_msg.specs.declared.TakeFault.{TakeFault}
-use Rattle.sd_msg.specs.declared.TakeFault.TheVariants as fault
-use Rattle.sd_msg.specs.Books.{for_device, has_number, without, is_current}
+use Rattle.sd_msg.specs.Books.{has_number, without, is_current}
 use Rattle.sd_core.specs.declared.Effect.{Effect}
 use Rattle.sd_sched.specs.declared.Event.TheVariants as event
 use Rattle.sd_history.proofs.Filters.{both_tests, kept_alike}
@@ -19,13 +15,14 @@ use Rattle.sd_fleet_state.specs.world.Registers.{is_open, is_committed}
 use Rattle.sd_fleet_state.specs.membership.Memberships as memberships
 use Rattle.sd_fleet_state.specs.membership.Memberships.{staged_number, is_of, is_present, has_settled_at, can_close_in, registers_after, registers_closed}
 use Rattle.sd_fleet.specs.declared.Reply.{Reply}
-use Rattle.sd_fleet.specs.declared.Outcome.{Outcome}
+use Rattle.sd_fleet.specs.declared.messages.Sent.{Sent}
 use Rattle.sd_fleet.specs.Registers.{Registers, kept}
-use Rattle.sd_fleet.specs.Causes.{refusal_in, flight_at}
+use Rattle.sd_fleet.specs.Causes.{refusal_in}
 use Rattle.sd_fleet.specs.Doing.{IsReplyTo, replied}
 use Rattle.sd_fleet.specs.Outcomes.{first_number}
 use Rattle.sd_fleet.specs.Sending.{sent_in}
-use Rattle.sd_fleet.specs.Stepping.{IsAfter, IsWithout, acts_named, closed_if_can, is_new_at, entered_in, outcome_in, outcome_with}
+use Rattle.sd_fleet.specs.Stepping.{IsAfter, IsWithout, closed_if_can, is_new_at, entered_in}
+use Rattle.sd_fleet.specs.Keeping.{SendsTo}
 use Rattle.sd_fleet.proofs.Calm.{as_tick, tick_accepted, IsAdmitted}
 use Rattle.sd_fleet.proofs.Finishing.{sent_same}
 
@@ -59,19 +56,6 @@ module _ (r : memberships.Registers) (reference d counter : ℕ) (answers : Answ
 
   pub not_closed : (observed : memberships.Registers) → observed ≡ after → observed ≡ closed_if_can observed
   not_closed observed is = sym (ap (λ b. if b then registers_closed observed else observed) (ap can_close_in is ∙ stays_shut))
-
--- The taking of a flight
-
--- what was found for its receiver is taken
-taken_for : (look : Result Flight TakeFault) (d : ℕ) → IsOkAnd look (λ f. f.receiver ≡ d) → for_device d look ≡ look
-taken_for (Ok f) d is = ap (λ b. if b then Ok f else Err fault.WrongDevice) (eq-eqb f.receiver d is)
-taken_for (Err e) d is = absurd is
-
--- and that is written
-pub written_is : (seen now : Registers) (number d : ℕ) → seen ≡ now → IsOkAnd (flight_at now number) (λ f. f.receiver ≡ d)
-    → result_ok (for_device d (flight_at seen number)) ≡ result_ok (flight_at now number)
-written_is seen now number d same there =
-    ap (λ r. result_ok (for_device d (flight_at r number))) same ∙ ap result_ok (taken_for (flight_at now number) d there)
 
 -- A receipt
 
@@ -129,24 +113,12 @@ module _ (old mid : Registers) (reference d counter message : ℕ) (effect : Eff
         size = after.size ∙ taken.size;
       }
 
-  pub receipt_comes : (found : Option Flight) (outcome : Outcome) → found ≡ result_ok (flight_at old message)
-      → outcome ≡ outcome_with found mid (event.Tick reference d counter) reply
-      → outcome ≡ outcome_in old (event.Recv reference d counter message) reply
-  receipt_comes found outcome is comes =
-      comes
-      ∙ ap (λ m. made m (sent_in mid (event.Tick reference d counter) reply) found) taken.membership
-      ∙ ap (λ fs. made old.membership fs found) sent_alike
-      ∙ ap (λ f. made old.membership (sent_in old (event.Recv reference d counter message) reply) f) is
-    where
-      made : memberships.Registers → List Flight → Option Flight → Outcome
-      made m fs f =
-          record {
-            report = None;
-            taken = f;
-            first_sent = first_number fs;
-            sent = length fs;
-            activated = entered_in m (registers_after m (event.Tick reference d counter) (Some answers)) (event.Tick reference d counter);
-            acted = acts_named m (Some d);
-            closed = can_close_in (registers_after m (event.Tick reference d counter) (Some answers));
-            ended = false;
-          }
+  -- and what is sent is the same
+  pub receipt_sends : (sent : Sent) (new : Registers) → SendsTo mid (event.Tick reference d counter) reply sent new
+      → SendsTo old (event.Recv reference d counter message) reply sent new
+  receipt_sends sent new sends =
+      record {
+        after = receipt_after new sends.after;
+        first = sends.first ∙ ap first_number sent_alike;
+        count = sends.count ∙ ap length sent_alike;
+      }

@@ -1,6 +1,5 @@
 -- What makes a fleet stand for one step more, where the fabric's registers and the outcome are told.
-use Rattle.std.specs.Prelude.{◌≡◌, ℕ, ◌<◌, ◌≤◌, ◌^◌, List, length, Option, Some, None, IsOkAnd, IsTrue, Result, Ok, Err, refl}
-use Rattle.std.specs.Result.{result_ok}
+use Rattle.std.specs.Prelude.{◌≡◌, ℕ, ◌<◌, ◌≤◌, ◌^◌, List, length, Option, None, IsTrue, Result, Ok, refl}
 use Rattle.std.proofs.Common.{arith, sym, ◌∙◌, ap, subst}
 use Rattle.sd_msg.specs.declared.Flight.{Flight}
 use Rattle.sd_msg.specs.declared.TakeFault.{TakeFault}
@@ -74,20 +73,6 @@ can_receive g r reference d counter message f nodes given context same at found 
     can_do g r (event.Recv reference d counter message) nodes given context (steps.Calls d (calls.Receive f.link f.message counter)) same at
     (sym (ap (λ o. receipt o d counter) found)) are_nodes sound accepted within
 
--- the flight is there for its receiver
-pub for_receiver : (look : Result Flight TakeFault) (reference d : ℕ) → IsOkAnd look (λ f. (reference ≤ f.last) × (f.receiver ≡ d))
-    → IsOkAnd look (λ f. f.receiver ≡ d)
-for_receiver (Ok f) reference d is = is.1
-for_receiver (Err e) reference d is = is
-
-pub taken_there : (look : Result Flight TakeFault) (taken : Option Flight) (reference d : ℕ) → IsOkAnd look (λ f. (reference ≤ f.last) × (f.receiver ≡ d))
-    → taken ≡ result_ok look → taken ≡ None → ⊥
-taken_there look taken reference d there is none = by look there (sym is ∙ none)
-  where
-    by : (o : Result Flight TakeFault) → IsOkAnd o (λ f. (reference ≤ f.last) × (f.receiver ≡ d)) → result_ok o ≡ None → ⊥
-    by (Ok f) there' none' = cc
-    by (Err e) there' none' = there'
-
 -- there is room as before
 pub room_without : (old mid : Registers) (d message : ℕ) → IsWithout message old mid → ends_in old d ≤ old.book.room → ends_in mid d ≤ mid.book.room
 room_without old mid d message left room =
@@ -95,17 +80,6 @@ room_without old mid d message left room =
     ap (λ (n : Network). ends_in (kept n mid.membership mid.book) d) left.net
     ∙ ap (λ (m : membership.Registers). ends_in (kept old.net m mid.book) d) left.membership in
     omega (arith, same, left.room, room)
-
--- the flight that was taken is the one that was found
-pub found_taken : (look : Result Flight TakeFault) (taken : Option Flight) (f : Flight) → taken ≡ result_ok look → taken ≡ Some f → look ≡ Ok f
-found_taken look taken f is some = by look (sym is ∙ some)
-  where
-    by : (o : Result Flight TakeFault) → result_ok o ≡ Some f → o ≡ Ok f
-    by (Ok x) here = ap Ok (same x here)
-      where
-        same : (x : Flight) → Some x ≡ Some f → x ≡ f
-        same x here = cc
-    by (Err e) here = cc
 
 -- the call of that flight is what the event does
 pub received_acts : {N : Type 0} (g : Ghosts N) (given after : List (Option N)) (context : CallContext) (reply : Reply) (look : Result Flight TakeFault)

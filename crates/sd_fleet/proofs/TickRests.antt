@@ -1,5 +1,5 @@
 -- A tick while no window is open, at which its device sends nothing and answers as before.
-use Rattle.std.specs.Prelude.{◌≡◌, ℕ, zero, suc, ◌+◌, ◌<◌, ◌^◌, ◌&&◌, ◌||◌, false, List, [], ◌∷◌, length, filter, slice_set, slice_index_or, nat_eq, Some, None, refl, if◌then◌else◌}
+use Rattle.std.specs.Prelude.{◌≡◌, ℕ, zero, suc, ◌+◌, ◌<◌, ◌≤◌, ◌^◌, ◌&&◌, ◌||◌, false, List, [], ◌∷◌, length, filter, slice_set, slice_index_or, nat_eq, Some, None, refl, if◌then◌else◌}
 use Rattle.std.proofs.Common.{arith, sym, ◌∙◌, ap, subst}
 use Rattle.std.proofs.lemmas.List.{append-nil}
 use Rattle.sd_num.specs.Lists.{at_place}
@@ -63,8 +63,9 @@ module _ (old : Registers) (reference d counter : ℕ) where
         size = size;
       }
 
+  -- and a fabric stays sound, with as many messages sent as there are links
   pub sound_rest : (mid : Book) (m : memberships.Registers) → IsSound old → refusal_in old ticked ≡ None → m ≡ registers_resting old.membership ticked
-      → memberships.IsSound m → AreGiven mid → mid.last ≡ old.book.last → mid.size ≡ old.book.size
+      → memberships.IsSound m → AreGiven mid → mid.last ≤ old.book.last + 2 ^ 15 → mid.size ≡ old.book.size
       → IsSound (kept old.net m mid)
   sound_rest mid m sound accepted is good given last size =
       let left : old.membership.world.events < 2 ^ 26 = events_left old ticked accepted in

@@ -13,7 +13,7 @@ pub mod Stepping
 pub mod Staying
 pub mod Calling
 pub mod Nodes
-pub mod Hearing
+pub mod Keeping
 pub mod Bounds
 pub mod Standing
 pub mod Devices

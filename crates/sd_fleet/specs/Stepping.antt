@@ -112,10 +112,6 @@ outcome_resting r d =
       ended = false;
     }
 
--- what comes of it, where this flight is received
-abbrev pub outcome_with : Option Flight → Registers → Event → Reply → Outcome
-outcome_with taken r e reply = record (outcome_in r e reply) { taken = taken }
-
 -- the flight with this number was taken away, and nothing else but room changed
 pub record IsWithout (number : ℕ) (old new : Registers) : Type 0 where
   pub net : new.net ≡ old.net

@@ -24,11 +24,7 @@ pub(crate) fn deliver(book: &mut FlightBook, event: &Event, taken: &mut Option<F
 {
     book.purge(event.reference());
     match *event {
-        Event::Recv {
-            device,
-            message,
-            ..
-        } => book.take_into(message, device, taken),
+        Event::Recv { message, .. } => *taken = Some(book.take_found(message)),
         Event::Lose { message, .. } => {
             let _: Result<(), TakeFault> = book.lose(message);
             *taken = None;

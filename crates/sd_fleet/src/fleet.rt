@@ -9,22 +9,21 @@ ghost use Rattle.sd_fleet.specs.History.Steps.{seen_of, parent_in, acts_in};
 ghost use Rattle.sd_fleet.specs.History.Nodes.{NodeStep, steps_of};
 ghost use Rattle.sd_fleet.specs.History.Refusals.{refusal as refusal_of};
 ghost use Rattle.sd_fleet.specs.History.flights.Flights.{look_in};
-ghost use Rattle.sd_fleet.specs.FleetState.world.Registers.{is_open};
 ghost use Rattle.sd_fleet.specs.FleetState.membership.Plans.{AreSound};
 ghost use Rattle.sd_fleet.specs.Causes.{refusal_in};
 ghost use Rattle.sd_fleet.specs.Doing.{act_in};
 ghost use Rattle.sd_fleet.specs.Nodes.{Acts};
-ghost use Rattle.sd_fleet.specs.Room.{most_sent_of, most_sent_in};
+ghost use Rattle.sd_fleet.specs.Room.{ends_in, most_sent_of, most_sent_in};
 ghost use Rattle.sd_fleet.specs.Sound.{IsSound};
 ghost use Rattle.sd_fleet.specs.Stepping.{OnlyRoomGrew, outcome_resting};
 ghost use Rattle.sd_fleet.specs.Staying.{StaysAt};
-ghost use Rattle.sd_fleet.specs.Hearing.{outcome_hearing};
+ghost use Rattle.sd_fleet.specs.Keeping.{outcome_keeping};
 ghost use Rattle.sd_fleet.specs.Calling.{IsLimited};
 ghost use Rattle.sd_fleet.specs.Bounds.{AreNodes, context_of};
 
-use crate::hears::{hear_at, is_settled_at};
-use crate::nodes::{CallContext, ask_at, call_at, place, rests_at, step_at, unanswered};
-use crate::{ApplyFault, Call, Fabric, Outcome, Reply};
+use crate::keeps::{emit_at, hear_at, is_acting_at, is_settled_at};
+use crate::nodes::{CallContext, ask_at, call_at, place, rests_at};
+use crate::{ApplyFault, Call, Fabric, Outcome, Reply, Sent};
 use sd_core::Node;
 use sd_msg::{Flight, TakeFault};
 use sd_num::NoMemory;
@@ -43,6 +42,14 @@ pub struct Fleet<N: Node> {
     /// By device, since it was last made; one that failed stays until it is made again.
     nodes: Vec<Option<N>>,
     ghost are_nodes: { AreNodes N.Node fabric nodes.items },
+}
+
+/// What came of a receipt after which its device answers as before.
+#[derive(Clone, Copy, Debug, PartialEq, Eq)]
+pub struct Heard {
+    /// The flight that was received.
+    pub flight: Flight,
+    pub sent: Sent,
 }
 
 /// A place without a node for each device.
@@ -176,17 +183,6 @@ fn address<N: Node>(fabric: &Fabric, nodes: &mut [Option<N>], event: &Event) -> 
     }
 }
 
-/// No flight is left there.
-// A flight is large, and most ticks come after a tick: it is written where there is one alone.
-#[inline(always)]
-fn forget(taken: &mut Option<Flight>)
-    ensures { taken.new ≡ None }
-{
-    if taken.is_some() {
-        *taken = None;
-    }
-}
-
 impl<N: Node> Fleet<N> {
     ghost use Rattle.sd_fleet.specs.Standing.{StandsFor, IsPrepared, IsAccepted, HasHappened, IsFault};
 
@@ -291,23 +287,22 @@ impl<N: Node> Fleet<N> {
         requires prepared { IsPrepared self.old.fabric event.now }
         ensures { HasHappened N.Node self.old self.new event.now outcome.new }
     {
-        if self.fabric.has_window() {
-            return self.happen_any(event, outcome);
-        }
-        match *event {
-            Event::Tick {
-                reference,
-                device,
-                counter,
-            } => self.tick(reference, device, counter, outcome),
-            Event::Recv {
-                reference,
-                device,
-                counter,
-                message,
-            } => self.receive(reference, device, counter, message, outcome),
-            _ => self.happen_any(event, outcome),
-        }
+        let reply = address(&self.fabric, &mut self.nodes, event);
+        self.fabric.note(event, &reply, outcome);
+    }
+
+    /// Makes the room that a call of the device needs while no window is open, and nothing else. It
+    /// answers how many messages the device sends at most.
+    #[inline(always)]
+    pub fn ready(&mut self, alloc: Global, d: u32) -> Result<usize, NoMemory>
+        ensures room { OnOk result (ends_in self.new.fabric d ≤ self.new.fabric.book.room) }
+        ensures most { IfOk result (λ most. most ≡ ends_in self.new.fabric d) }
+        ensures stands { (setting : Setting) (run : List (NodeStep N))
+            → StandsFor N.Node self.old setting run → StandsFor N.Node self.new setting run }
+    {
+        let most = self.fabric.ends_of(d);
+        self.fabric.ready(alloc, most)?;
+        Ok(most)
     }
 
     /// A tick at which the device rests happens, if it is one: the device sends nothing and stays as
@@ -334,23 +329,54 @@ impl<N: Node> Fleet<N> {
         true
     }
 
-    /// A receipt happens, if it is one by a device that was given nothing and has nobody below it:
-    /// its flight is taken, and the device answers as before. It is for `apply` where it is
-    /// another, is refused, or a window is open.
+    /// A tick of a device that acts as root happens, if it is one: the device answers as before, and
+    /// what it sends goes out. It is for `apply` where it is another, is refused, or a window is
+    /// open.
     // No answers and no outcome are written.
     #[inline(always)]
-    pub fn hear(&mut self, reference: u64, d: u32, counter: u64, message: u64) -> Option<Flight>
+    pub fn emit(&mut self, reference: u64, d: u32, counter: u64) -> Option<Sent>
+        requires within { IsTrue (is_within (events_of.Tick reference d counter)) }
+        requires room { ends_in self.old.fabric d ≤ self.old.fabric.book.room }
+        ensures accepted { IfSome result (λ sent. (setting : Setting) (run : List (NodeStep N))
+            → StandsFor N.Node self.old setting run
+            → IsAccepted N.Node self.new setting run (events_of.Tick reference d counter)
+            (outcome_keeping self.old.fabric d None sent)) }
+        ensures few { IfSome result (λ sent. sent.count ≤ ends_in self.old.fabric d) }
+        ensures stays { IfSome result
+            (λ sent. StaysAt self.old.fabric.membership self.new.fabric.membership d) }
+        ensures same { result ≡ None → self.new ≡ self.old }
+    {
+        if !self.fabric.admits_tick(reference, d, counter) {
+            return None;
+        }
+        if !is_acting_at(&self.nodes, d) {
+            return None;
+        }
+        let context = context_of_call(&self.fabric, d);
+        let effect = emit_at(&mut self.nodes, d, counter, &context);
+        let sent = self.fabric.tick(reference, d, counter, &effect);
+        Some(sent)
+    }
+
+    /// A receipt happens, if it is one by a device that was given nothing: its flight is taken, the
+    /// device answers as before, and what it sends goes out. It is for `apply` where it is another,
+    /// is refused, or a window is open.
+    // No answers and no outcome are written.
+    #[inline(always)]
+    pub fn hear(&mut self, reference: u64, d: u32, counter: u64, message: u64) -> Option<Heard>
         requires within { IsTrue (is_within (events_of.Recv reference d counter message)) }
-        ensures accepted { IfSome result (λ flight. (setting : Setting) (run : List (NodeStep N))
+        requires room { ends_in self.old.fabric d ≤ self.old.fabric.book.room }
+        ensures accepted { IfSome result (λ heard. (setting : Setting) (run : List (NodeStep N))
             → StandsFor N.Node self.old setting run
             → IsAccepted N.Node self.new setting run
             (events_of.Recv reference d counter message)
-            (outcome_hearing self.old.fabric d flight)) }
+            (outcome_keeping self.old.fabric d (Some heard.flight) heard.sent)) }
+        ensures few { IfSome result (λ heard. heard.sent.count ≤ ends_in self.old.fabric d) }
         ensures stays { IfSome result
-            (λ flight. StaysAt self.old.fabric.membership self.new.fabric.membership d) }
+            (λ heard. StaysAt self.old.fabric.membership self.new.fabric.membership d) }
         ensures same { result ≡ None → self.new ≡ self.old }
     {
-        if !self.fabric.admits_alone(reference, d, counter) {
+        if !self.fabric.admits_tick(reference, d, counter) {
             return None;
         }
         if !is_settled_at(&self.nodes, d) {
@@ -361,61 +387,9 @@ impl<N: Node> Fleet<N> {
         }
         let context = context_of_call(&self.fabric, d);
         let flight = self.fabric.receive(reference, d, message);
-        let _effect = hear_at(&mut self.nodes, d, counter, &flight, &context);
-        self.fabric.rest(reference, d, counter);
-        Some(flight)
-    }
-
-    /// A tick happens while no window is open.
-    fn tick(&mut self, reference: u64, d: u32, counter: u64, outcome: &mut Outcome)
-        requires within { IsTrue (is_within (events_of.Tick reference d counter)) }
-        requires prepared { IsPrepared self.old.fabric (events_of.Tick reference d counter) }
-        requires shut { is_open self.old.fabric.membership.world.window ≡ false }
-        ensures { HasHappened N.Node self.old self.new (events_of.Tick reference d counter)
-            outcome.new }
-    {
-        let context = context_of_call(&self.fabric, d);
-        let mut answers = unanswered();
-        let call = Call::Tick { counter };
-        let effect = step_at(&mut self.nodes, d, &call, &context, &mut answers);
-        forget(&mut outcome.taken);
-        self.fabric
-            .tick(reference, d, counter, &effect, &answers, outcome);
-    }
-
-    /// A receipt happens while no window is open: its flight is taken, and then it is as a tick.
-    fn receive(&mut self, reference: u64, d: u32, counter: u64, message: u64, outcome: &mut Outcome)
-        requires within { IsTrue (is_within (events_of.Recv reference d counter message)) }
-        requires prepared { IsPrepared self.old.fabric
-            (events_of.Recv reference d counter message) }
-        requires shut { is_open self.old.fabric.membership.world.window ≡ false }
-        ensures { HasHappened N.Node self.old self.new
-            (events_of.Recv reference d counter message) outcome.new }
-    {
-        let context = context_of_call(&self.fabric, d);
-        self.fabric.take(d, message, &mut outcome.taken);
-        let Some(flight) = &outcome.taken else {
-            unreachable!()
-        };
-        let mut answers = unanswered();
-        let call = Call::Receive {
-            link: flight.link,
-            message: &flight.message,
-            counter,
-        };
-        let effect = step_at(&mut self.nodes, d, &call, &context, &mut answers);
-        self.fabric
-            .tick(reference, d, counter, &effect, &answers, outcome);
-    }
-
-    /// Any event happens for which the fleet was prepared.
-    fn happen_any(&mut self, event: &Event, outcome: &mut Outcome)
-        requires within { IsTrue (is_within event.now) }
-        requires prepared { IsPrepared self.old.fabric event.now }
-        ensures { HasHappened N.Node self.old self.new event.now outcome.new }
-    {
-        let reply = address(&self.fabric, &mut self.nodes, event);
-        self.fabric.note(event, &reply, outcome);
+        let effect = hear_at(&mut self.nodes, d, counter, &flight, &context);
+        let sent = self.fabric.tick(reference, d, counter, &effect);
+        Some(Heard { flight, sent })
     }
 
     /// The flight of a number, or why there is none: `Unknown` or `Spent`.

@@ -13,7 +13,7 @@ mod deliveries;
 mod events;
 mod fabric;
 mod fleet;
-mod hears;
+mod keeps;
 mod messages;
 mod nodes;
 mod refusals;
@@ -22,7 +22,8 @@ mod steps;
 mod ticks;
 
 use fabric::Fabric;
-pub use fleet::Fleet;
+pub use fleet::{Fleet, Heard};
+pub use messages::Sent;
 use sd_clock::Report;
 use sd_core::Effect;
 pub use sd_fleet_state::membership::AnswerSummary;

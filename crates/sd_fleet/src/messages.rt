@@ -30,8 +30,8 @@ pub(crate) struct Sending {
 }
 
 /// Which messages an event sent: they are numbered on from the first.
-#[derive(Clone, Copy)]
-pub(crate) struct Sent {
+#[derive(Clone, Copy, Debug, PartialEq, Eq)]
+pub struct Sent {
     /// The number of the first, 0 where there is none.
     pub first: u64,
     pub count: u32,
@@ -39,7 +39,7 @@ pub(crate) struct Sent {
 
 impl Sent {
     /// No messages.
-    fn none() -> Sent
+    pub fn none() -> Sent
         ensures first { result.first ≡ 0 }
         ensures count { result.count ≡ 0 }
     {

@@ -8,9 +8,9 @@ ghost use Rattle.sd_core.specs.Words.{making_counter};
 ghost use Rattle.sd_fleet.specs.History.Steps.{Calls};
 ghost use Rattle.sd_fleet.specs.History.Nodes.{answers_of as node_answers};
 ghost use Rattle.sd_fleet.specs.FleetState.membership.Standing.{summary};
-ghost use Rattle.sd_fleet.specs.Doing.{call_seen, replied};
+ghost use Rattle.sd_fleet.specs.Doing.{call_seen};
 ghost use Rattle.sd_fleet.specs.Calling.{IsMessage, IsNode, CanCall, GivenAfter, MaySend, reading_after};
-ghost use Rattle.sd_fleet.specs.Nodes.{node_at, MakesAt, IsCallable, CallsAt, AsksAt, RestsAt, CanAct};
+ghost use Rattle.sd_fleet.specs.Nodes.{node_at, MakesAt, CallsAt, AsksAt, RestsAt, CanAct};
 
 use crate::{AnswerSummary, Call, Reply};
 use sd_core::{Effect, Node};
@@ -50,46 +50,11 @@ pub(crate) fn call_at<N: Node>(
     requires can { CanAct N.Node nodes.old context.now (Calls d (call_seen called.now)) }
     ensures { CallsAt N.Node nodes.old d (call_seen called.now) context.now result nodes.new }
 {
-    let mut answers = unanswered();
-    let effect = step_at(nodes, d, called, context, &mut answers);
-    Reply::called(effect, answers)
-}
-
-/// Answers to be written over.
-#[inline(always)]
-pub(crate) fn unanswered() -> AnswerSummary {
-    AnswerSummary {
-        parent: None,
-        acts: false,
-        epoch: 0,
-        given: None,
-        sealed: false,
-    }
-}
-
-/// Calls the node of a device. What it answers from then on is written where the caller wants it.
-// Inlined where the call is known, so that no call and no reply is built.
-#[inline(always)]
-pub(crate) fn step_at<N: Node>(
-    nodes: &mut [Option<N>],
-    d: u32,
-    called: &Call<'_>,
-    context: &CallContext,
-    answers: &mut AnswerSummary,
-) -> Effect
-    requires events { context.now.events ≤ 2 ^ 26 }
-    requires place { d < length nodes.old }
-    requires there { node_at nodes.old d ≢ None }
-    requires callable { (n : N) → node_at nodes.old d ≡ Some n
-        → IsCallable N.Node context.now (call_seen called.now) n }
-    ensures { CallsAt N.Node nodes.old d (call_seen called.now) context.now
-        (replied result answers.new) nodes.new }
-{
     match &mut nodes[d as usize] {
         Some(node) => {
             let effect = call(node, called, context);
-            *answers = answers_of(node, given_by(called, context.given));
-            effect
+            let answers = answers_of(node, given_by(called, context.given));
+            Reply::called(effect, answers)
         }
         None => unreachable!(),
     }

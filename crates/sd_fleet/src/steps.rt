@@ -46,7 +46,8 @@ impl Fabric {
     }
 
     /// How many ends lie below the device in the plan in force and in the staged one.
-    fn ends_of(&self, d: u32) -> usize
+    #[inline(always)]
+    pub fn ends_of(&self, d: u32) -> usize
         ensures { result ≡ ends_in self.now d }
     {
         if d >= self.topology.devices() {

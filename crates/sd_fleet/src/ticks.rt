@@ -1,58 +1,67 @@
-//! A tick while no window is open, and the taking of a flight, after which a receipt is one. Nearly
-//! all events are such.
-ghost use Rattle.std.specs.Prelude.{◌≡◌, ◌≤◌, ◌^◌, false, None, IsOkAnd};
-ghost use Rattle.std.specs.Result.{result_ok};
+//! A tick while no window is open, after which its device answers as before, and the taking of a
+//! flight, after which a receipt is one. Nearly all events are such.
+ghost use Rattle.std.specs.Prelude.{◌≡◌, ◌≤◌, ◌<◌, ◌^◌, false, length, None, Some, Ok, IsTrue};
+ghost use Rattle.sd_num.specs.Lists.{at_place, map_or};
 ghost use Rattle.sd_sched.specs.declared.Event.TheVariants as events_of;
+ghost use Rattle.sd_fleet_state.specs.declared.membership.AnswerSummary.{AnswerSummary};
 ghost use Rattle.sd_fleet_state.specs.world.Registers.{is_open};
+ghost use Rattle.sd_fleet_state.specs.membership.Memberships.{live_at};
 ghost use Rattle.sd_fleet.specs.Causes.{refusal_in, flight_at};
+ghost use Rattle.sd_fleet.specs.Calm.{is_on_time};
 ghost use Rattle.sd_fleet.specs.Doing.{replied};
 ghost use Rattle.sd_fleet.specs.Room.{ends_in};
 ghost use Rattle.sd_fleet.specs.Sound.{IsSound};
-ghost use Rattle.sd_fleet.specs.Stepping.{IsAfter, IsWithout, outcome_with};
+ghost use Rattle.sd_fleet.specs.Keeping.{SendsTo};
+ghost use Rattle.sd_fleet.specs.Staying.{StaysAt};
+ghost use Rattle.sd_fleet.specs.Stepping.{IsWithout};
 
-use crate::messages::send_by;
-use crate::steps::acts_at;
-use crate::{AnswerSummary, Fabric, Outcome};
+use crate::Fabric;
+use crate::messages::{Sent, send_by};
 use sd_core::Effect;
+use sd_fleet_state::membership::Membership;
 use sd_msg::Flight;
 
+/// The number of the plan that a device follows, 0 where it is not up.
+#[inline(always)]
+fn epoch_at(membership: &Membership, d: u32) -> u32
+    requires { d < length membership.now.answers }
+    ensures { result ≡ map_or (live_at membership.now d) 0 (λ a. a.epoch) }
+{
+    match membership.answered(d) {
+        Some(answered) => answered.epoch,
+        None => 0,
+    }
+}
+
 impl Fabric {
-    /// Takes the flight with a number for its receiver, and writes it where the caller wants it.
-    // A flight is large: it is looked for and moved once.
-    pub fn take(&mut self, d: u32, number: u64, taken: &mut Option<Flight>)
-        requires there { IsOkAnd (flight_at self.old number) (λ f. f.receiver ≡ d) }
-        ensures taken { taken.new ≡ result_ok (flight_at self.old number) }
+    /// Takes the flight with a number, which is on its way to the device at the reference.
+    #[inline(always)]
+    pub fn receive(&mut self, reference: u64, d: u32, number: u64) -> Flight
+        requires { IsTrue (is_on_time reference d (flight_at self.old number)) }
+        ensures found { flight_at self.old number ≡ Ok result }
         ensures left { IsWithout number self.old self.new }
         ensures sound { IsSound self.new }
     {
-        self.book.take_into(number, d, taken);
+        self.book.take_found(number)
     }
 
-    /// A tick while no window is open, at which the device did this and answers this from then on.
-    /// What comes of it is written into an outcome that the caller lends, but for the flight that
-    /// it receives.
+    /// A tick while no window is open, at which its device did this and answers as before. It tells
+    /// which messages were sent.
     #[inline(always)]
-    pub fn tick(
-        &mut self,
-        reference: u64,
-        d: u32,
-        counter: u64,
-        effect: &Effect,
-        answers: &AnswerSummary,
-        outcome: &mut Outcome,
-    )
+    pub fn tick(&mut self, reference: u64, d: u32, counter: u64, effect: &Effect) -> Sent
         requires accepted { refusal_in self.old (events_of.Tick reference d counter) ≡ None }
         requires reference { reference ≤ 2 ^ 60 }
         requires shut { is_open self.old.membership.world.window ≡ false }
         requires room { ends_in self.old d ≤ self.old.book.room }
-        ensures after { IsAfter self.old (events_of.Tick reference d counter)
-            (replied effect.now answers.now) self.new }
-        ensures comes { outcome.new
-            ≡ outcome_with outcome.old.taken self.old (events_of.Tick reference d counter)
-            (replied effect.now answers.now) }
+        ensures sends { (answers : AnswerSummary)
+            → at_place self.old.membership.answers d None (λ a. a) ≡ Some answers
+            → SendsTo self.old (events_of.Tick reference d counter)
+            (replied effect.now answers) result self.new }
+        ensures few { result.count ≤ ends_in self.old d }
+        ensures stays { StaysAt self.old.membership self.new.membership d }
         ensures sound { IsSound self.new }
     {
-        outcome.acted = acts_at(&self.membership, d);
+        let epoch = epoch_at(&self.membership, d);
         self.book.purge(reference);
         let sent = send_by(
             &self.topology,
@@ -60,15 +69,10 @@ impl Fabric {
             &mut self.book,
             reference,
             d,
-            answers.epoch,
+            epoch,
             effect,
         );
-        outcome.first_sent = sent.first;
-        outcome.sent = sent.count;
-        self.membership.note_call(reference, d, counter, answers);
-        outcome.activated = None;
-        outcome.closed = false;
-        outcome.ended = false;
-        outcome.report = None;
+        self.membership.note_rest(reference, d, counter);
+        sent
     }
 }

@@ -1,7 +1,7 @@
 -- What filters keep, by the elements of their list.
-use Rattle.std.specs.Prelude.{◌≡◌, Bool, true, false, ◌&&◌, cond, List, [], ◌∷◌, filter, refl}
+use Rattle.std.specs.Prelude.{◌≡◌, Bool, true, false, ◌&&◌, cond, List, [], ◌∷◌, filter, refl, if◌then◌else◌}
 use Rattle.std.specs.List.{list_all}
-use Rattle.std.proofs.Common.{◌∙◌, ap}
+use Rattle.std.proofs.Common.{◌∙◌, ap, sym, subst}
 use Rattle.sd_history.proofs.Among.{Among, first, later}
 
 -- two tests that agree at each element of a list keep the same
@@ -39,6 +39,16 @@ kept_among {A = A} p (y ∷ ys) x a = go (p y) a (kept_among p ys x)
     go : (b : Bool) → Among x (cond b (y ∷ filter p ys) (filter p ys)) → (Among x (filter p ys) → Among x ys) → Among x (y ∷ ys)
     go true b rest = at_head y (filter p ys) ys x b rest
     go false b rest = later (rest b)
+
+-- one of the list that passes is kept
+pub filter_in : {A : Type 0} (p : A → Bool) (x : A) (xs : List A) → Among x xs → p x ≡ true → Among x (filter p xs)
+filter_in p x [] a passed = elim a [ ]
+filter_in p x (y ∷ xs) first passed = subst (λ c. Among x (if c then x ∷ filter p xs else filter p xs)) (sym passed) first
+filter_in p x (y ∷ xs) (later a) passed = past p x y xs (p y) (filter_in p x xs a passed)
+  where
+    past : {A : Type 0} (p : A → Bool) (x y : A) (xs : List A) (c : Bool) → Among x (filter p xs) → Among x (if c then y ∷ filter p xs else filter p xs)
+    past p x y xs true found = later found
+    past p x y xs false found = found
 
 -- two tests that agree at each element pass all or not alike
 pub all_alike : {A : Type 0} (p q : A → Bool) (xs : List A) → ((x : A) → Among x xs → p x ≡ q x) → list_all p xs ≡ list_all q xs

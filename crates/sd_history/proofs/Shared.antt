@@ -1,12 +1,12 @@
 -- Lemmas that several crates above share.
 use Rattle.sd_sched.specs.declared.Event.TheVariants as event
-use Rattle.std.specs.Prelude.{◌≡◌, ℕ, ◌+◌, count_by, Some, Bool, true, false, ◌&&◌, ◌||◌, not, List, [], ◌∷◌, nat_lt, refl, if◌then◌else◌, zero, suc, slice_get, ◌<◌, ◌≤◌, ◌++◌, ◌⊎◌, find, None}
+use Rattle.std.specs.Prelude.{◌≡◌, ℕ, ◌+◌, count_by, Some, Bool, true, false, ◌&&◌, ◌||◌, not, List, [], ◌∷◌, nat_lt, refl, if◌then◌else◌, zero, suc, slice_get, ◌<◌, ◌≤◌, ◌++◌, ◌⊎◌, find, Option, None, option_and_then}
 use Rattle.std.proofs.lemmas.Bool.{or_left, or_right, cases_lt, or_parts, not-true, ltb-false}
 use Rattle.std.proofs.Common.{subst, arith, sym, inl, inr, ap, ◌∙◌, cond}
 use Rattle.std.proofs.lemmas.List.Sums.{sum_by-cons}
 use Rattle.sd_sched.specs.declared.Event.{Event}
 use Rattle.sd_sched.specs.Events.{message_of, received, reference_of}
-use Rattle.sd_sched.specs.Num.Lists.{below, map_or}
+use Rattle.sd_sched.specs.Num.Lists.{below, follow, map_or}
 use Rattle.sd_core.specs.Msg.declared.Flight.{Flight}
 use Rattle.sd_core.specs.Topo.Network.{Each}
 use Rattle.sd_core.specs.Topo.declared.Thing.TheVariants as thing
@@ -79,6 +79,15 @@ pub none_passes : {A : Type 0} (p : A → Bool) (xs : List A) (x : A) → find p
 none_passes p [] x none a = elim a [ ]
 none_passes p (y ∷ xs) x none first = (passed_by p x xs (p x) refl none).0
 none_passes p (y ∷ xs) x none (later a) = none_passes p xs x (passed_by p y xs (p y) refl none).1 a
+
+-- two functions that agree lead to the same devices
+pub same_follow : (p q : ℕ → Option ℕ) → ((d : ℕ) → p d ≡ q d) → (n d : ℕ) → follow p n d ≡ follow q n d
+same_follow p q same zero d = refl
+same_follow p q same (suc n) d = ap (option_and_then p) (same_follow p q same n d) ∙ by (follow q n d)
+  where
+    by : (o : Option ℕ) → option_and_then p o ≡ option_and_then q o
+    by None = refl
+    by (Some x) = same x
 
 -- what is up was made
 pub up_made : (seen : List Seen) (d : ℕ) → is_up seen d ≡ true → was_made seen d ≡ true

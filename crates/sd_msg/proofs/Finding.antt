@@ -1,5 +1,6 @@
 -- What is found among flights that ascend by number.
-use Rattle.std.proofs.Common.{◌≡◌, ℕ, zero, suc, ◌<◌, ◌≤◌, Bool, true, false, not, cond, List, [], ◌∷◌, length, get_or, find, Option, Some, None, Result, Ok, Err, refl, ap, ◌∙◌, arith}
+use Rattle.std.proofs.Common.{◌≡◌, ℕ, zero, suc, ◌<◌, ◌≤◌, Bool, true, false, not, cond, List, [], ◌∷◌, length, get_or, find, Option, Some, None, Result, Ok, Err, refl, ap, subst, ◌∙◌, arith}
+use Rattle.std.specs.Prelude.{IsOk}
 use Rattle.std.specs.List.{filter}
 use Rattle.std.specs.Option.{ok_or}
 use Rattle.std.proofs.lemmas.Bool.{eq-eqb, ne_eqb, eqb-true}
@@ -89,3 +90,28 @@ found_among last n test fs h = by (is_given last n) (find (has_number n) fs) (fi
     by true None same = ap (λ x. ok_or x fault.Spent) same
     by true (Some f) same = ap (λ x. ok_or x fault.Spent) same ∙ chosen f (test f)
     by false o same = refl
+
+-- where one is found of those that pass, it is the one that is found of all
+pub found_one : (last n : ℕ) (test : Flight → Bool) (fs : List Flight) (o : Result Flight TakeFault) → AreNumbered 0 last fs
+    → IsOk (found last (filter test fs) n) → found last fs n ≡ o → found last (filter test fs) n ≡ o
+found_one last n test fs o h there is = by_test o among (subst IsOk among there)
+  where
+    among : found last (filter test fs) n ≡ found_passing test o
+    among = found_among last n test fs h ∙ ap (found_passing test) is
+
+    by_flight : (f : Flight) (b : Bool) → found last (filter test fs) n ≡ cond b (Ok f) (Err fault.Spent) → IsOk (cond b (Ok f) (Err fault.Spent))
+        → found last (filter test fs) n ≡ Ok f
+    by_flight f true found passes = found
+    by_flight f false found passes = cc
+
+    by_test : (r : Result Flight TakeFault) → found last (filter test fs) n ≡ found_passing test r → IsOk (found_passing test r)
+        → found last (filter test fs) n ≡ r
+    by_test (Ok f) found passes = by_flight f (test f) found passes
+    by_test (Err e) found passes = found
+
+-- so one is found of all
+pub one_of_all : (last n : ℕ) (test : Flight → Bool) (fs : List Flight) (e : TakeFault) → AreNumbered 0 last fs
+    → IsOk (found last (filter test fs) n) → found last fs n ≡ Err e → ⊥
+one_of_all last n test fs e h there is =
+    let fails : IsOk {T = Flight} (Err e) = subst IsOk (found_one last n test fs (Err e) h there is) there in
+    cc

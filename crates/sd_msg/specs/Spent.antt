@@ -21,7 +21,7 @@ size_of spent = record { devices = count_of spent.receivers; links = count_of sp
 abbrev pub as_spent : Flight → Flight
 as_spent f = record f { reaches = false }
 
--- behind each flight there are as many as numbers were given after its own
+-- after each flight there are as many as numbers were given after its own
 abbrev pub IsRow : ℕ → List Flight → Type 0
 IsRow last [] = Unit {0}
 IsRow last (f ∷ fs) = (f.number + length fs ≡ last) × IsRow last fs

@@ -1,9 +1,8 @@
 //! The book of the flights that are on their way.
-ghost use Rattle.std.specs.Prelude.{◌≡◌, ◌≤◌, ◌<◌, ◌+◌, ◌-◌, ◌^◌, [], filter, not, is_ok, is_some, Ok, Err, IfOk, IfErr, OnOk, if◌then◌else◌};
-ghost use Rattle.std.specs.Result.{result_ok};
+ghost use Rattle.std.specs.Prelude.{◌≡◌, ◌≤◌, ◌<◌, ◌+◌, ◌-◌, ◌^◌, [], filter, not, is_ok, Ok, Err, IsOk, IfOk, IfErr, OnOk, if◌then◌else◌};
 ghost use Rattle.sd_msg.specs.Books.{AreGiven, found, for_device, dismissed, without, with_sent, is_swept, is_current};
 
-use crate::flights::{drop_first, flight_for, flight_left, reopen, room, spend};
+use crate::flights::{drop_first, flight_for, flight_given, flight_left, reopen, room, spend};
 use crate::spent::Spent;
 use crate::{Flight, TakeFault};
 use sd_num::NoMemory;
@@ -16,7 +15,7 @@ use std::marker::Model;
 /// sent, from 1 on; a flight is spent when it is taken, lost, swept or purged, or at once where it
 /// does not reach. Only `new` and `ready` take memory.
 ///
-/// Each number has a place behind the one before, also that of a flight which does not reach: so the
+/// Each number has a place after the one before, also that of a flight which does not reach: so the
 /// place of a number is told by how many were given after it. A flight that is taken or lost is spent
 /// in its place, and a sweep and a purge only note what they spend. Where there is no more room,
 /// `ready` gives up the places in front of the first flight that is not spent, and takes memory for as
@@ -147,25 +146,25 @@ impl FlightBook {
         Ok(taken)
     }
 
-    /// The same, written where the caller wants it. A fault is `None`.
-    // A flight is large: it is moved once.
+    /// The flight of a number that is on its way: it is spent then.
+    // A caller that has found it is told it without a second look at what is spent.
     #[inline(always)]
-    pub fn take_into(&mut self, number: u64, device: u32, taken: &mut Option<Flight>)
+    pub fn take_found(&mut self, number: u64) -> Flight
+        requires there { IsOk (found self.old.last self.old.flights number) }
         ensures given { AreGiven self.new }
-        ensures flight { taken.new
-            ≡ result_ok (for_device device (found self.old.last self.old.flights number)) }
-        ensures flights { self.new.flights
-            ≡ (if is_some taken.new then without number self.old.flights else self.old.flights) }
+        ensures flight { found self.old.last self.old.flights number ≡ Ok result }
+        ensures flights { self.new.flights ≡ without number self.old.flights }
         ensures last { self.new.last ≡ self.old.last }
         ensures size { self.new.size ≡ self.old.size }
         ensures room { self.old.room ≤ self.new.room }
     {
-        match flight_for(&self.flights, self.last, &self.spent, number, device) {
+        match flight_given(&self.flights, self.last, number) {
             Ok((place, flight)) => {
-                *taken = Some(*flight);
+                let taken = *flight;
                 spend(&mut self.flights, self.last, &self.spent, place);
+                taken
             }
-            Err(_) => *taken = None,
+            Err(_) => unreachable!(),
         }
     }
 

@@ -1,4 +1,4 @@
-//! The flights of a book. Each number that was given has a place, behind the one before.
+//! The flights of a book. Each number that was given has a place, after the one before.
 ghost use Rattle.std.specs.Prelude.{◌≡◌, ℕ, ◌+◌, ◌-◌, ◌<◌, ◌≤◌, List, filter, length, Ok, Err, IfOk, IfErr, slice_index_or, slice_set};
 ghost use Rattle.std.specs.VecDeque.{deque_len, deque_capacity};
 ghost use Rattle.sd_msg.specs.Books.{found, for_device, without};
@@ -21,16 +21,16 @@ fn place_of(count: usize, last: u64, number: u64) -> Result<usize, TakeFault>
     if number == 0 || number > last {
         return Err(TakeFault::Unknown);
     }
-    let behind = last - number;
-    if behind >= count as u64 {
+    let after = last - number;
+    if after >= count as u64 {
         return Err(TakeFault::Spent);
     }
-    Ok(count - 1 - behind as usize)
+    Ok(count - 1 - after as usize)
 }
 
 /// The flight with a number, of those given up to the last, and its place, or why there is none.
 #[inline(always)]
-fn flight_given(
+pub(crate) fn flight_given(
     flights: &VecDeque<Flight>,
     last: u64,
     number: u64,

@@ -1,4 +1,5 @@
 -- The words of each structure: what its fields stand for, and what is seen of it.
+pub mod Kept
 pub mod Runs
 pub mod RunsKept
 pub mod RunsView

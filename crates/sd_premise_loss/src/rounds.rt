@@ -13,7 +13,7 @@ ghost use Rattle.sd_premise_loss.specs.flights.RunsView.{has_round, room_of as r
 ghost use Rattle.sd_premise_loss.specs.flights.WaitingView.{waiting_at, count_of};
 ghost use Rattle.sd_premise_loss.specs.flights.InterruptionsView.{mark_of, last_number, HasSamePlaces};
 
-use crate::flights::{Interruptions, Runs, Waiting};
+use crate::flights::{Interruptions, Runs, Waiting, WaitingFlight};
 use sd_msg::Flight;
 use sd_num::NoMemory;
 use sd_topo::{Thing, Topology};
@@ -125,7 +125,7 @@ impl Rounds {
             if self.interruptions.interrupted(&flight) {
                 continue;
             }
-            if self.runs.spoil(flight.message.stamp, self.limit) {
+            if self.runs.spoil(flight.stamp, self.limit) {
                 return false;
             }
         }
@@ -148,7 +148,7 @@ impl Rounds {
         ensures holds { self.new.holds ≡ self.old.holds }
     {
         for flight in sent {
-            self.waiting.add(*flight);
+            self.waiting.add(WaitingFlight::of(flight));
             self.interruptions.send(flight.number);
         }
     }

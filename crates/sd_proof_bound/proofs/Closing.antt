@@ -20,7 +20,7 @@ use Rattle.sd_proof_safety.specs.History.Refusals.{window_order, window_order_se
 use Rattle.sd_proof_safety.specs.History.Admitted.{IsAdmitted}
 use Rattle.sd_proof_safety.proofs.History.Among.{Among, first, later, all_pass}
 use Rattle.sd_proof_safety.proofs.History.Admitted.{rule_holds}
-use Rattle.sd_proof_safety.proofs.History.Filters.{kept_among}
+use Rattle.sd_proof_safety.proofs.History.Filters.{kept_among, filter_in}
 use Rattle.sd_proof_safety.proofs.History.Given.{takes_given}
 use Rattle.sd_proof_safety.proofs.History.Shared.{among_below}
 use Rattle.sd_proof_safety.proofs.History.flights.Places.{among_below as below_among}
@@ -33,7 +33,7 @@ use Rattle.sd_proof_safety.specs.invariant.Coming.{IsNextEvent}
 use Rattle.sd_proof_safety.proofs.invariant.Parents.{live_is}
 use Rattle.sd_proof_safety.proofs.invariant.Prefix.{clean_before}
 use Rattle.sd_proof_safety.proofs.invariant.Sides.{implied, not_both}
-use Rattle.sd_proof_safety.proofs.invariant.Staying.{filter_in, filter_out}
+use Rattle.sd_proof_safety.proofs.invariant.Staying.{filter_out}
 use Rattle.sd_proof_safety.proofs.windows.Eras.{era_kept, era_grows}
 use Rattle.sd_proof_safety.proofs.windows.Closing.{epoch_up, settled_epoch}
 use Rattle.sd_proof_safety.proofs.windows.NoClosing.{closing, begun}

@@ -22,13 +22,13 @@ use Rattle.sd_history.specs.Refusals.{makes_some, was_used, was_swept, is_spent,
 use Rattle.sd_history.specs.declared.ApplyFault.{ApplyFault}
 use Rattle.sd_history.specs.declared.ApplyFault.TheVariants as fault
 use Rattle.sd_history.specs.Admitted.{is_count}
+use Rattle.sd_history.proofs.flights.Finds.{found_number}
 use Rattle.sd_proof_resume.specs.Shifts.{Shift, raised_epoch, raised_duty, raised_flight, raised_event}
 use Rattle.sd_proof_resume.specs.Agreement.{raised_answers, StepsAgree}
 use Rattle.sd_proof_resume.specs.Law.{whole, NamesSome}
 use Rattle.sd_proof_resume.proofs.Words.{EventWords, words_of, same_words, raised_number, raised_received}
 use Rattle.sd_proof_resume.proofs.Stamps.{same_epoch}
 use Rattle.sd_proof_resume.proofs.Plans.{staged_same, staged_raised, staged_member_same, open_same, commit_same, counted_same}
-use Rattle.sd_proof_resume.proofs.Steps.{find_passes}
 use Rattle.sd_proof_resume.proofs.Acts.{epoch_of_same}
 
 -- All causes but the number of events: the rules admit what none of them refuses.
@@ -111,7 +111,7 @@ module _ (shift : Shift) (net : Network) (front plans : List Plan) (behind : shi
 
   spent_same : (n : ℕ) (f : Flight) (reference : ℕ) → 1 ≤ n → flight_numbered other n ≡ Some f → is_spent one reference (raised_flight shift f) ≡ is_spent other reference f
   spent_same n f reference some found =
-      let number : f.number ≡ n = find_passes n (flights other) f found in
+      let number : f.number ≡ n = found_number n (flights other) f found in
       ap (λ b. b || was_swept one (raised_flight shift f) || nat_lt f.last (max reference (latest_reference seen_one)) || not f.reaches)
       (agree.used f.number (rw number some))
       ∙ ap (λ b. was_used other f.number || b || nat_lt f.last (max reference (latest_reference seen_one)) || not f.reaches) (agree.swept n f some found)

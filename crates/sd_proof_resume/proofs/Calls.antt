@@ -22,6 +22,7 @@ use Rattle.sd_history.specs.Core.Words.{counter_of, over_link, wait_to_move}
 use Rattle.sd_history.specs.Core.Rebases.{waits_in}
 use Rattle.sd_history.specs.Sched.Num.declared.Rates.{Rates}
 use Rattle.sd_history.specs.Core.Rules.{turn_with, turned, called, entering, accepting, accepted, entered, quietly, is_acting_mode, edge_in, is_backup_root}
+use Rattle.sd_history.proofs.Core.Orderly.{latest_with}
 use Rattle.sd_proof_resume.specs.Shifts.{Shift, raised_epoch, raised_stamp, raised_message, raised_duty, raised_effect, raised_call, raised_registers}
 use Rattle.sd_proof_resume.specs.Likeness.{ReportsAlike, IsAlike}
 use Rattle.sd_proof_resume.proofs.Stamps.{same_epoch, same_newer, next_round, next_term}
@@ -30,10 +31,6 @@ use Rattle.sd_proof_resume.proofs.Stamps.{same_epoch, same_newer, next_round, ne
 pub record AreAlikeAfter (shift : Shift) (now : ℕ) (one other : Registers × Effect) : Type 0 where
   pub sends : one.1 ≡ raised_effect shift other.1
   pub alike : IsAlike shift now one.0 other.0
-
--- the counter from which the two are alike after a call
-abbrev pub counter_after : Call → ℕ → ℕ
-counter_after call now = map_or (counter_of call) now (λ counter. counter)
 
 -- A commit makes a device act that acted before, and the duty that it takes up has the rates of the device. Any other call is orderly.
 pub record IsCommittable (r : Registers) : Type 0 where
@@ -335,7 +332,7 @@ module _ (shift : Shift) (now : ℕ) where
   calls_alike : (r : Registers) (last sent : ℕ) (other : Stamp) (estimate : Estimate) (call : Call)
       → IfSome (counter_of call) (λ counter. now ≤ counter) → IsOrderlyCall r call → SameCounters r last sent
       → IfSome r.duty (λ d. other ≡ raised_stamp shift r.stamp) → ReportsAlike now r.rates estimate r.estimate
-      → AreAlikeAfter shift (counter_after call now) (called (raised_registers shift r last sent other estimate) (raised_call shift call)) (called r call)
+      → AreAlikeAfter shift (latest_with call now) (called (raised_registers shift r last sent other estimate) (raised_call shift call)) (called r call)
   calls_alike r last sent other estimate (Tick counter) later orderly h same reports = tick_alike r r.duty last sent other estimate counter later h same reports
   calls_alike r last sent other estimate (Receive link message counter) later orderly h same reports =
       receipt_alike r last sent other estimate link message counter later h same reports
@@ -361,8 +358,8 @@ module _ (shift : Shift) (now : ℕ) where
 
   -- Two devices that are alike send the same at a call, and are alike from its counter on.
   pub called_alike : (one r : Registers) (call : Call) → IfSome (counter_of call) (λ counter. now ≤ counter) → IsOrderlyCall r call
-      → IsAlike shift now one r → AreAlikeAfter shift (counter_after call now) (called one (raised_call shift call)) (called r call)
+      → IsAlike shift now one r → AreAlikeAfter shift (latest_with call now) (called one (raised_call shift call)) (called r call)
   called_alike one r call later orderly alike =
-      subst (λ (x : Registers). AreAlikeAfter shift (counter_after call now) (called x (raised_call shift call)) (called r call)) (sym alike.kept)
+      subst (λ (x : Registers). AreAlikeAfter shift (latest_with call now) (called x (raised_call shift call)) (called r call)) (sym alike.kept)
       (calls_alike r alike.last alike.sent alike.stamp alike.estimate call later orderly (record { waited = alike.waited; emitted = alike.emitted }) alike.stamps
       alike.reports)

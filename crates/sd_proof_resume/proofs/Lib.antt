@@ -16,3 +16,4 @@ pub mod Laws
 pub mod Openings
 pub mod Spent
 pub mod Resume
+pub mod Worked

@@ -1,5 +1,5 @@
 -- After steps that agree the alarms and reports of an event are the same.
-use Rattle.std.specs.Prelude.{◌≡◌, ℕ, zero, suc, ◌+◌, Bool, ◌&&◌, List, [], ◌∷◌, ◌++◌, length, find, Option, Some, None, option_map, option_and_then, refl, if◌then◌else◌}
+use Rattle.std.specs.Prelude.{◌≡◌, ℕ, ◌+◌, Bool, ◌&&◌, List, [], ◌∷◌, ◌++◌, length, find, Option, Some, None, option_map, option_and_then, refl, if◌then◌else◌}
 use Rattle.std.proofs.Common.{◌∙◌, ap, append_assoc}
 use Rattle.sd_history.specs.Sched.Num.Lists.{map_or, same_number, follow}
 use Rattle.sd_history.specs.Core.Topo.Network.{Network, device_numbers}
@@ -12,6 +12,7 @@ use Rattle.sd_history.specs.World.{Setting, setting_over, is_counted}
 use Rattle.sd_history.specs.Steps.{Answers, Told, Step, seen_of, live_answers, parent_in, acts_in, step_of}
 use Rattle.sd_history.specs.Premises.{breaks}
 use Rattle.sd_history.specs.Lines.{Line, counted_parent, is_on_loop, first_on_loop, roots, asked_report, broken_lines, loop_lines, root_lines, report_lines, lines_of}
+use Rattle.sd_history.proofs.Shared.{same_follow}
 use Rattle.sd_proof_resume.specs.Shifts.{Shift, raised_event}
 use Rattle.sd_proof_resume.specs.Agreement.{raised_answers, raised_told, StepsAgree}
 use Rattle.sd_proof_resume.specs.Law.{whole, NamesSome, alarms_and_report}
@@ -29,14 +30,6 @@ lines_are setting s earlier =
   where
     four : (a b c d : List Line) → a ++ b ++ c ++ d ≡ a ++ (b ++ c ++ d)
     four a b c d = simp append_assoc
-
-follow_same : (f g : ℕ → Option ℕ) → ((d : ℕ) → f d ≡ g d) → (n d : ℕ) → follow f n d ≡ follow g n d
-follow_same f g same zero d = refl
-follow_same f g same (suc n) d = ap (option_and_then f) (follow_same f g same n d) ∙ go (follow g n d)
-  where
-    go : (o : Option ℕ) → option_and_then f o ≡ option_and_then g o
-    go None = refl
-    go (Some x) = same x
 
 find_same : {A : Type 0} (p q : A → Bool) → ((x : A) → p x ≡ q x) → (xs : List A) → find p xs ≡ find q xs
 find_same p q same [] = refl
@@ -87,7 +80,7 @@ module _ (shift : Shift) (net : Network) (front plans : List Plan) (behind : shi
         (λ d. any_same (λ n. same_number (follow (counted_parent (whole net front plans) one) (n + 1) d) d)
         (λ n. same_number (follow (counted_parent (setting_over net plans) other) (n + 1) d) d)
         (λ n. ap (λ o. same_number o d)
-        (follow_same (counted_parent (whole net front plans) one) (counted_parent (setting_over net plans) other) counted_parent_same (n + 1) d))
+        (same_follow (counted_parent (whole net front plans) one) (counted_parent (setting_over net plans) other) counted_parent_same (n + 1) d))
         (device_numbers net))
         (device_numbers net)
 

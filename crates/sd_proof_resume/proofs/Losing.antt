@@ -10,7 +10,8 @@ use Rattle.sd_history.specs.Msg.declared.Stamp.{Stamp}
 use Rattle.sd_history.specs.Sched.Events.{reference_of}
 use Rattle.sd_history.specs.World.{Setting, Seen, fails, is_thing, latest_reference}
 use Rattle.sd_history.specs.Premises.{reaching_flights, seen_since_sending, was_received, is_overdue, was_interrupted, spoils, spoiled_rounds, is_round, all_from, loss_holds}
-use Rattle.sd_history.proofs.Among.{Among, first, later, passes, all_pass, on_right, either_side}
+use Rattle.sd_history.proofs.Among.{Among, first, later, passes, all_pass, any_passing, mapped_in, on_right, either_side}
+use Rattle.sd_history.proofs.Filters.{filter_in}
 use Rattle.sd_proof_resume.specs.Shifts.{Shift, raised_round, raised_stamp, raised_flight, raised_seen}
 use Rattle.sd_proof_resume.specs.Losses.{FlightAgrees, ArePast, LossesAgree}
 use Rattle.sd_proof_resume.proofs.Words.{EventWords, words_of, same_words}
@@ -18,11 +19,6 @@ use Rattle.sd_proof_resume.proofs.Steps.{any_number_raised, same_numbers}
 use Rattle.sd_proof_resume.proofs.Judging.{all_on}
 
 -- Lists
-
-among_map : {A B : Type 0} (g : A → B) (x : A) (xs : List A) → Among x xs → Among (g x) (map g xs)
-among_map g x [] among = elim among [ ]
-among_map g x (y ∷ xs) first = first
-among_map g x (y ∷ xs) (later among) = later (among_map g x xs among)
 
 among_left : {A : Type 0} (x : A) (xs ys : List A) → Among x xs → Among x (xs ++ ys)
 among_left x [] ys among = elim among [ ]
@@ -48,19 +44,6 @@ mapped : {A B : Type 0} (g : A → B) (p : A → Bool) (y : B) (xs : List A) →
 mapped g p y [] among = elim among [ ]
 mapped g p y (x ∷ xs) among = mapped_by g p y x xs (p x) refl among (mapped g p y xs)
 
-filtered_by : {A : Type 0} (p : A → Bool) (x y : A) (xs : List A) (b : Bool) → Among x (filter p xs) → Among x (if b then y ∷ filter p xs else filter p xs)
-filtered_by p x y xs true among = later among
-filtered_by p x y xs false among = among
-
-filtered_here : {A : Type 0} (p : A → Bool) (x : A) (xs : List A) (b : Bool) → p x ≡ b → p x ≡ true → Among x (if b then x ∷ filter p xs else filter p xs)
-filtered_here p x xs true is pass = first
-filtered_here p x xs false is pass = cc
-
-among_filter : {A : Type 0} (p : A → Bool) (x : A) (xs : List A) → Among x xs → p x ≡ true → Among x (filter p xs)
-among_filter p x [] among pass = elim among [ ]
-among_filter p x (y ∷ xs) first pass = filtered_here p x xs (p x) refl pass
-among_filter p x (y ∷ xs) (later among) pass = filtered_by p x y xs (p y) (among_filter p x xs among pass)
-
 pub any_by : {A : Type 0} (p : A → Bool) (xs : List A) → list_any p xs ≡ true → (x : A) × Among x xs × (p x ≡ true)
 any_by p [] any = cc
 any_by p (x ∷ xs) any = go (p x) refl any (any_by p xs)
@@ -69,15 +52,6 @@ any_by p (x ∷ xs) any = go (p x) refl any (any_by p xs)
         → (y : _) × Among y (x ∷ xs) × (p y ≡ true)
     go true is some rest = (x, first, is)
     go false is some rest = let r = rest some in (r.0, later r.1, r.2)
-
-any_from : {A : Type 0} (p : A → Bool) (x : A) (xs : List A) → Among x xs → p x ≡ true → list_any p xs ≡ true
-any_from p x [] among pass = elim among [ ]
-any_from p x (y ∷ xs) first pass = rw pass refl
-any_from p x (y ∷ xs) (later among) pass = or_true (p y) (list_any p xs) (any_from p x xs among pass)
-  where
-    or_true : (a b : Bool) → b ≡ true → (a || b) ≡ true
-    or_true true b is = refl
-    or_true false b is = is
 
 -- Rounds
 
@@ -114,8 +88,8 @@ module _ (shift : Shift) (one other : List Seen) (agree : (f : Flight) → Among
       mapped (λ (f : Flight). f.message.stamp) (spoils other) r (reaching_flights other) among in
       let f : FlightAgrees shift one other m.x = agree m.x m.among in
       subst (λ x. Among (raised_stamp shift x) (spoiled_rounds one)) m.is
-      (among_map (λ (f : Flight). f.message.stamp) (raised_flight shift m.x) (filter (spoils one) (reaching_flights one))
-      (among_filter (spoils one) (raised_flight shift m.x) (reaching_flights one) f.there (f.spoilt ∙ m.passes)))
+      (mapped_in (λ (f : Flight). f.message.stamp) (raised_flight shift m.x) (filter (spoils one) (reaching_flights one))
+      (filter_in (spoils one) (raised_flight shift m.x) (reaching_flights one) f.there (f.spoilt ∙ m.passes)))
 
   runs_raised : (r : Stamp) (k : ℕ) → all_from (spoiled_rounds other) r.term r.round k ≡ true
       → all_from (spoiled_rounds one) (raised_stamp shift r).term (raised_stamp shift r).round k ≡ true
@@ -123,7 +97,7 @@ module _ (shift : Shift) (one other : List Seen) (agree : (f : Flight) → Among
       all_on (λ i. list_any (λ o. is_round o r.term (r.round + i)) (spoiled_rounds other))
       (λ i. list_any (λ o. is_round o (raised_stamp shift r).term ((raised_stamp shift r).round + i)) (spoiled_rounds one))
       (λ i some. let o = any_by (λ o. is_round o r.term (r.round + i)) (spoiled_rounds other) some in
-      any_from (λ x. is_round x (raised_stamp shift r).term ((raised_stamp shift r).round + i)) (raised_stamp shift o.0) (spoiled_rounds one) (rounds_raised o.0 o.1)
+      any_passing (λ x. is_round x (raised_stamp shift r).term ((raised_stamp shift r).round + i)) (raised_stamp shift o.0) (spoiled_rounds one) (rounds_raised o.0 o.1)
       (same_run shift r.term r.round i o.0 o.2))
       (below k) all
 
@@ -263,11 +237,11 @@ module _ (shift : Shift) (s : Seen) (one other : List Seen) (agree : LossesAgree
       let none : is_overdue one (raised_flight shift f) ≡ false =
       not_overdue one (latest_reference one) f.due (raised_flight shift f) refl (omega (arith, goes, facts.1)) agree.past in
       let overdue : is_overdue one (raised_flight shift f) ≡ is_overdue other f = none ∙ sym none_other in
-      let here : list_any (λ g. nat_eq g.number f.number) s.sent ≡ true = any_from (λ g. nat_eq g.number f.number) f s.sent among (eq-eqb f.number f.number refl) in
+      let here : list_any (λ g. nat_eq g.number f.number) s.sent ≡ true = any_passing (λ g. nat_eq g.number f.number) f s.sent among (eq-eqb f.number f.number refl) in
       let interrupted : was_interrupted (raised_seen shift s ∷ one) (raised_flight shift f) ≡ was_interrupted (s ∷ other) f =
       interrupted_after f (λ apart. cc) in
       record {
-        there = among_left (raised_flight shift f) (map (raised_flight shift) s.sent) (reaching_flights one) (among_map (raised_flight shift) f s.sent among);
+        there = among_left (raised_flight shift f) (map (raised_flight shift) s.sent) (reaching_flights one) (mapped_in (raised_flight shift) f s.sent among);
         number = facts.0;
         overdue = overdue_after f overdue;
         interrupted = interrupted;

@@ -1,66 +1,27 @@
 -- An opening agrees with the history that it opens: all that a definition of agreement has beside follows, since the opening has sent no message.
-use Rattle.std.specs.Prelude.{◌≡◌, ℕ, ◌+◌, ◌<◌, ◌≤◌, Bool, true, false, ◌||◌, List, [], ◌∷◌, length, nat_eq, nat_lt, Option, Some, None, option_map, refl, if◌then◌else◌}
-use Rattle.std.proofs.Common.{arith, sym, ◌∙◌, ap, subst}
-use Rattle.std.proofs.lemmas.Bool.{eqb-true, false_from_ne_true}
+use Rattle.std.specs.Prelude.{◌≡◌, ℕ, ◌+◌, ◌<◌, ◌≤◌, Bool, true, false, List, [], Option, Some, None, option_map, refl, if◌then◌else◌}
+use Rattle.std.proofs.Common.{arith, sym, ◌∙◌, ap}
 use Rattle.std.proofs.lemmas.Bool.Decides.{nat_tests}
-use Rattle.sd_history.specs.Sched.Num.Lists.{map_or, same_number}
 use Rattle.sd_history.specs.Core.Topo.Network.{Network}
 use Rattle.sd_history.specs.Core.Plan.declared.Plan.{Plan}
 use Rattle.sd_history.specs.Core.declared.registers.Registers.{Registers}
 use Rattle.sd_history.specs.Msg.Books.{is_given}
-use Rattle.sd_history.specs.Sched.Events.{message_of}
-use Rattle.sd_history.specs.World.{Setting, setting_over, is_up, latest_reading}
-use Rattle.sd_history.specs.Steps.{Step, seen_of, events_of, answers_in, live_answers, flight_count, flight_numbered}
-use Rattle.sd_history.specs.Refusals.{was_used}
+use Rattle.sd_history.specs.World.{setting_over, is_up, latest_reading}
+use Rattle.sd_history.specs.Steps.{seen_of, events_of, answers_in, live_answers, flight_count, flight_numbered}
 use Rattle.sd_history.specs.Accepted.{AreSteps}
 use Rattle.sd_history.specs.Nodes.{answers_of, NodeStep, steps_of, node_in}
 use Rattle.sd_history.proofs.Accepting.{run_is_accepted}
-use Rattle.sd_history.proofs.Among.{first, later}
-use Rattle.sd_history.proofs.Admitted.{rule_holds, accepted_is_admitted, run_is_admitted}
+use Rattle.sd_history.proofs.Among.{first}
+use Rattle.sd_history.proofs.Admitted.{run_is_admitted}
 use Rattle.sd_history.proofs.Devices.{device}
+use Rattle.sd_history.proofs.flights.Leaving.{unused}
 use Rattle.sd_history.proofs.flights.Numbers.{numbered_none}
-use Rattle.sd_history.proofs.flights.Sending.{counted}
 use Rattle.sd_proof_resume.specs.Shifts.{Shift, raised_flight}
 use Rattle.sd_proof_resume.specs.Likeness.{AreAlike}
 use Rattle.sd_proof_resume.specs.Agreement.{raised_answers, Agree}
 use Rattle.sd_proof_resume.specs.Law.{whole, HistoriesAgree}
 use Rattle.sd_proof_resume.specs.Cuts.{IsOpening}
 use Rattle.sd_proof_resume.proofs.Running.{answers_alike, answers_are_nodes}
-
--- a message that was used was sent
-pub used_was_sent : (setting : Setting) (steps : List Step) (n : ℕ) → AreSteps setting steps → was_used steps n ≡ true → n ≤ flight_count steps
-used_was_sent setting [] n are used = cc
-used_was_sent setting (s ∷ earlier) n are used =
-    go (same_number (message_of s.seen.event) n) refl used (used_was_sent setting earlier n are.0)
-  where
-    grows : n ≤ flight_count earlier → n ≤ flight_count (s ∷ earlier)
-    grows le = let more : flight_count (s ∷ earlier) ≡ length s.sent + flight_count earlier = counted s earlier in omega (arith, le, more)
-
-    within : (m : ℕ) (b : Bool) → b ≡ (nat_eq m 0 || nat_lt (flight_count earlier) m) → b ≡ false → m ≤ flight_count earlier
-    within m b is none = by m (nat_eq m 0) (sym is ∙ none)
-      where
-        by : (m : ℕ) (z : Bool) → (z || nat_lt (flight_count earlier) m) ≡ false → m ≤ flight_count earlier
-        by m true none = cc
-        by m false none = grind (arith, nat_tests, none)
-
-    named : (o : Option ℕ) → map_or o false (λ m. nat_eq m 0 || nat_lt (flight_count earlier) m) ≡ false → same_number o n ≡ true → n ≤ flight_count earlier
-    named None rule same = cc
-    named (Some m) rule same =
-        subst (λ x. x ≤ flight_count earlier) (eqb-true m n same) (within m (nat_eq m 0 || nat_lt (flight_count earlier) m) refl rule)
-
-    go : (b : Bool) → same_number (message_of s.seen.event) n ≡ b → (b || was_used earlier n) ≡ true → (was_used earlier n ≡ true → n ≤ flight_count earlier)
-        → n ≤ flight_count (s ∷ earlier)
-    go true same any rest =
-        grows (named (message_of s.seen.event)
-        (rule_holds setting earlier s.seen.event _ (accepted_is_admitted setting earlier s.seen.event are.1) (later (later (later (later first)))) refl) same)
-    go false other any rest = grows (rest any)
-
-pub unused : (setting : Setting) (steps : List Step) (n : ℕ) → AreSteps setting steps → flight_count steps < n → was_used steps n ≡ false
-unused setting steps n are past =
-    false_from_ne_true (was_used steps n) (λ used. never n (flight_count steps) past (used_was_sent setting steps n are used))
-  where
-    never : (n count : ℕ) → count < n → n ≤ count → ⊥
-    never n count a b = omega (arith, a, b)
 
 not_given : (count n : ℕ) → count < n → is_given count n ≡ false
 not_given count n past = grind (arith, nat_tests, past)

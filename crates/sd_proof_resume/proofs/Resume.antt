@@ -25,15 +25,16 @@ use Rattle.sd_history.proofs.Filters.{kept_among}
 use Rattle.sd_history.proofs.Parts.{AllHold, premises_of}
 use Rattle.sd_history.proofs.Shared.{received_message}
 use Rattle.sd_history.proofs.Devices.{device}
+use Rattle.sd_history.proofs.flights.Finds.{found_number}
+use Rattle.sd_history.proofs.flights.Leaving.{unused}
 use Rattle.sd_history.proofs.flights.Sending.{counted}
 use Rattle.sd_proof_resume.specs.Shifts.{Shift, raised_event}
 use Rattle.sd_proof_resume.specs.Law.{whole, HistoriesAgree, AllMayFollow, SaysAlike, NoMoreBroken}
 use Rattle.sd_proof_resume.specs.Cuts.{IsOpening, NoneOnItsWay, IsHonestOpening}
 use Rattle.sd_proof_resume.specs.Premised.{PremisesAgree}
 use Rattle.sd_proof_resume.specs.Losses.{ArePast, LossesAgree}
-use Rattle.sd_proof_resume.proofs.Steps.{find_passes}
 use Rattle.sd_proof_resume.proofs.Losing.{past_after, loss_on}
-use Rattle.sd_proof_resume.proofs.Openings.{unused, opening_histories_agree}
+use Rattle.sd_proof_resume.proofs.Openings.{opening_histories_agree}
 use Rattle.sd_proof_resume.proofs.Spent.{lowered_event, raised_again, stays_spent, names_later}
 use Rattle.sd_proof_resume.proofs.Laws.{run_is, resumed, resumed_back, breaks_in_both, loses_in_both}
 
@@ -85,7 +86,7 @@ received_was_used setting (s ∷ earlier) n are got =
         found_by : (o : Option Flight) → flight_numbered earlier m ≡ o → map_or o false (λ f. nat_eq f.number n) ≡ true → same_number (message_of s.seen.event) n ≡ true
         found_by None found taken' = cc
         found_by (Some f) found taken' =
-            let same : m ≡ n = sym (find_passes m (flights earlier) f found) ∙ eqb-true f.number n taken' in
+            let same : m ≡ n = sym (found_number m (flights earlier) f found) ∙ eqb-true f.number n taken' in
             ap (λ o. same_number o n) (received_message s.seen.event m is) ∙ eq-eqb m n same
 
     go : (b : Bool) → map_or s.seen.taken false (λ f. nat_eq f.number n) ≡ b → (b || was_received (seen_of earlier) n) ≡ true

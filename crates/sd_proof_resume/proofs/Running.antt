@@ -18,7 +18,7 @@ use Rattle.sd_history.specs.Core.declared.registers.Registers.{Registers}
 use Rattle.sd_history.specs.Core.declared.registers.Mode.{Mode}
 use Rattle.sd_history.specs.Core.declared.registers.Mode.TheVariants.{Primary, Backup, Acting, Idle}
 use Rattle.sd_history.specs.Core.Calls as calls
-use Rattle.sd_history.specs.Core.Calls.{Making, Call, Past}
+use Rattle.sd_history.specs.Core.Calls.{Call}
 use Rattle.sd_history.specs.Core.Words as words
 use Rattle.sd_history.specs.Core.Lives.{past_of}
 use Rattle.sd_history.specs.Core.Rules.{made, called, report_in, acts_in, follows_a_plan, is_acting_mode}
@@ -28,7 +28,7 @@ use Rattle.sd_history.specs.Sched.Events.{device_of, counter_of, message_of}
 use Rattle.sd_history.specs.Things.{failure_of, mended}
 use Rattle.sd_history.specs.World.{Setting, setting_over, Seen, makes, fails, is_up, latest_reading, staged, staged_epoch}
 use Rattle.sd_history.specs.Steps as steps
-use Rattle.sd_history.specs.Steps.{Act, Makes, Calls, Asks, Passes, Answers, Told, tells_nothing, tells_made, tells_called, Step, seen_of, events_of, changed, answers_in, live_answers, act_by, acted_by, flight_numbered, flight_count, step_of}
+use Rattle.sd_history.specs.Steps.{Act, Makes, Calls, Asks, Passes, Told, tells_nothing, tells_made, tells_called, Step, seen_of, events_of, changed, answers_in, act_by, flight_numbered, flight_count, step_of}
 use Rattle.sd_history.specs.Refusals.{makes_some}
 use Rattle.sd_history.specs.Lives.{tells_report}
 use Rattle.sd_history.specs.Chronicle.{past_in}
@@ -41,10 +41,11 @@ use Rattle.sd_history.proofs.Known.{up_case}
 use Rattle.sd_history.proofs.Owned.{OwnPast, rates_are_own}
 use Rattle.sd_history.proofs.Owning.{own_pasts}
 use Rattle.sd_history.proofs.Devices.{device, grows, not_falling, Lives, past_is, admitted_run_goes, admitted_devices_run, admitted_goes_forward}
+use Rattle.sd_history.proofs.Core.Orderly.{latest_with}
 use Rattle.sd_proof_resume.specs.Shifts.{Shift, raised_epoch, raised_duty, raised_call, raised_event, raised_registers}
 use Rattle.sd_proof_resume.specs.Likeness.{IsAlike, AreAlike}
 use Rattle.sd_proof_resume.specs.Agreement.{raised_answers, raised_told, raised_act, MayFollow, Agree}
-use Rattle.sd_proof_resume.proofs.Calls.{IsCommittable, IsOrderlyCall, AreAlikeAfter, counter_after, called_alike}
+use Rattle.sd_proof_resume.proofs.Calls.{IsCommittable, IsOrderlyCall, AreAlikeAfter, called_alike}
 use Rattle.sd_proof_resume.specs.Law.{whole, NamesSome}
 use Rattle.sd_proof_resume.proofs.Acts.{act_same}
 use Rattle.sd_proof_resume.proofs.Stepping.{makes_changes, agree_after}
@@ -270,7 +271,7 @@ module _ (shift : Shift) (net : Network) (front plans : List Plan) (behind : shi
           not_falling (makes_some e) (device_of e) (counter_of e) (latest_reading seen)
           (admitted_goes_forward (setting_over net plans) (steps_of other) e admits) calls_ m c (ap (λ o. same_number o m) named ∙ eq-eqb m m refl) (reads ∙ has)
 
-      reading : reading_with seen e m ≡ counter_after call (latest_reading seen m)
+      reading : reading_with seen e m ≡ latest_with call (latest_reading seen m)
       reading =
           ap (λ o. map_or (if same_number o m then counter_of e else None) (latest_reading seen m) (λ t. t)) named
           ∙ ap (λ b. map_or (if b then counter_of e else None) (latest_reading seen m) (λ t. t)) (eq-eqb m m refl)
@@ -282,7 +283,7 @@ module _ (shift : Shift) (net : Network) (front plans : List Plan) (behind : shi
       go None (Some r) one_is other_is alike = absurd alike
       go None None one_is other_is alike = absurd alike
       go (Some s) (Some r) one_is other_is alike =
-          let after : AreAlikeAfter shift (counter_after call (latest_reading seen m)) (called s (raised_call shift call)) (called r call) =
+          let after : AreAlikeAfter shift (latest_with call (latest_reading seen m)) (called s (raised_call shift call)) (called r call) =
           called_alike shift (latest_reading seen m) s r call (due (words.counter_of call) refl) (orderly r other_is) alike in
           both (Calls m call) is (tells_called (called r call).1 (answers_of device (called r call).0)) (Some (called s (raised_call shift call)).0) (Some (called r call).0)
           (record {
@@ -294,7 +295,7 @@ module _ (shift : Shift) (net : Network) (front plans : List Plan) (behind : shi
             tells =
                 ap (λ effect. tells_called effect (raised_answers shift (answers_of device (called r call).0))) (sym after.sends)
                 ∙ ap (tells_called (called s (raised_call shift call)).1)
-                (sym (answers_alike shift (counter_after call (latest_reading seen m)) (called s (raised_call shift call)).0 (called r call).0 after.alike));
+                (sym (answers_alike shift (latest_with call (latest_reading seen m)) (called s (raised_call shift call)).0 (called r call).0 after.alike));
             left = refl;
           })
           (record { old = r; node = (called r call).0; effect = (called r call).1; there = other_is; stepped = refl; tells = refl; left = refl })

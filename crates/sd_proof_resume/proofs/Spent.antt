@@ -23,10 +23,10 @@ use Rattle.sd_history.proofs.Admitted.{rule_holds}
 use Rattle.sd_history.proofs.Contained.{time_goes_on}
 use Rattle.sd_history.proofs.flights.Numbers.{numbered_there}
 use Rattle.sd_history.proofs.flights.Sending.{step_numbered}
-use Rattle.sd_history.proofs.flights.Finds.{within}
+use Rattle.sd_history.proofs.flights.Finds.{found_number, within}
 use Rattle.sd_proof_resume.specs.Shifts.{Shift, raised_event}
 use Rattle.sd_proof_resume.specs.Cuts.{NoneOnItsWay}
-use Rattle.sd_proof_resume.proofs.Steps.{find_passes, sweeps, swept_step}
+use Rattle.sd_proof_resume.proofs.Steps.{sweeps, swept_step}
 use Rattle.sd_proof_resume.proofs.Losing.{any_by}
 
 -- the event of the second whose raised one an event of the first is
@@ -119,8 +119,8 @@ stays_spent setting last s earlier are sent spent n f small found_ =
 
     go : (o : Option Flight) → find (λ g. nat_eq g.number n) s.sent ≡ o → option_or o (flight_numbered earlier n) ≡ Some f → is_spent (s ∷ earlier) 0 f ≡ true
     go None is here =
-        spent_on s earlier f (time_goes_on setting earlier s.seen.event are.1) (apart f.number (find_passes n (flights earlier) f here)) (spent n f small here)
-    go (Some g) is here = absurd (never g.number n (find_passes n s.sent g is) (far g (found (λ x. nat_eq x.number n) g s.sent is)))
+        spent_on s earlier f (time_goes_on setting earlier s.seen.event are.1) (apart f.number (found_number n (flights earlier) f here)) (spent n f small here)
+    go (Some g) is here = absurd (never g.number n (found_number n s.sent g is) (far g (found (λ x. nat_eq x.number n) g s.sent is)))
 
 -- An event that the rules admit names only later messages.
 pub names_later : (setting : Setting) (steps : List Step) (last : ℕ) → NoneOnItsWay last steps → AreSteps setting steps → last ≤ flight_count steps

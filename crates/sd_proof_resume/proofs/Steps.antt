@@ -3,7 +3,6 @@ use Rattle.std.specs.Prelude.{◌≡◌, ℕ, ◌+◌, ◌≤◌, Bool, true, fa
 use Rattle.std.specs.Option.{option_or}
 use Rattle.std.specs.List.{list_any}
 use Rattle.std.proofs.Common.{arith, sym, ◌∙◌, ap, subst}
-use Rattle.std.proofs.lemmas.Bool.{eqb-true}
 use Rattle.std.proofs.lemmas.Bool.Decides.{nat_tests}
 use Rattle.std.proofs.lemmas.List.{length-map}
 use Rattle.std.proofs.lemmas.List.Folds.{find-append}
@@ -15,6 +14,7 @@ use Rattle.sd_history.specs.World.{Seen, makes, fails, is_up, up_after, is_thing
 use Rattle.sd_history.specs.Steps.{Act, Makes, Calls, Asks, Passes, Step, seen_of, changed, answers_in, live_answers, flights, flight_count, flight_numbered}
 use Rattle.sd_history.specs.Refusals.{was_used, was_swept, since_sending}
 use Rattle.sd_history.proofs.flights.Finds.{some_has}
+use Rattle.sd_history.proofs.flights.Finds.{found_number}
 use Rattle.sd_history.proofs.flights.Sending.{counted}
 use Rattle.sd_proof_resume.specs.Shifts.{Shift, raised_flight, raised_seen}
 use Rattle.sd_proof_resume.specs.Views.{LooksAlike}
@@ -62,15 +62,6 @@ or_raised shift (Some f) b = refl
 number_raised : (m : Option ℕ) (n by : ℕ) → same_number (option_map (λ x. x + by) m) (n + by) ≡ same_number m n
 number_raised None n by = refl
 number_raised (Some m) n by = same_numbers m n by
-
-pub find_passes : (n : ℕ) (fs : List Flight) (f : Flight) → find (λ g. nat_eq g.number n) fs ≡ Some f → f.number ≡ n
-find_passes n [] f is = cc
-find_passes n (g ∷ fs) f is = go (nat_eq g.number n) refl is (find_passes n fs f)
-  where
-    go : (b : Bool) → nat_eq g.number n ≡ b → (if b then Some g else find (λ x. nat_eq x.number n) fs) ≡ Some f
-        → (find (λ x. nat_eq x.number n) fs ≡ Some f → f.number ≡ n) → f.number ≡ n
-    go true same here rest = let equal : g ≡ f = ap (λ o. map_or o g (λ x. x)) here in subst (λ (x : Flight). x.number ≡ n) equal (eqb-true g.number n same)
-    go false other there rest = rest there
 
 -- the step fails the link or the receiver of the flight
 abbrev pub sweeps : Flight → Step → Bool
@@ -130,7 +121,7 @@ module _ (shift : Shift) (s t : Step) (one other : List Step) (step : StepAgrees
           → (if b then false else sweeps f t || was_swept one (raised_flight shift f)) ≡ (if b then false else sweeps f t || was_swept other f)
       go true is = refl
       go false is =
-          let number : f.number ≡ n = find_passes n (flights (t ∷ other)) f found in
+          let number : f.number ≡ n = found_number n (flights (t ∷ other)) f found in
           let none : list_any (λ g. nat_eq g.number n) t.sent ≡ false = sym (ap (λ m. list_any (λ (g : Flight). nat_eq g.number m) t.sent) number) ∙ is in
           ap (λ b. sweeps f t || b)
           (agree.swept n f some

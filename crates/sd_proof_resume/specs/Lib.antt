@@ -7,3 +7,4 @@ pub mod Law
 pub mod Cuts
 pub mod Premised
 pub mod Losses
+pub mod Worked

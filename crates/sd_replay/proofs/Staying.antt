@@ -1,14 +1,15 @@
 -- A device that the fleet has as before stands in the history as before.
-use Rattle.std.specs.Prelude.{◌≡◌, ℕ, ◌<◌, Bool, false, ◌&&◌, List, ◌∷◌, length, Option, Some, None, option_and_then, refl, if◌then◌else◌}
+use Rattle.std.specs.Prelude.{◌≡◌, ℕ, ◌<◌, Bool, false, ◌&&◌, List, [], ◌∷◌, length, filter, Option, Some, None, option_and_then, refl, if◌then◌else◌}
 use Rattle.std.proofs.Common.{sym, ap, ◌∙◌}
+use Rattle.std.proofs.lemmas.List.{nil_from_length}
 use Rattle.sd_num.specs.Lists.{map_or}
 use Rattle.sd_core.specs.declared.node.Node.{Ghosts}
 use Rattle.sd_sched.specs.declared.Event.{Event}
 use Rattle.sd_sched.specs.declared.Event.TheVariants.{Tick, Recv}
-use Rattle.sd_sched.specs.Events.{device_of}
+use Rattle.sd_sched.specs.Events.{reference_of, device_of}
 use Rattle.sd_msg.specs.declared.Flight.{Flight}
 use Rattle.sd_msg.specs.declared.observer.Observer as observers
-use Rattle.sd_history.specs.World.{Setting, is_counted}
+use Rattle.sd_history.specs.World.{Setting, Seen, is_counted}
 use Rattle.sd_history.specs.Steps.{Step, seen_of}
 use Rattle.sd_history.specs.Nodes.{NodeStep, steps_of}
 use Rattle.sd_history.proofs.Known.{named_is_known}
@@ -17,17 +18,18 @@ use Rattle.sd_fleet.specs.FleetState.membership.Memberships.{Registers, live_at,
 use Rattle.sd_fleet.specs.FleetState.membership.Standing as memberships
 use Rattle.sd_fleet.proofs.FleetState.membership.Queries.{counted_is, parent_is, acts_is}
 use Rattle.sd_fleet.specs.declared.Outcome.{Outcome}
+use Rattle.sd_fleet.specs.declared.messages.Sent.{Sent}
 use Rattle.sd_fleet.specs.declared.fleet.Fleet.{Fleet}
 use Rattle.sd_fleet.specs.Staying.{StaysAt}
-use Rattle.sd_fleet.specs.Stepping.{outcome_resting}
-use Rattle.sd_fleet.specs.Hearing.{outcome_hearing}
+use Rattle.sd_fleet.specs.Keeping.{outcome_keeping}
 use Rattle.sd_fleet.specs.Standing as fleets
+use Rattle.sd_fleet.proofs.Shared.{sent_reach}
+use Rattle.sd_premise.specs.Calm.{IsCalmTick, IsCalmReceipt}
 use Rattle.sd_watch.specs.declared.parent_table.ParentRow.{ParentRow}
 use Rattle.sd_replay.specs.declared.monitors.Monitors.{Monitors}
 use Rattle.sd_replay.specs.declared.event_output.EventOutput.{EventOutput}
-use Rattle.sd_replay.specs.Standing.{parent_row_in, StandsAsBefore, IsRest, IsHearing, CanLook, HasRun}
+use Rattle.sd_replay.specs.Standing.{parent_row_in, HasSeen, StandsAsBefore, IsQuickStep, CanLook, HasRun}
 use Rattle.sd_replay.proofs.ParentTable.{same_rows}
-use Rattle.sd_replay.proofs.Observing.{step_to}
 
 -- the row of a device that counts as live or not, and answers this
 abbrev row_by : Bool → Option AnswerSummary → ParentRow
@@ -55,51 +57,92 @@ stands_as_before g before after e outcome d stays named setting run stands accep
     ∙ ap (row_by (is_counted_at before.fabric.membership d)) stays.answers
     ∙ row_is before.fabric.membership setting (steps_of run) stands.fabric.membership d within
 
--- A tick at which its device rests, and a receipt by a device that answers as before, as the fleet has made them
+-- A tick and a receipt after which the device answers as before, as the fleet has made them
 
-pub is_rest : {N : Type 0} (g : Ghosts N) (before after : Fleet N g) (reference d counter : ℕ)
+module _ {N : Type 0} (g : Ghosts N) (before after : Fleet N g) (reference d : ℕ) (e : Event) (taken : Option Flight) (messages : Sent)
+    (at : reference_of e ≡ reference) (named : device_of e ≡ Some d)
     (accepts : (setting : Setting) (run : List (NodeStep N)) → fleets.StandsFor g before setting run
-    → fleets.IsAccepted g after setting run (Tick reference d counter) (outcome_resting before.fabric d))
-    → StaysAt before.fabric.membership after.fabric.membership d
-    → (setting : Setting) (run : List (NodeStep N)) (made : fleets.StandsFor g before setting run)
-    → IsRest reference d counter setting (accepts setting run made).next.step (steps_of run)
-is_rest g before after reference d counter accepts stays setting run made =
-    record {
-      kept = before.fabric;
-      step = step_to g after setting run (Tick reference d counter) (outcome_resting before.fabric d) (accepts setting run made);
-      row =
-          stands_as_before g before after (Tick reference d counter) (outcome_resting before.fabric d) d stays refl setting run made
-          (accepts setting run made);
-    }
+    → fleets.IsAccepted g after setting run e (outcome_keeping before.fabric d taken messages))
+    (stays : StaysAt before.fabric.membership after.fabric.membership d) where
+  quick : (IsSuch : Seen → Type 0) (setting : Setting) (run : List (NodeStep N)) (made : fleets.StandsFor g before setting run)
+      → IsSuch (accepts setting run made).next.step.seen → IsQuickStep IsSuch reference d setting (accepts setting run made).next.step (steps_of run)
+  quick IsSuch setting run made such =
+      let accepted : fleets.IsAccepted g after setting run e (outcome_keeping before.fabric d taken messages) = accepts setting run made in
+      record {
+        accepted = accepted.stands.fabric.accepted;
+        seen = such;
+        at = ap reference_of accepted.happens ∙ at;
+        named = ap device_of accepted.happens ∙ named;
+        stays = sym (ap (λ (o : Outcome). o.closed) accepted.comes);
+        untold = sym (ap (λ (o : Outcome). o.report) accepted.comes);
+        row = stands_as_before g before after e (outcome_keeping before.fabric d taken messages) d stays named setting run made accepted;
+      }
 
-pub is_hearing : {N : Type 0} (g : Ghosts N) (before after : Fleet N g) (reference d counter message : ℕ) (flight : Flight)
+-- the flights of the messages that reach
+abbrev pub AreCollected : {N : Type 0} (g : Ghosts N) → Fleet N g → Event → Outcome → List Flight → Type 0
+AreCollected g after e outcome sent =
+    (setting : Setting) (run : List (NodeStep _)) (accepted : fleets.IsAccepted g after setting run e outcome)
+    → sent ≡ filter (λ f. f.reaches) accepted.next.step.sent
+
+pub quick_tick : {N : Type 0} (g : Ghosts N) (before after : Fleet N g) (reference d counter : ℕ) (messages : Sent) (sent : List Flight)
     (accepts : (setting : Setting) (run : List (NodeStep N)) → fleets.StandsFor g before setting run
-    → fleets.IsAccepted g after setting run (Recv reference d counter message) (outcome_hearing before.fabric d flight))
+    → fleets.IsAccepted g after setting run (Tick reference d counter) (outcome_keeping before.fabric d None messages))
     → StaysAt before.fabric.membership after.fabric.membership d
+    → AreCollected g after (Tick reference d counter) (outcome_keeping before.fabric d None messages) sent
     → (setting : Setting) (run : List (NodeStep N)) (made : fleets.StandsFor g before setting run)
-    → IsHearing reference d counter flight setting (accepts setting run made).next.step (steps_of run)
-is_hearing g before after reference d counter message flight accepts stays setting run made =
-    record {
+    → IsQuickStep (λ s. IsCalmTick s reference d counter sent) reference d setting (accepts setting run made).next.step (steps_of run)
+quick_tick g before after reference d counter messages sent accepts stays collected setting run made =
+    let accepted : fleets.IsAccepted g after setting run (Tick reference d counter) (outcome_keeping before.fabric d None messages) =
+    accepts setting run made in
+    quick g before after reference d (Tick reference d counter) None messages refl refl accepts stays (λ s. IsCalmTick s reference d counter sent) setting run made
+    (record {
+      tick = record { event = accepted.happens; stays = sym (ap (λ (o : Outcome). o.closed) accepted.comes) };
+      taken = sym (ap (λ (o : Outcome). o.taken) accepted.comes);
+      activated = sym (ap (λ (o : Outcome). o.activated) accepted.comes);
+      sends = sent_reach setting accepted.next.step (steps_of run) accepted.stands.fabric.accepted ∙ sym (collected setting run accepted);
+    })
+
+pub quick_receipt : {N : Type 0} (g : Ghosts N) (before after : Fleet N g) (reference d counter message : ℕ) (flight : Flight) (messages : Sent)
+    (sent : List Flight)
+    (accepts : (setting : Setting) (run : List (NodeStep N)) → fleets.StandsFor g before setting run
+    → fleets.IsAccepted g after setting run (Recv reference d counter message) (outcome_keeping before.fabric d (Some flight) messages))
+    → StaysAt before.fabric.membership after.fabric.membership d
+    → AreCollected g after (Recv reference d counter message) (outcome_keeping before.fabric d (Some flight) messages) sent
+    → (setting : Setting) (run : List (NodeStep N)) (made : fleets.StandsFor g before setting run)
+    → IsQuickStep (λ s. IsCalmReceipt s reference d counter flight sent) reference d setting (accepts setting run made).next.step (steps_of run)
+quick_receipt g before after reference d counter message flight messages sent accepts stays collected setting run made =
+    let accepted : fleets.IsAccepted g after setting run (Recv reference d counter message) (outcome_keeping before.fabric d (Some flight) messages) =
+    accepts setting run made in
+    quick g before after reference d (Recv reference d counter message) (Some flight) messages refl refl accepts stays
+    (λ s. IsCalmReceipt s reference d counter flight sent) setting run made
+    (record {
       message = message;
-      kept = before.fabric;
-      step = step_to g after setting run (Recv reference d counter message) (outcome_hearing before.fabric d flight) (accepts setting run made);
-      row =
-          stands_as_before g before after (Recv reference d counter message) (outcome_hearing before.fabric d flight) d stays refl setting run made
-          (accepts setting run made);
-    }
+      receipt = record { event = accepted.happens; stays = sym (ap (λ (o : Outcome). o.closed) accepted.comes) };
+      taken = sym (ap (λ (o : Outcome). o.taken) accepted.comes);
+      activated = sym (ap (λ (o : Outcome). o.activated) accepted.comes);
+      sends = sent_reach setting accepted.next.step (steps_of run) accepted.stands.fabric.accepted ∙ sym (collected setting run accepted);
+    })
+
+-- where no message was sent, no flight reaches
+pub none_collected : {N : Type 0} (g : Ghosts N) (after : Fleet N g) (e : Event) (outcome : Outcome) → outcome.sent ≡ 0
+    → AreCollected g after e outcome []
+none_collected g after e outcome silent = λ setting run accepted.
+    ap (filter (λ f. f.reaches))
+    (sym (nil_from_length accepted.next.step.sent (ap (λ (o : Outcome). o.sent) (sym accepted.comes) ∙ silent)))
 
 -- the monitors can look at such a step
-pub can_look : {N V : Type 0} (g : Ghosts N) (o : observers.Ghosts V) (before after : Fleet N g) (monitors : Monitors) (event_output : EventOutput)
-    (observer : V) (e : Event) (outcome : Outcome) (IsSuch : Setting → Step → List Step → Type 0)
+pub can_look : {N V : Type 0} (g : Ghosts N) (o : observers.Ghosts V) (before after : Fleet N g) (monitors collected : Monitors)
+    (event_output : EventOutput) (observer : V) (e : Event) (outcome : Outcome) (IsSuch : Setting → Step → List Step → Type 0)
     (accepts : (setting : Setting) (run : List (NodeStep N)) → fleets.StandsFor g before setting run → fleets.IsAccepted g after setting run e outcome)
     → ((setting : Setting) (run : List (NodeStep N)) (made : fleets.StandsFor g before setting run)
     → IsSuch setting (accepts setting run made).next.step (steps_of run))
-    → HasRun g o before monitors event_output observer → CanLook monitors IsSuch
-can_look g o before after monitors event_output observer e outcome IsSuch accepts such has =
+    → ((setting : Setting) (steps : List Step) → HasSeen monitors setting steps → HasSeen collected setting steps)
+    → HasRun g o before monitors event_output observer → CanLook collected IsSuch
+can_look g o before after monitors collected event_output observer e outcome IsSuch accepts such keeps has =
     record {
       setting = has.setting;
       s = (accepts has.setting has.steps has.stands.made).next.step;
       earlier = steps_of has.steps;
       such = such has.setting has.steps has.stands.made;
-      has_seen = has.stands.has_seen;
+      has_seen = keeps has.setting (steps_of has.steps) has.stands.has_seen;
     }

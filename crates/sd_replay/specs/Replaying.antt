@@ -11,9 +11,10 @@ use Rattle.sd_history.specs.Steps.{Step}
 use Rattle.sd_history.specs.Nodes.{NodeStep}
 use Rattle.sd_history.specs.Refusals.{refusal}
 use Rattle.sd_fleet.specs.declared.Outcome.{Outcome}
+use Rattle.sd_fleet.specs.declared.messages.Sent.{Sent}
 use Rattle.sd_fleet.specs.Doing.{may_send}
 use Rattle.sd_fleet.specs.Outcomes.{outcome_of}
-use Rattle.sd_replay.specs.declared.replay.Idle.{Idle}
+use Rattle.sd_replay.specs.declared.replay.QuickEvent.{QuickEvent}
 use Rattle.sd_replay.specs.declared.replay.Replay.{Replay}
 use Rattle.sd_replay.specs.declared.faults.ReplayFault.{ReplayFault}
 use Rattle.sd_replay.specs.declared.faults.ReplayFault.TheVariants.{Line, Apply, Memory}
@@ -42,22 +43,31 @@ pub record IsSteppedTo {N V : Type 0} (g : Ghosts N) (o : observers.Ghosts V) (r
   pub stepped : IsStepped g o replay setting run e
   pub comes : outcome ≡ outcome_of stepped.next.step
 
--- what an event comes to that sends nothing and after which its device answers as before: it receives this flight, if any, and its device acts
+-- what an event comes to after which its device answers as before: it receives this flight, if any, and sends these messages, and its device acts
 -- as root or not
-abbrev pub idle_outcome : Option Flight → Bool → Outcome
-idle_outcome taken acted =
-    record { report = None; taken = taken; first_sent = 0; sent = 0; activated = None; acted = acted; closed = false; ended = false }
+abbrev pub quick_outcome : Option Flight → Sent → Bool → Outcome
+quick_outcome taken sent acted =
+    record {
+      report = None;
+      taken = taken;
+      first_sent = sent.first;
+      sent = sent.count;
+      activated = None;
+      acted = acted;
+      closed = false;
+      ended = false;
+    }
 
 -- the event was accepted, and came to nothing else than that
-pub record IsIdle {N V : Type 0} (g : Ghosts N) (o : observers.Ghosts V) (replay : Replay N V g o) (setting : Setting) (run : List (NodeStep N))
-    (e : Event) (taken : Option Flight) : Type 0 where
+pub record IsQuick {N V : Type 0} (g : Ghosts N) (o : observers.Ghosts V) (replay : Replay N V g o) (setting : Setting) (run : List (NodeStep N))
+    (e : Event) (quick : QuickEvent) : Type 0 where
   pub stepped : IsStepped g o replay setting run e
-  pub idle : outcome_of stepped.next.step ≡ idle_outcome taken stepped.next.step.seen.acted
+  pub comes : outcome_of stepped.next.step ≡ quick_outcome quick.taken quick.sent stepped.next.step.seen.acted
 
 -- the event was tried as such a one: it happened so, or all stands as before
-pub record IsTried {N V : Type 0} (g : Ghosts N) (o : observers.Ghosts V) (old new : Replay N V g o) (e : Event) (result : Option Idle) : Type 0 where
-  pub accepted : IfSome result (λ idle. (setting : Setting) (run : List (NodeStep N)) → StandsFor g o old setting run
-      → IsIdle g o new setting run e idle.taken)
+pub record IsTried {N V : Type 0} (g : Ghosts N) (o : observers.Ghosts V) (old new : Replay N V g o) (e : Event) (result : Option QuickEvent) : Type 0 where
+  pub accepted : IfSome result (λ quick. (setting : Setting) (run : List (NodeStep N)) → StandsFor g o old setting run
+      → IsQuick g o new setting run e quick)
   pub stands : result ≡ None → (setting : Setting) (run : List (NodeStep N)) → StandsFor g o old setting run → StandsFor g o new setting run
 
 -- only a tick, a receipt and an ask take memory

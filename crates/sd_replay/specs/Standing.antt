@@ -1,29 +1,24 @@
 -- For which steps and runs the parts of a replay stand.
-use Rattle.std.specs.Prelude.{◌≡◌, ℕ, ◌<◌, ◌&&◌, List, ◌∷◌, length, min, slice_set, Bool, false, Option, None, is_some, if◌then◌else◌}
+use Rattle.std.specs.Prelude.{◌≡◌, ℕ, ◌<◌, ◌&&◌, List, ◌∷◌, length, min, slice_set, Bool, false, Option, Some, None, is_some, if◌then◌else◌}
 use Rattle.std.specs.Vec.{vec_capacity}
 use Rattle.sd_num.specs.Lists.{at_place}
 use Rattle.sd_replay.specs.lines.Printed.{printed}
 use Rattle.sd_topo.specs.Topologies.{network}
 use Rattle.sd_watch.specs.Watch.{parent_in, two_least}
 use Rattle.sd_core.specs.declared.node.Node.{Ghosts}
-use Rattle.sd_msg.specs.declared.Flight.{Flight}
 use Rattle.sd_msg.specs.declared.observer.Observer as observers
 use Rattle.sd_sched.specs.declared.Event.{Event}
-use Rattle.sd_sched.specs.declared.Event.TheVariants.{Tick, Recv}
-use Rattle.sd_sched.specs.Events.{device_of}
-use Rattle.sd_history.specs.World.{Setting, is_counted}
+use Rattle.sd_sched.specs.Events.{reference_of, device_of}
+use Rattle.sd_history.specs.World.{Setting, Seen, is_counted}
 use Rattle.sd_history.specs.Steps.{Step, seen_of, acts_in}
 use Rattle.sd_history.specs.Nodes.{NodeStep, steps_of}
 use Rattle.sd_history.specs.Refusals.{after_end}
 use Rattle.sd_history.specs.Accepted.{AreSteps}
-use Rattle.sd_history.specs.Lines.{counted_parent, first_on_loop, roots, reports, lines_of}
+use Rattle.sd_history.specs.Lines.{counted_parent, first_on_loop, roots, reports, asked_report, lines_of}
 use Rattle.sd_history.specs.Text.{bytes_of}
 use Rattle.sd_fleet.specs.declared.Outcome.{Outcome}
 use Rattle.sd_fleet.specs.Outcomes.{outcome_of}
 use Rattle.sd_fleet.specs.declared.fleet.Fleet.{Fleet}
-use Rattle.sd_fleet.specs.Registers.{Registers}
-use Rattle.sd_fleet.specs.Stepping.{outcome_resting}
-use Rattle.sd_fleet.specs.Hearing.{outcome_hearing}
 use Rattle.sd_fleet.specs.Standing as fleets
 use Rattle.sd_watch.specs.parent_table.ParentTable as parent_table
 use Rattle.sd_watch.specs.declared.parent_table.ParentRow.{ParentRow}
@@ -88,6 +83,10 @@ pub record HasSeen (monitors : Monitors) (setting : Setting) (steps : List Step)
 abbrev pub room_of : Monitors → ℕ
 room_of monitors = min (premises.room_of monitors.premises) (vec_capacity monitors.sent)
 
+-- and in the premises alone
+abbrev pub sent_room : Monitors → ℕ
+sent_room monitors = premises.room_of monitors.premises
+
 -- the fleet has just made a step after a run that the monitors have seen
 pub record HasStep {N : Type 0} (g : Ghosts N) (monitors : Monitors) (fleet : Fleet N g) (e : Event) (outcome : Outcome) : Type 0 where
   pub setting : Setting
@@ -95,29 +94,27 @@ pub record HasStep {N : Type 0} (g : Ghosts N) (monitors : Monitors) (fleet : Fl
   pub accepted : fleets.IsAccepted g fleet setting run e outcome
   pub has_seen : HasSeen monitors setting (steps_of run)
 
--- Quick events
-
 -- the step is the next one, of this event, and came to this
 pub record IsStepTo (setting : Setting) (s : Step) (earlier : List Step) (e : Event) (outcome : Outcome) : Type 0 where
   pub accepted : AreSteps setting (s ∷ earlier)
   pub happens : s.seen.event ≡ e
   pub comes : outcome ≡ outcome_of s
 
+-- Quick events
+
 -- the device stands after the step as it did before
 abbrev pub StandsAsBefore : Setting → Step → List Step → ℕ → Type 0
 StandsAsBefore setting s earlier d = parent_row_in setting (s ∷ earlier) d ≡ parent_row_in setting earlier d
 
--- the step is a tick at which its device rests
-pub record IsRest (reference device counter : ℕ) (setting : Setting) (s : Step) (earlier : List Step) : Type 0 where
-  pub kept : Registers
-  pub step : IsStepTo setting s earlier (Tick reference device counter) (outcome_resting kept device)
-  pub row : StandsAsBefore setting s earlier device
-
--- the step is the receipt of this flight by a device that answers as before and sends nothing that can come
-pub record IsHearing (reference device counter : ℕ) (flight : Flight) (setting : Setting) (s : Step) (earlier : List Step) : Type 0 where
-  pub message : ℕ
-  pub kept : Registers
-  pub step : IsStepTo setting s earlier (Recv reference device counter message) (outcome_hearing kept device flight)
+-- The step is the next one, and what is seen of it is such: nothing is told of it, no window closes with it, and the device that it names
+-- stands as before.
+pub record IsQuickStep (IsSuch : Seen → Type 0) (reference device : ℕ) (setting : Setting) (s : Step) (earlier : List Step) : Type 0 where
+  pub accepted : AreSteps setting (s ∷ earlier)
+  pub seen : IsSuch s.seen
+  pub at : reference_of s.seen.event ≡ reference
+  pub named : device_of s.seen.event ≡ Some device
+  pub stays : s.seen.closed ≡ false
+  pub untold : asked_report s ≡ None
   pub row : StandsAsBefore setting s earlier device
 
 -- there is such a step after those that the monitors have seen

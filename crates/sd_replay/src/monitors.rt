@@ -1,13 +1,16 @@
 //! Who looks on: judges the premises, and looks for loops of parents and several roots.
-ghost use Rattle.std.specs.Prelude.{◌≡◌, ◌<◌, ◌≤◌, ◌+◌, ◌^◌, List, [], ◌∷◌, length, OnOk, IfOk};
+ghost use Rattle.std.specs.Prelude.{◌≡◌, ◌<◌, ◌≤◌, ◌+◌, ◌^◌, List, [], ◌∷◌, length, filter, OnOk, IfOk};
 ghost use Rattle.sd_topo.specs.Topologies.{network};
 ghost use Rattle.sd_history.specs.World.{Setting};
 ghost use Rattle.sd_history.specs.Steps.{Step};
 ghost use Rattle.sd_history.specs.Nodes.{NodeStep, steps_of};
 ghost use Rattle.sd_history.specs.Lines.{lines_of};
+ghost use Rattle.sd_sched.specs.declared.Event.{Event as AnyEvent};
 ghost use Rattle.sd_fleet.specs.Standing.{IsAccepted};
+ghost use Rattle.sd_fleet.specs.declared.Outcome.{Outcome as AnyOutcome};
 ghost use Rattle.sd_premise.specs.FleetState.membership.Plans.{AreSound};
 ghost use Rattle.sd_replay.specs.lines.Findings.{IsOf, found_lines};
+ghost use Rattle.sd_replay.specs.Sights.{Tells};
 ghost use Rattle.sd_replay.specs.Troubles.{found_with};
 
 use crate::alarms::{NO_ALARMS, alarms_of};
@@ -15,7 +18,7 @@ use crate::judging::judge;
 use crate::sights::collect;
 use crate::trouble::Trouble;
 use sd_core::Node;
-use sd_fleet::{Fleet, Outcome};
+use sd_fleet::{Fleet, Outcome, Sent};
 use sd_msg::Flight;
 use sd_num::NoMemory;
 use sd_plan::Plan;
@@ -35,7 +38,8 @@ pub(crate) struct Monitors {
 }
 
 impl Monitors {
-    ghost use Rattle.sd_replay.specs.Standing.{HasSeen, HasStep, IsRest, IsHearing, CanLook, Looks, room_of};
+    ghost use Rattle.sd_replay.specs.Standing.{HasSeen, HasStep, IsQuickStep, CanLook, Looks, room_of, sent_room};
+    ghost use Rattle.sd_premise.specs.Calm.{IsCalmTick, IsCalmReceipt};
 
     /// Before any event.
     pub(crate) fn new(alloc: Global, topo: &Topology, plans: &[Plan]) -> Result<Monitors, NoMemory>
@@ -100,7 +104,11 @@ impl Monitors {
             → HasSeen self.old setting (steps_of run)
             → IsOf setting.net (found_with result event.now outcome.now) }
     {
-        collect(fleet, outcome, &mut self.sent);
+        let messages = Sent {
+            first: outcome.first_sent,
+            count: outcome.sent,
+        };
+        collect(fleet, messages, &mut self.sent);
         let broken = judge(&mut self.premises, event, outcome, &self.sent);
         let alarms = alarms_of(
             &mut self.parent_table,
@@ -111,12 +119,31 @@ impl Monitors {
         Trouble { broken, alarms }
     }
 
+    /// Collects the flights of these messages that reach. The latest event of the fleet sent them.
+    #[inline(always)]
+    pub(crate) fn collect<N: Node>(&mut self, fleet: &Fleet<N>, messages: Sent)
+        requires room { messages.count ≤ room_of self.old }
+        requires numbers { messages.first + messages.count < 2 ^ 64 }
+        ensures flights { (setting : Setting) (run : List (NodeStep N)) (event : AnyEvent)
+            (outcome : AnyOutcome)
+            (accepted : IsAccepted N.Node fleet.now setting run event outcome)
+            → Tells messages outcome
+            → self.new.sent.items ≡ filter (λ f. f.reaches) accepted.next.step.sent }
+        ensures room { length self.new.sent.items ≤ sent_room self.new }
+        ensures stands { (setting : Setting) (steps : List Step) → HasSeen self.old setting steps
+            → HasSeen self.new setting steps }
+    {
+        collect(fleet, messages, &mut self.sent);
+    }
+
     /// As `look`, of a tick at which its device rests. The device stands as it is kept, so there is
     /// no new loop and no new root.
     #[inline(always)]
     pub(crate) fn rest(&mut self, reference: u64, d: u32, counter: u64) -> Trouble
-        requires step { ∥ CanLook self.old (IsRest reference d counter) ∥₁ }
-        ensures { Looks (IsRest reference d counter) reference self.old self.new result }
+        requires step { ∥ CanLook self.old
+            (IsQuickStep (λ s. IsCalmTick s reference d counter []) reference d) ∥₁ }
+        ensures { Looks (IsQuickStep (λ s. IsCalmTick s reference d counter []) reference d)
+            reference self.old self.new result }
     {
         Trouble {
             broken: self.premises.tick(reference, d, counter, &[]),
@@ -124,16 +151,36 @@ impl Monitors {
         }
     }
 
-    /// As `look`, of the receipt of this flight by a device that answers as before and sends
-    /// nothing that can come.
+    /// As `look`, of a tick after which its device stands as it is kept. Its flights were collected.
+    pub(crate) fn emit(&mut self, reference: u64, d: u32, counter: u64) -> Trouble
+        requires step { ∥ CanLook self.old
+            (IsQuickStep (λ s. IsCalmTick s reference d counter self.old.sent.items) reference d) ∥₁ }
+        requires room { length self.old.sent.items ≤ sent_room self.old }
+        ensures { Looks
+            (IsQuickStep (λ s. IsCalmTick s reference d counter self.old.sent.items) reference d)
+            reference self.old self.new result }
+    {
+        let sent = self.sent.as_slice();
+        Trouble {
+            broken: self.premises.tick(reference, d, counter, sent),
+            alarms: NO_ALARMS,
+        }
+    }
+
+    /// As `look`, of the receipt of this flight after which its device stands as it is kept. Its
+    /// flights were collected.
     #[inline(always)]
     pub(crate) fn hear(&mut self, reference: u64, d: u32, counter: u64, flight: &Flight) -> Trouble
-        requires step { ∥ CanLook self.old (IsHearing reference d counter flight.now) ∥₁ }
-        ensures { Looks (IsHearing reference d counter flight.now) reference self.old self.new
-            result }
+        requires step { ∥ CanLook self.old (IsQuickStep
+            (λ s. IsCalmReceipt s reference d counter flight.now self.old.sent.items) reference d) ∥₁ }
+        requires room { length self.old.sent.items ≤ sent_room self.old }
+        ensures { Looks (IsQuickStep
+            (λ s. IsCalmReceipt s reference d counter flight.now self.old.sent.items) reference d)
+            reference self.old self.new result }
     {
+        let sent = self.sent.as_slice();
         Trouble {
-            broken: self.premises.receive(reference, d, counter, flight, &[]),
+            broken: self.premises.receive(reference, d, counter, flight, sent),
             alarms: NO_ALARMS,
         }
     }

@@ -10,7 +10,7 @@ ghost use Rattle.sd_sched.specs.Spelled.{is_within};
 ghost use Rattle.sd_sched.specs.Events.{is_ask};
 ghost use Rattle.sd_history.specs.World.{Setting};
 ghost use Rattle.sd_msg.specs.Observed.{ReportAt};
-ghost use Rattle.sd_fleet.specs.Room.{most_sent_in};
+ghost use Rattle.sd_fleet.specs.Room.{ends_in, most_sent_in};
 ghost use Rattle.sd_fleet.specs.Standing as fleets;
 ghost use Rattle.sd_premise.specs.FleetState.membership.Plans.{AreSound};
 ghost use Rattle.sd_history.specs.Steps.{Step, seen_of};
@@ -25,7 +25,7 @@ use crate::monitors::Monitors;
 use crate::sights::acts_named;
 use crate::{PlanList, ReplayFault, Tally};
 use sd_core::Node;
-use sd_fleet::{Fleet, Outcome};
+use sd_fleet::{Fleet, Outcome, Sent};
 use sd_msg::{Flight, Observer};
 use sd_num::NoMemory;
 use sd_plan::Plan;
@@ -54,11 +54,12 @@ fn fleet_and_monitors<N: Node>(
     Ok((fleet, monitors))
 }
 
-/// What came of an event that sends nothing and after which its device answers as before.
+/// What came of an event after which its device answers as before.
 #[derive(Clone, Copy)]
-pub(crate) struct Idle {
+pub(crate) struct QuickEvent {
     /// The flight that it received.
     taken: Option<Flight>,
+    sent: Sent,
 }
 
 /// The replay of a schedule by a fleet of nodes of one kind.
@@ -163,7 +164,7 @@ impl<N: Node, V: Observer> Replay<N, V> {
             → StandsFor N.Node V.Observer self.new setting run
             × IsFault fault setting (steps_of run) event.now) }
     {
-        match self.idle(event) {
+        match self.try_quick(alloc, event) {
             Some(_) => Ok(()),
             None => self.advance(alloc, event),
         }
@@ -196,7 +197,7 @@ impl<N: Node, V: Observer> Replay<N, V> {
             × IsFault fault setting (steps_of run) event.now) }
         ensures same { OnErr result (outcome.new ≡ outcome.old) }
     {
-        if self.idle_to(event, outcome) {
+        if self.try_quick_to(alloc, event, outcome) {
             return Ok(());
         }
         match self.advance(alloc, event) {
@@ -208,11 +209,12 @@ impl<N: Node, V: Observer> Replay<N, V> {
         }
     }
 
-    /// An event happens that sends nothing and after which its device answers as before, if it is one,
-    /// as nearly all are. It is for `advance` where it is another or is refused, or a window is open.
+    /// An event happens after which its device answers as before, if it is one, as nearly all are. It
+    /// is for `advance` where it is another or is refused, where a window is open, and where there is
+    /// no room for its messages.
     // Numbers go from the fleet to the premises and the lines; no outcome is made.
     #[inline(always)]
-    fn idle(&mut self, event: &Event) -> Option<Idle>
+    fn try_quick(&mut self, alloc: Global, event: &Event) -> Option<QuickEvent>
         requires within { IsTrue (is_within event.now) }
         ensures { IsTried N.Node V.Observer self.old self.new event.now result }
     {
@@ -221,20 +223,33 @@ impl<N: Node, V: Observer> Replay<N, V> {
                 reference,
                 device,
                 counter,
-            } => self.rest(reference, device, counter),
+            } => self.tick(alloc, reference, device, counter),
             Event::Recv {
                 reference,
                 device,
                 counter,
                 message,
-            } => self.hear(reference, device, counter, message),
+            } => self.hear(alloc, reference, device, counter, message),
             _ => None,
         }
     }
 
-    /// As `idle`, of a tick at which its device rests.
+    /// As `try_quick`, of a tick.
     #[inline(always)]
-    fn rest(&mut self, reference: u64, d: u32, counter: u64) -> Option<Idle>
+    fn tick(&mut self, alloc: Global, reference: u64, d: u32, counter: u64) -> Option<QuickEvent>
+        requires within { IsTrue (is_within (events_of.Tick reference d counter)) }
+        ensures { IsTried N.Node V.Observer self.old self.new
+            (events_of.Tick reference d counter) result }
+    {
+        match self.rest(reference, d, counter) {
+            Some(quick) => Some(quick),
+            None => self.emit(alloc, reference, d, counter),
+        }
+    }
+
+    /// As `try_quick`, of a tick at which its device rests.
+    #[inline(always)]
+    fn rest(&mut self, reference: u64, d: u32, counter: u64) -> Option<QuickEvent>
         requires within { IsTrue (is_within (events_of.Tick reference d counter)) }
         ensures { IsTried N.Node V.Observer self.old self.new
             (events_of.Tick reference d counter) result }
@@ -244,30 +259,83 @@ impl<N: Node, V: Observer> Replay<N, V> {
         }
         let trouble = self.monitors.rest(reference, d, counter);
         self.event_output.note(&trouble, &None, reference, false);
-        Some(Idle { taken: None })
+        Some(QuickEvent {
+            taken: None,
+            sent: Sent { first: 0, count: 0 },
+        })
     }
 
-    /// As `idle`, of a receipt by a device that has nobody below it.
+    /// As `try_quick`, of a tick of a device that acts as root.
+    // Never a part of its caller: few ticks send.
+    #[inline(never)]
+    fn emit(&mut self, alloc: Global, reference: u64, d: u32, counter: u64) -> Option<QuickEvent>
+        requires within { IsTrue (is_within (events_of.Tick reference d counter)) }
+        ensures { IsTried N.Node V.Observer self.old self.new
+            (events_of.Tick reference d counter) result }
+    {
+        if !self.ready_for(alloc, d) {
+            return None;
+        }
+        let Some(sent) = self.fleet.emit(reference, d, counter) else {
+            return None;
+        };
+        self.monitors.collect(&self.fleet, sent);
+        let trouble = self.monitors.emit(reference, d, counter);
+        self.event_output.note(&trouble, &None, reference, false);
+        Some(QuickEvent { taken: None, sent })
+    }
+
+    /// As `try_quick`, of a receipt.
     #[inline(always)]
-    fn hear(&mut self, reference: u64, d: u32, counter: u64, message: u64) -> Option<Idle>
+    fn hear(
+        &mut self,
+        alloc: Global,
+        reference: u64,
+        d: u32,
+        counter: u64,
+        message: u64,
+    ) -> Option<QuickEvent>
         requires within { IsTrue (is_within (events_of.Recv reference d counter message)) }
         ensures { IsTried N.Node V.Observer self.old self.new
             (events_of.Recv reference d counter message) result }
     {
-        let Some(flight) = self.fleet.hear(reference, d, counter, message) else {
+        if !self.ready_for(alloc, d) {
+            return None;
+        }
+        let Some(heard) = self.fleet.hear(reference, d, counter, message) else {
             return None;
         };
-        let trouble = self.monitors.hear(reference, d, counter, &flight);
+        self.monitors.collect(&self.fleet, heard.sent);
+        let trouble = self.monitors.hear(reference, d, counter, &heard.flight);
         self.event_output.note(&trouble, &None, reference, false);
-        Some(Idle {
-            taken: Some(flight),
+        Some(QuickEvent {
+            taken: Some(heard.flight),
+            sent: heard.sent,
         })
     }
 
-    /// As `idle`. Where the event happens, what it came to is written into an outcome that the
+    /// Makes the room for what a device sends at a call while no window is open, or answers that
+    /// there is none.
+    #[inline(always)]
+    fn ready_for(&mut self, alloc: Global, d: u32) -> bool
+        ensures fleet { IsTrue result
+            → ends_in self.new.fleet.fabric d ≤ self.new.fleet.fabric.book.room }
+        ensures monitors { IsTrue result
+            → ends_in self.new.fleet.fabric d ≤ room_of self.new.monitors }
+        ensures stands { (setting : Setting) (run : List (NodeStep N))
+            → StandsFor N.Node V.Observer self.old setting run
+            → StandsFor N.Node V.Observer self.new setting run }
+    {
+        match self.fleet.ready(alloc, d) {
+            Ok(most) => self.monitors.ready(alloc, most).is_ok(),
+            Err(_) => false,
+        }
+    }
+
+    /// As `try_quick`. Where the event happens, what it came to is written into an outcome that the
     /// caller lends.
     #[inline(always)]
-    fn idle_to(&mut self, event: &Event, outcome: &mut Outcome) -> bool
+    fn try_quick_to(&mut self, alloc: Global, event: &Event, outcome: &mut Outcome) -> bool
         requires within { IsTrue (is_within event.now) }
         ensures accepted { IsTrue result → (setting : Setting) (run : List (NodeStep N))
             → StandsFor N.Node V.Observer self.old setting run
@@ -278,12 +346,14 @@ impl<N: Node, V: Observer> Replay<N, V> {
         ensures same { result ≡ false → outcome.new ≡ outcome.old }
     {
         let acted = acts_named(&self.fleet, event);
-        let Some(idle) = self.idle(event) else {
+        let Some(quick) = self.try_quick(alloc, event) else {
             return false;
         };
         *outcome = Outcome {
             acted,
-            taken: idle.taken,
+            taken: quick.taken,
+            first_sent: quick.sent.first,
+            sent: quick.sent.count,
             ..Outcome::nothing()
         };
         true

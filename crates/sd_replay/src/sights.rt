@@ -9,10 +9,12 @@ ghost use Rattle.sd_history.specs.World.{Setting};
 ghost use Rattle.sd_history.specs.Steps.{acted_by};
 ghost use Rattle.sd_history.specs.Nodes.{NodeStep, steps_of};
 ghost use Rattle.sd_fleet.specs.Standing.{StandsFor, IsAccepted};
+ghost use Rattle.sd_fleet.specs.declared.Outcome.{Outcome as AnyOutcome};
 ghost use Rattle.sd_replay.specs.Standing.{parent_row_in, IsSet, IsParentTable, IsStepOf};
+ghost use Rattle.sd_replay.specs.Sights.{Tells};
 
 use sd_core::Node;
-use sd_fleet::{Fleet, Outcome};
+use sd_fleet::{Fleet, Sent};
 use sd_msg::{Flight, TakeFault};
 use sd_sched::Event;
 use sd_watch::parent_table::{ParentRow, ParentTable};
@@ -113,19 +115,21 @@ fn add_found(sent: &mut Vec<Flight>, found: Result<Flight, TakeFault>)
     }
 }
 
-/// Collects the flights that the latest event sent and that reach, in place of those collected
-/// before, in room that was made.
-pub(crate) fn collect<N: Node>(fleet: &Fleet<N>, outcome: &Outcome, sent: &mut Vec<Flight>)
-    requires room { outcome.now.sent ≤ vec_capacity sent.old }
-    requires numbers { outcome.now.first_sent + outcome.now.sent < 2 ^ 64 }
+/// Collects the flights of these messages that reach, in place of those collected before, in room
+/// that was made. The latest event sent the messages.
+#[inline(always)]
+pub(crate) fn collect<N: Node>(fleet: &Fleet<N>, messages: Sent, sent: &mut Vec<Flight>)
+    requires room { messages.count ≤ vec_capacity sent.old }
+    requires numbers { messages.first + messages.count < 2 ^ 64 }
     ensures flights { (setting : Setting) (run : List (NodeStep N)) (event : AnyEvent)
-        (accepted : IsAccepted N.Node fleet.now setting run event outcome.now)
+        (outcome : AnyOutcome) (accepted : IsAccepted N.Node fleet.now setting run event outcome)
+        → Tells messages outcome
         → sent.new.items ≡ filter (λ f. f.reaches) accepted.next.step.sent }
-    ensures few { length sent.new.items ≤ outcome.now.sent }
+    ensures few { length sent.new.items ≤ messages.count }
     ensures capacity { vec_capacity sent.old ≤ vec_capacity sent.new }
 {
     sent.clear();
-    for i in 0..outcome.sent {
-        add_found(sent, fleet.flight(outcome.first_sent + u64::from(i)));
+    for i in 0..messages.count {
+        add_found(sent, fleet.flight(messages.first + u64::from(i)));
     }
 }

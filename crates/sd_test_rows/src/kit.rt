@@ -40,6 +40,23 @@ pub fn shelf_of(
     Ok(MemShelf::new(files, piece, Vec::from_slice(alloc, failing)?))
 }
 
+/// Words as a program takes them.
+fn list_of(alloc: Global, words: &[&str]) -> Result<Vec<String>, AllocError> {
+    let mut list = Vec::new(alloc);
+    for word in words {
+        list.push(String::from_str(alloc, word)?)?;
+    }
+    Ok(list)
+}
+
+/// A sink of 10,000 bytes.
+fn sink_of(alloc: Global, failing: &[(u64, usize)]) -> Result<MemSink, AllocError> {
+    match MemSink::new(alloc, 10_000, Vec::from_slice(alloc, failing)?) {
+        Ok(out) => Ok(out),
+        Err(NoMemory) => Err(AllocError),
+    }
+}
+
 /// Runs the words over a shelf and a sink of 10,000 bytes. A write whose number is listed, counted
 /// from 1, keeps so many bytes and fails.
 ///
@@ -53,14 +70,23 @@ pub fn run_words(
 ) -> Result<Ran, AllocError>
     requires { shelf.old.begun ≡ false }
 {
-    let mut list = Vec::new(alloc);
-    for word in words {
-        list.push(String::from_str(alloc, word)?)?;
-    }
-    let mut out = match MemSink::new(alloc, 10_000, Vec::from_slice(alloc, failing)?) {
-        Ok(out) => out,
-        Err(NoMemory) => return Err(AllocError),
-    };
+    let list = list_of(alloc, words)?;
+    let mut out = sink_of(alloc, failing)?;
     let status = run(alloc, list.as_slice(), shelf, &mut out);
+    Ok(Ran { status, out })
+}
+
+/// The same of the second program, `sundialctl`.
+pub fn run_ctl_words(
+    alloc: Global,
+    words: &[&str],
+    shelf: &mut MemShelf,
+    failing: &[(u64, usize)],
+) -> Result<Ran, AllocError>
+    requires { shelf.old.begun ≡ false }
+{
+    let list = list_of(alloc, words)?;
+    let mut out = sink_of(alloc, failing)?;
+    let status = sd_ctl_top::run(alloc, list.as_slice(), shelf, &mut out);
     Ok(Ran { status, out })
 }

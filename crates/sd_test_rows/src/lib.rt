@@ -1,8 +1,10 @@
-//! Worked runs of the whole program, over a shelf and a sink in memory.
+//! Worked runs of both programs, over a shelf and a sink in memory.
 #![tactic(auto)]
 
 #[cfg(test)]
 mod case;
+#[cfg(test)]
+mod ctl;
 #[cfg(test)]
 mod drill;
 #[cfg(test)]

@@ -3,59 +3,44 @@
 //! error.
 #![tactic(auto)]
 
-mod complaint;
-mod edge;
+ghost use Rattle.std.specs.Prelude.{map, string_bytes};
+ghost use Rattle.sd_edge.specs.Endings.{EndsRun};
 
-use complaint::{Complaint, complaint_of};
-use edge::{behind_first, exit_of};
-use sd_ctl_top::outside::{FileShelf, StdSink};
-use sd_ctl_top::{Status, run};
-use std::io::ErrorKind;
+use sd_ctl_top::run;
+use sd_edge::{ErrorLines, ErrorOutput, end_without_words, exit_of, say_why, words_of};
+use sd_num::NoMemory;
+use sd_outside::{FileShelf, StdSink, SystemFiles, SystemWriter};
+use std::alloc::Global;
 use std::process::ExitCode;
 use std::{env, io};
 
-/// The words after the program's name, where there is memory for them. Words that are no text stand
-/// in no table, so they count as none at all.
-fn words_of(rt: &HostRuntime) -> Option<Vec<String>> {
-    let mut words = Vec::new(rt.alloc());
-    let all = match env::args(rt) {
-        Ok(all) => all,
-        Err(error) if error.kind() == ErrorKind::OutOfMemory => return None,
-        Err(_) => return Some(words),
-    };
-    for word in all {
-        if words.push(word).is_err() {
-            return None;
-        }
-    }
-    Some(behind_first(words))
-}
-
-/// Writes a line to standard error. The run has its status already, so a line that cannot be
-/// written is left out.
-fn tell(rt: &HostRuntime, complaint: Option<Complaint<'_>>) {
-    if let Some(complaint) = complaint {
-        let _ = eprintln!(rt; "{complaint}");
-    }
+/// A whole run over these words, with the files and the outputs of a system.
+fn run_to_end<F: SystemFiles + Drop, W: SystemWriter + Drop, E: ErrorOutput>(
+    alloc: Global,
+    words: &[String],
+    files: F,
+    writer: W,
+    errors: &mut E,
+) -> ExitCode
+    ensures { EndsRun E.writes (map string_bytes words.now) errors.old errors.new result }
+{
+    let mut shelf = FileShelf::new(files);
+    let mut out = StdSink::new(writer);
+    let status = run(alloc, words, &mut shelf, &mut out);
+    say_why(status, words, &shelf, &out, errors);
+    exit_of(status)
 }
 
 fn main(rt: HostRuntime) -> ExitCode {
-    let status = match words_of(&rt) {
-        Some(words) => {
-            let words = words.as_slice();
-            let mut shelf = FileShelf::new(&rt);
-            let mut out = StdSink::new(io::writer(&rt));
-            let status = run(rt.alloc(), words, &mut shelf, &mut out);
-            tell(
-                &rt,
-                complaint_of(status, words, shelf.last_fault(), out.last_fault()),
-            );
-            status
-        }
-        None => {
-            tell(&rt, complaint_of(Status::Memory, &[], None, None));
-            Status::Memory
-        }
+    let mut errors = ErrorLines {
+        program: "sundialctl",
+        system: &rt,
     };
-    exit_of(status)
+    match words_of(rt.alloc(), env::args(&rt)) {
+        Ok(words) => {
+            let words = words.as_slice();
+            run_to_end(rt.alloc(), words, &rt, io::writer(&rt), &mut errors)
+        }
+        Err(NoMemory) => end_without_words(&mut errors),
+    }
 }

@@ -6,6 +6,8 @@ import heapq
 from typing import Dict, Iterator, List, NamedTuple, Optional, Tuple
 
 Key = Tuple[int, int, int, Tuple[int, int]]
+# Later than each reference.
+NEVER = 1 << 200
 
 
 class Flight(NamedTuple):
@@ -33,10 +35,14 @@ class Flight(NamedTuple):
 class Book:
     """Keeps flights until they are spent. What it holds grows with what is on its way alone."""
 
+    # No message that it holds has its last moment before this one. (a book of an earlier run may not know yet)
+    earliest = 0
+
     def __init__(self) -> None:
         self._flights: Dict[int, Flight] = {}
         self._by_key: Dict[Key, List[int]] = {}
         self._by_last: List[Tuple[int, int]] = []
+        self.earliest = NEVER
 
     def __len__(self) -> int:
         return len(self._flights)
@@ -46,6 +52,8 @@ class Book:
         self._flights[number] = flight
         self._by_key.setdefault((flight.receiver, flight.link, flight.epoch, flight.stamp), []).append(number)
         heapq.heappush(self._by_last, (flight.last, number))
+        if flight.last < self.earliest:
+            self.earliest = flight.last
 
     def find(self, key: Key) -> Optional[int]:
         """The number of the message, the least where there are several."""
@@ -69,7 +77,7 @@ class Book:
 
     def has_expired(self, ref: int) -> bool:
         """Whether the first of all last moments is before `ref`, be it of a message that is on its way or not."""
-        return bool(self._by_last) and self._by_last[0][0] < ref
+        return self.earliest < ref
 
     def is_busy(self, ref: int) -> bool:
         """Whether a message is on its way that can still be received at `ref`."""
@@ -78,9 +86,13 @@ class Book:
     def expired(self, ref: int) -> Iterator[Flight]:
         """Takes out each flight whose last moment is before `ref`, in order."""
         while self._by_last and self._by_last[0][0] < ref:
-            flight = self.spend(heapq.heappop(self._by_last)[1])
-            if flight is not None:
-                yield flight
+            number = heapq.heappop(self._by_last)[1]
+            self.earliest = self._by_last[0][0] if self._by_last else NEVER
+            if number in self._flights:
+                flight = self.spend(number)
+                if flight is not None:
+                    yield flight
+        self.earliest = self._by_last[0][0] if self._by_last else NEVER
 
     def sweep(self, thing: str, number: int) -> None:
         """Spends what is on its way to a device or over a link that fails."""

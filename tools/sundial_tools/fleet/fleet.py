@@ -48,19 +48,28 @@ class Fleet:
         self.in_force, self.staged, self.committed = 1, 0, False
         self.joined: Set[int] = set()
         self.book = Book()
-        # The messages of the latest event that reach.
+        # The messages of the latest event that reach, and the one that was received latest.
         self.sent_now: List[Flight] = []
+        self.received: Optional[Flight] = None
         self._messages = 0
 
     def know(self, plans: Sequence[Plan]) -> None:
         """The plans, with further ones behind those that were known."""
-        self.plans = plans
+        self.plans, self._period = plans, self.topology.period
         self.members: List[FrozenSet[int]] = [frozenset(plan.members(self.topology)) for plan in plans]
         # The bounds of each link to each device that a plan has it lead to.
         self._towards = {
             (link, receiver): self.topology.links[link].towards(receiver)
             for plan in plans for ends in plan.ends_below.values() for link, receiver in ends
         }
+        # Of each plan, by sender: the links and receivers of its messages, with their greatest delays.
+        self._ends = [
+            {
+                sender: [(link, receiver, self._towards[link, receiver].max) for link, receiver in ends]
+                for sender, ends in plan.ends_below.items()
+            }
+            for plan in plans
+        ]
 
     @property
     def plan(self) -> Plan:
@@ -79,25 +88,38 @@ class Fleet:
 
     def happen(self, event: Event) -> str:
         """What the event brings: move, takeover, lead, enter, close, send, accept, or nothing."""
-        self._comes(event.ref)
+        self.passes(event.ref)
         act = self._acts.get(event.word)
         return "" if act is None else act(event)
 
     def tick(self, ref: int, device: int, counter: int) -> str:
         """What a tick brings, as `happen` says it."""
-        self._comes(ref)
-        return self._ticks(ref, device, counter)
+        if self.sent_now or self.book.earliest < ref:
+            self.passes(ref)
+        state = self.up[device]
+        done = state.tick(counter, self._period)
+        if done == "send" or done == "takeover":
+            self._send(state, ref, *state.report(counter))
+        return done
 
     def receive(self, ref: int, device: int, counter: int, message: int) -> str:
         """What a receipt brings, as `happen` says it."""
-        self._comes(ref)
-        return self._receives(ref, device, counter, message)
+        if self.sent_now or self.book.earliest < ref:
+            self.passes(ref)
+        flight = self.received = self.book.spend(message)
+        if flight is None:
+            return ""
+        state = self.up[device]
+        done = state.receive(counter, flight, self._towards[flight.link, flight.receiver])
+        if done:
+            self._send(state, ref, state.clock, state.base)
+        return done
 
-    def _comes(self, ref: int) -> None:
-        """The time of the next event has come."""
+    def passes(self, ref: int) -> None:
+        """The time has come to that of the next event, of which nothing else is told."""
         if self.sent_now:
             self.sent_now = []
-        if self.book.has_expired(ref):
+        if self.book.earliest < ref:
             for _ in self.book.expired(ref):
                 pass
 
@@ -106,12 +128,11 @@ class Fleet:
     def _send(self, state: Device, ref: int, clock: int, eps: int) -> None:
         if state.plan is None or state.epoch not in (self.in_force, self.staged):
             return
-        towards, stamp, epoch, sender = self._towards, state.stamp, state.epoch, state.number
-        for link, receiver in state.plan.below(sender):
+        stamp, epoch, sender = state.stamp, state.epoch, state.number
+        for link, receiver, most in self._ends[epoch - 1].get(sender, ()):
             self._messages += 1
             if link in self.failed_links or receiver not in self.up:
                 continue
-            most = towards[link, receiver].max
             # (made as a tuple, since the call of the class takes twice the time)
             flight: Flight = tuple.__new__(Flight, (
                 ref + 2 * most, self._messages, sender, receiver, link, epoch, stamp, clock, eps, ref, ref + most
@@ -136,27 +157,10 @@ class Fleet:
         return ""
 
     def _tick(self, event: Full) -> str:
-        return self._ticks(event.ref, event.device, event.counter)
-
-    def _ticks(self, ref: int, device: int, counter: int) -> str:
-        state = self.up[device]
-        done = state.tick(counter, self.topology.period)
-        if done in ("send", "takeover"):
-            self._send(state, ref, *state.report(counter))
-        return done
+        return self.tick(event.ref, event.device, event.counter)
 
     def _recv(self, event: Full) -> str:
-        return self._receives(event.ref, event.device, event.counter, event.message)
-
-    def _receives(self, ref: int, device: int, counter: int, message: int) -> str:
-        flight = self.book.spend(message)
-        if flight is None:
-            return ""
-        state = self.up[device]
-        done = state.receive(counter, flight, self._towards[flight.link, flight.receiver])
-        if done:
-            self._send(state, ref, state.clock, state.base)
-        return done
+        return self.receive(event.ref, event.device, event.counter, event.message)
 
     def _lose(self, event: Full) -> str:
         self.book.spend(event.message)

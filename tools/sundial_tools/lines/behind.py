@@ -6,6 +6,7 @@ from typing import Any, Callable, Dict, Iterable, Iterator, Optional, Sequence, 
 
 from sundial_tools.errors import ToolError
 from sundial_tools.fleet.fleet import Fleet
+from sundial_tools.fleet.lineage import Came, Judged, Lineages, Reading, Set, Told
 from sundial_tools.fleet.who import Watch
 from sundial_tools.outputs import OutputLine
 from sundial_tools.plan import Plan
@@ -42,25 +43,36 @@ class _History:
 
     def __init__(self, topology: Topology, plans: Sequence[Plan], source: str) -> None:
         self._fleet, self._source = Fleet(topology, plans), source
-        self.watch = Watch(self._fleet)
+        self.watch, self._lineages = Watch(self._fleet), Lineages(self._fleet)
         self._next: Optional[Event] = None
 
     def reach(self, text: str, number: int) -> None:
         try:
             if self._next is not None:
-                self.watch.after(self._next, number - 1, self._fleet.happen(self._next))
+                happened = self._fleet.happen(self._next)
+                self.watch.after(self._next, number - 1, happened)
+                self._lineages.after(self._next, number - 1, happened)
             self._next = parse_event(text, self._source, number)
             self.watch.before(self._next)
         except (KeyError, IndexError, TypeError):
             reason = "no replay of these plans accepts this line, and the output does not refuse it"
             raise ToolError(reason, self._source, number - 1) from None
 
+    def lineage(self, event: Event, line: int) -> Optional[Told]:
+        """That of the report for which the event asks, which comes next."""
+        if event.device is None or event.counter is None:
+            return None
+        lineage = self._lineages.held(event.device, Reading(line, event.ref, event.counter))
+        return None if lineage is None else Told(self._fleet.topology, lineage)
+
 
 class Events:
-    """Adds REF and the event to the lines that have an N."""
+    """Adds REF and the event to the lines that have an N, and to reports their lineage where it is asked for."""
 
-    def __init__(self, schedule: Behind, topology: Optional[Topology], plans: Sequence[Plan], source: str) -> None:
-        self._schedule, self._topology, self._source = schedule, topology, source
+    def __init__(
+        self, schedule: Behind, topology: Optional[Topology], plans: Sequence[Plan], source: str, with_lineage: bool = False
+    ) -> None:
+        self._schedule, self._topology, self._source, self._with_lineage = schedule, topology, source, with_lineage
         self._history = None if topology is None or not plans else _History(topology, plans, source)
         if self._history is not None:
             schedule.reached = self._history.reach
@@ -74,7 +86,7 @@ class Events:
             raise ToolError(f"the schedule has no line {number}: it is not that of this output", self._source)
         event = parse_event(text, self._source, number)
         self._agree(line, event, number)
-        return {"ref": event.ref, "event": self._named(event), **_derived(line, event), **self._who(line, event)}
+        return {"ref": event.ref, "event": self._named(event), **_derived(line, event), **self._who(line, event), **self._lineage(line, event)}
 
     def _who(self, line: OutputLine, event: Event) -> Dict[str, Any]:
         """Who broke a premise, where the plans are known."""
@@ -85,6 +97,16 @@ class Events:
         said.update({"allowed": cause.allowed} if cause.allowed is not None else {})
         said.update({"seen": cause.seen} if cause.seen is not None else {})
         return {"who": {**said, "text": cause.text}}
+
+    def _lineage(self, line: OutputLine, event: Event) -> Dict[str, Any]:
+        """What the interval of a report rests on."""
+        if line.kind != "report" or self._history is None or not self._with_lineage:
+            return {}
+        told = self._history.lineage(event, line.fields["line"])
+        if told is None:
+            return {}
+        parts = [_part(told, one) for one in told.judged]
+        return {"lineage": {"devices": told.devices, "links": told.links, "honest": told.is_honest, "parts": parts, "text": told.text()}}
 
     def _agree(self, line: OutputLine, event: Event, number: int) -> None:
         """Refuses a schedule that cannot be the one of the output."""
@@ -118,6 +140,18 @@ def _name(topology: Topology, thing: str, number: int) -> Union[str, int]:
     names = [topology.devices[number].name] if thing == "device" and number < len(topology.devices) else []
     names += [topology.links[number].name] if thing == "link" and number < len(topology.links) else []
     return names[0] if names else number
+
+
+def _part(told: Told, one: Judged) -> Dict[str, Any]:
+    """A part of a lineage: what it allows, in picoseconds, and what was seen."""
+    part = one.part
+    judged = {"allowed": one.allowed, "seen": one.seen, "honest": one.is_honest}
+    if isinstance(part, Set):
+        return {"part": part.word, "line": part.line, "device": told.device(part.device), **judged}
+    if isinstance(part, Came):
+        ends = {"sender": told.device(part.flight.sender), "device": told.device(part.flight.receiver)}
+        return {"part": "came", "line": part.line, **ends, "link": told.link(part.flight), "least": one.least, **judged}
+    return {"part": "held", "line": part.end.line, "since": part.begin.line, "device": told.device(part.device), **judged}
 
 
 def _derived(line: OutputLine, event: Event) -> Dict[str, Any]:

@@ -21,6 +21,8 @@ def main(words: List[str]) -> int:
     options = _parser().parse_args(words)
     if options.plan and not (options.topology and options.schedule):
         raise ToolError("--plan needs --topology and --schedule")
+    if options.lineage and not options.plan:
+        raise ToolError("--lineage needs --plan, once for each plan")
     with contextlib.ExitStack() as stack:
         progress = stack.enter_context(Progress("sundial-lines"))
         schedule = _behind(stack, options.schedule, progress)
@@ -28,7 +30,7 @@ def main(words: List[str]) -> int:
         file, source = _output(stack, options.output_of_sundial)
         output = _Counted(file, progress)
         topology, plans = _inputs(options, output.first)
-        events = Events(schedule, topology, plans, options.schedule) if schedule is not None else None
+        events = Events(schedule, topology, plans, options.schedule, options.lineage) if schedule is not None else None
         text = stack.enter_context(output_of(options.output, options.follow))
         row = csv_row(text) if options.csv else json_row(text, options.strings)
         Converter(topology, events, exchanges, options.command).convert(output, source, row)
@@ -103,6 +105,7 @@ def _parser() -> argparse.ArgumentParser:
         "--plan", "-p", action="append", default=[], metavar="PLAN",
         help="a plan, in the order of the command: says who broke each premise; needs topology and schedule",
     )
+    parser.add_argument("--lineage", action="store_true", help="gives each report its lineage: which clocks and links it rests on; needs plans")
     parser.add_argument("--exchanges", "-e", help="gives a refused line of exchanges its text")
     parser.add_argument("--command", choices=sorted(DONE), help="the command, where only a done line was printed")
     parser.add_argument("--csv", action="store_true", help="CSV instead of JSON lines")

@@ -19,7 +19,7 @@ _REFUSED = ("plan", "rule", "domain.kind", "domain.name", "at.kind", "at.name", 
 _REPLAY = (
     "kind", "line", *_EVENT, "device", "other", "premise", "clock", "eps", "off", "inside", "stamp", "begin", "events",
     "reports", "begun", "ended", "disorders", "reason", "text", *_REFUSED, "who.devices", "who.links", "who.allowed",
-    "who.seen", "who.text",
+    "who.seen", "who.text", "lineage.devices", "lineage.links", "lineage.honest", "lineage.text",
 )
 # Columns by the kind of the first line. A dot goes into an object.
 _COLUMNS: Dict[str, Tuple[str, ...]] = {
@@ -64,7 +64,7 @@ def _strings(value: Any) -> Any:
 
 
 def csv_row(text: TextIO) -> Callable[[str, Fields], None]:
-    """Lists become names separated by spaces. The first row names the columns."""
+    """Lists become names separated by spaces; the parts of a lineage are in its text. The first row names the columns."""
     table = csv.writer(text, lineterminator="\n")
     columns: Optional[Tuple[str, ...]] = None
 
@@ -87,6 +87,8 @@ def _flat(fields: Fields) -> Fields:
     for key, value in fields.items():
         if isinstance(value, dict):
             cells.update((f"{key}.{inner}", cell) for inner, cell in _flat(value).items())
+        elif key == "parts":
+            continue
         elif isinstance(value, bool):
             cells[key] = "true" if value else "false"
         else:

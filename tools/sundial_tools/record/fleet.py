@@ -64,6 +64,28 @@ class JudgedFleet:
         self.happens(said)
         return said
 
+    def usual(self, event: LogEvent, ref: int, counter: int) -> str:
+        """The line of a tick, an ask or a receipt that nothing refuses, which then happens; or "" for all others.
+
+        It is `apply` for nearly all events, in a third of its time: `apply` looks anew at what this leaves.
+        """
+        word, device = event.word, event.device
+        if device not in self.fleet.up or counter < self._counters[device]:
+            return ""
+        if word == "recv":
+            message = self.book.find((device, event.link, event.epoch, event.stamp))
+            if message is None:
+                return ""
+            self._counters[device] = counter
+            self.fleet.receive(ref, device, counter, message)
+            return f"recv {ref} {device} {counter} {message}\n"
+        self._counters[device] = counter
+        if word == "tick":
+            self.fleet.tick(ref, device, counter)
+        else:
+            self.fleet.passes(ref)
+        return f"{word} {ref} {device} {counter}\n"
+
     def happens(self, event: Event) -> None:
         """The event of the schedule was accepted."""
         self.fleet.happen(event)

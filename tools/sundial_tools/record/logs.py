@@ -5,9 +5,10 @@ from __future__ import annotations
 import json
 import sys
 from decimal import Context, Decimal
-from typing import Any, Callable, Dict, Iterator, NamedTuple, Optional, TextIO, Tuple
+from typing import Any, Callable, Dict, Iterator, List, NamedTuple, Optional, TextIO, Tuple
 
 from sundial_tools.errors import ToolError
+from sundial_tools.record.shapes import Shape, Unit, shape_of
 from sundial_tools.schedule import FIELDS
 from sundial_tools.times import PICOSECONDS
 from sundial_tools.topology import Topology
@@ -24,10 +25,7 @@ DECODER = json.JSONDecoder(parse_float=Decimal)
 # The reader behind it, which does not look for spaces before and behind.
 SCAN: "Callable[[str, int], Tuple[Any, int]]" = getattr(DECODER, "scan_once")
 MOST_DIGITS = 40
-MOST_USUAL = 10**30
-MOST_SHAPES = 64
-# The key of a time, and its picoseconds.
-Unit = Tuple[str, int]
+MOST_SHAPES = 8
 UNITS: Dict[str, Tuple[Unit, ...]] = {
     stem: tuple((f"{stem}_{unit}", factor) for unit, factor in PICOSECONDS.items())
     for stem in ("reference", "counter", "clock", "eps")
@@ -72,17 +70,18 @@ class Log:
 
     def __init__(self, path: str, topology: Topology) -> None:
         self._path = "standard input" if path == "-" else path
-        self._topology = topology
-        # Where lines with certain keys have their reference and their counter: a log has few kinds of lines.
-        self._shapes: Dict[Tuple[str, ...], Tuple[Unit, Unit]] = {}
+        self._devices, self._links = topology.device_numbers, topology.link_numbers
+        # The forms of ticks, asks and receipts that were read: a log has few.
+        self._shapes: List[Shape] = []
 
     def __iter__(self) -> Iterator[LogEvent]:
         before: Optional[LogEvent] = None
+        read = self._event
         with self._open() as lines:
             for number, text in enumerate(lines, 1):
                 if text.isspace():
                     continue
-                event = self._event(text, number)
+                event = read(text, number)
                 if before is not None and event.ref < before.ref:
                     raise event.refuse(
                         f"out of order: its reference is {before.ref - event.ref} ps before that of line {before.line}"
@@ -97,6 +96,34 @@ class Log:
         return ToolError(reason, self._path, line)
 
     def _event(self, text: str, line: int) -> LogEvent:
+        # (a third of the time of sundial-record is here: as few calls as there can be, and a tuple in place of the class,
+        # whose call takes twice the time)
+        for word, match, places, (ref_unit, counter_unit), digits, has_parts, _ in self._shapes:
+            found = match(text)
+            if found is None:
+                continue
+            said = found.group(*places)
+            device = self._devices.get(said[0])
+            ref, counter = int(said[1]) * ref_unit, int(said[2]) * counter_unit
+            if has_parts:
+                ref += int(said[-2].ljust(digits[0], "0")) if said[-2] else 0
+                counter += int(said[-1].ljust(digits[1], "0")) if said[-1] else 0
+            if word == "recv":
+                link = self._links.get(said[3])
+                if device is None or link is None:
+                    break
+                return tuple.__new__(LogEvent, (
+                    word, ref, device, counter, None, None, link, int(said[4]), (int(said[5]), int(said[6])), "", NONE,
+                    self._path, line,
+                ))
+            if device is None:
+                break
+            return tuple.__new__(LogEvent, (
+                word, ref, device, counter, None, None, NONE, NONE, NO_STAMP, "", NONE, self._path, line
+            ))
+        return self._decoded_event(text, line)
+
+    def _decoded_event(self, text: str, line: int) -> LogEvent:
         try:
             said = _decoded(text)
         except json.JSONDecodeError as fault:
@@ -109,7 +136,7 @@ class Log:
         if not isinstance(word, str) or word not in FIELDS:
             raise self._refuse(f"event is {word!r}, and has to be one of {', '.join(FIELDS)}", line)
         if word in USUAL:
-            return self._usual_event(said, word, line)
+            return self._usual_event(text, said, word, line)
         times = TIMES[word]
         device, link = self._names(said, word, line)
         epoch, stamp = self._message(said, word, line) if word == "lose" else (NONE, NO_STAMP)
@@ -125,31 +152,20 @@ class Log:
             link, epoch, stamp, thing, number, self._path, line,
         )
 
-    def _usual_event(self, said: Dict[str, Any], word: str, line: int) -> LogEvent:
-        """A tick, an ask or a receipt, as nearly all lines are."""
-        device = self._number(said, "device", self._topology.device_numbers, line)
+    def _usual_event(self, text: str, said: Dict[str, Any], word: str, line: int) -> LogEvent:
+        """A tick, an ask or a receipt, as nearly all lines are. Its form is learned."""
+        device = self._number(said, "device", self._devices, line)
         link, epoch, stamp = NONE, NONE, NO_STAMP
         if word == "recv":
-            link = self._number(said, "link", self._topology.link_numbers, line)
+            link = self._number(said, "link", self._links, line)
             epoch, stamp = self._message(said, word, line)
-        ref, counter = self._reference_and_counter(said, line)
-        # (made as a tuple, since the call of the class takes twice the time)
-        return tuple.__new__(
-            LogEvent, (word, ref, device, counter, None, None, link, epoch, stamp, "", NONE, self._path, line)
-        )
-
-    def _reference_and_counter(self, said: Dict[str, Any], line: int) -> Tuple[int, int]:
-        keys = tuple(said)
-        shape = self._shapes.get(keys)
-        if shape is not None:
-            (ref_key, ref_factor), (counter_key, counter_factor) = shape
-            ref, counter = said[ref_key], said[counter_key]
-            if type(ref) is type(counter) is int and ref <= MOST_USUAL and counter <= MOST_USUAL:
-                return ref * ref_factor, counter * counter_factor
         ref, counter = self._time(said, "reference", line), self._time(said, "counter", line)
         if len(self._shapes) < MOST_SHAPES:
-            self._shapes[keys] = self._unit(said, "reference", line), self._unit(said, "counter", line)
-        return ref, counter
+            shape = shape_of(text, word, self._unit(said, "reference", line), self._unit(said, "counter", line))
+            # (a form that is known already did not match this line: its numbers are unusual)
+            if shape is not None and all(known.pattern != shape.pattern for known in self._shapes):
+                self._shapes.append(shape)
+        return LogEvent(word, ref, device, counter, None, None, link, epoch, stamp, "", NONE, self._path, line)
 
     def _names(self, said: Dict[str, Any], word: str, line: int) -> Tuple[int, int]:
         """The numbers of the device and of the link that the line names."""
@@ -157,9 +173,9 @@ class Log:
         if word in OF_A_THING and ("device" in said) == ("link" in said):
             raise self._refuse(f"{word} needs either a device or a link", line)
         if word in OF_A_DEVICE or (word in OF_A_THING and "device" in said):
-            device = self._number(said, "device", self._topology.device_numbers, line)
+            device = self._number(said, "device", self._devices, line)
         if word == "lose" or (word in OF_A_THING and "link" in said):
-            link = self._number(said, "link", self._topology.link_numbers, line)
+            link = self._number(said, "link", self._links, line)
         return device, link
 
     def _number(self, said: Dict[str, Any], kind: str, numbers: Dict[str, int], line: int) -> int:

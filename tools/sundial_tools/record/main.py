@@ -15,6 +15,8 @@ from sundial_tools.safe_write import FOLLOW, OUTPUT, Progress, output_of
 from sundial_tools.times import picoseconds
 from sundial_tools.topology import read_topology
 
+LINES_AT_ONCE = 1024
+
 
 def main(words: List[str]) -> int:
     options = _parser().parse_args(words)
@@ -23,7 +25,8 @@ def main(words: List[str]) -> int:
     _allow_files(len(options.logs))
     with output_of(options.output, options.follow) as text, Progress("sundial-record") as progress:
         recorder = Recorder(
-            topology, plans, text, options.origin, options.counters == "life", not options.no_losses, progress.step
+            topology, plans, text, options.origin, options.counters == "life", not options.no_losses, progress.step,
+            1 if options.follow else LINES_AT_ONCE,
         )
         recorder.record(Log(path, topology) for path in options.logs)
     print(

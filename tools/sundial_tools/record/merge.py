@@ -34,7 +34,7 @@ class Merge:
         self._message_of = message_of
         self._heads: List[Head] = []
         for place in range(len(self._logs)):
-            self._advance(place)
+            self._pass_on(place, True)
 
     def first_reference(self) -> Optional[int]:
         return self._heads[0][0] if self._heads else None
@@ -45,21 +45,27 @@ class Merge:
         """Offers each event until all are accepted. One that cannot come is given to `refused`, which raises or passes it over."""
         aside: List[Head] = []
         first_refusal = Refusal()
-        while self._heads:
-            head = self._next()
+        heads = self._heads
+        while heads:
+            head = heads[0]
+            is_taken = head[1] == RECEIPT and self._is_shared(head)
+            if is_taken:
+                head = self._least_receipt()
             refusal = offer(head[4])
             if refusal is None:
-                self._advance(head[3])
+                self._pass_on(head[3], is_taken)
                 if aside:
                     self._put_back(aside)
                 continue
+            if not is_taken:
+                heapq.heappop(heads)
             if not aside:
                 first_refusal = refusal
             aside.append(head)
-            if not self._heads or self._heads[0][0] != head[0]:
+            if not heads or heads[0][0] != head[0]:
                 first = aside.pop(0)
                 refused(first[-1], first_refusal)
-                self._advance(first[3])
+                self._pass_on(first[3], True)
                 self._put_back(aside)
 
     def _put_back(self, aside: List[Head]) -> None:
@@ -67,18 +73,29 @@ class Merge:
             heapq.heappush(self._heads, waiting)
         aside.clear()
 
-    def _advance(self, place: int) -> None:
+    def _pass_on(self, place: int, is_taken: bool) -> None:
+        """The next event of a log, in place of its head, which is the first one still or is taken out already."""
         event = next(self._logs[place], None)
-        if event is not None:
-            heapq.heappush(self._heads, (event.ref, RANKS[event.word], event.device, place, event))
+        if event is None:
+            if not is_taken:
+                heapq.heappop(self._heads)
+            return
+        head = event.ref, RANKS[event.word], event.device, place, event
+        if is_taken:
+            heapq.heappush(self._heads, head)
+        else:
+            heapq.heapreplace(self._heads, head)
 
-    def _next(self) -> Head:
-        """The first head; of several receipts at one reference the one with the least message."""
-        head = heapq.heappop(self._heads)
-        if head[1] != RECEIPT or not self._heads or self._heads[0][:2] != head[:2]:
-            return head
-        same = [head]
-        while self._heads and self._heads[0][:2] == head[:2]:
+    def _is_shared(self, head: Head) -> bool:
+        """Whether another receipt has the reference of the first head, which is a receipt."""
+        heads, first = self._heads, head[:2]
+        return len(heads) > 1 and (heads[1][:2] == first or (len(heads) > 2 and heads[2][:2] == first))
+
+    def _least_receipt(self) -> Head:
+        """Takes out the receipt with the least message, of those at the first reference."""
+        first = self._heads[0][:2]
+        same: List[Head] = []
+        while self._heads and self._heads[0][:2] == first:
             same.append(heapq.heappop(self._heads))
         numbers = [(self._message_of(one[-1]) or 1 << 62, place) for place, one in enumerate(same)]
         chosen = same.pop(min(numbers)[1])

@@ -2,12 +2,12 @@
 
 from __future__ import annotations
 
-from typing import Callable, Dict, Iterable, Optional, Sequence, TextIO
+from typing import Callable, Dict, Iterable, List, Optional, Sequence, TextIO
 
 from sundial_tools.errors import ToolError
 from sundial_tools.plan import Plan
 from sundial_tools.record.fleet import JudgedFleet, Refusal
-from sundial_tools.record.logs import LogEvent
+from sundial_tools.record.logs import USUAL, LogEvent
 from sundial_tools.record.merge import Merge
 from sundial_tools.schedule import MOST_NUMBER, Event, event_line
 from sundial_tools.topology import Topology
@@ -24,15 +24,18 @@ def origin_before(reference: int) -> int:
 class Recorder:
     """Writes the schedule. `origin` is picoseconds, or None for the one before the first reference.
 
-    With `from_life` each counter counts from the latest start or join of its device.
+    With `from_life` each counter counts from the latest start or join of its device. Up to `most_waiting` lines are
+    written at once, and then counted.
     """
 
     def __init__(
         self, topology: Topology, plans: Sequence[Plan], text: TextIO, origin: Optional[int], from_life: bool,
-        with_losses: bool, counted: Callable[[], None],
+        with_losses: bool, counted: Callable[[int], None], most_waiting: int = 1,
     ) -> None:
         self._fleet = JudgedFleet(topology, plans)
         self._text, self._from_life, self._with_losses, self._counted = text, from_life, with_losses, counted
+        self._waiting: List[str] = []
+        self._most_waiting = most_waiting
         self._bases: Dict[int, int] = {}
         self._last: Optional[int] = None
         self._ended = False
@@ -46,9 +49,34 @@ class Recorder:
         if first is None:
             raise ToolError("the logs have no event")
         self.origin = origin_before(first) if self._given_origin is None else self._given_origin
-        merge.drive(self._offer)
+        merge.drive(self._usual)
         if not self._ended:
             self._say(Event("end", self._last or 0))
+        self._write_waiting()
+
+    def _usual(self, event: LogEvent) -> Optional[Refusal]:
+        """Offers an event: a tick, an ask or a receipt that nothing refuses in a short way, and every other by `_offer`."""
+        counter = event.counter
+        if event.word not in USUAL or counter is None or self._ended:
+            return self._offer(event)
+        ref = event.ref - self.origin
+        if not 0 <= ref <= MOST_NUMBER:
+            return self._offer(event)
+        if self._fleet.book.earliest < ref:
+            self._lose_before(ref)
+        if self._from_life:
+            counter -= self._bases.get(event.device, counter)
+        is_within = 0 <= counter <= MOST_NUMBER and self.events < MOST_EVENTS
+        line = self._fleet.usual(event, ref, counter) if is_within else ""
+        if not line:
+            return self._offer(event)
+        self._last = ref
+        self.events += 1
+        waiting = self._waiting
+        waiting.append(line)
+        if len(waiting) >= self._most_waiting:
+            self._write_waiting()
+        return None
 
     def _offer(self, event: LogEvent) -> Optional[Refusal]:
         if self._ended:
@@ -69,7 +97,6 @@ class Recorder:
         if event.word in ("start", "join"):
             self._bases[event.device] = event.counter or 0
         self._last, self._ended = ref, event.word == "end"
-        self._counted()
         self._say(answer)
         return None
 
@@ -107,5 +134,16 @@ class Recorder:
     def _say(self, event: Event) -> None:
         if self.events == MOST_EVENTS:
             raise ToolError(f"the logs have more than {MOST_EVENTS} events, which is as many as a schedule may have")
-        self._text.write(event_line(event))
+        self._write(event_line(event))
         self.events += 1
+
+    def _write(self, line: str) -> None:
+        """Writes a line now, or with many others."""
+        self._waiting.append(line)
+        if len(self._waiting) >= self._most_waiting:
+            self._write_waiting()
+
+    def _write_waiting(self) -> None:
+        self._text.write("".join(self._waiting))
+        self._counted(len(self._waiting))
+        self._waiting.clear()

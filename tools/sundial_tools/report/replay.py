@@ -6,6 +6,7 @@ from dataclasses import dataclass, field
 from typing import Dict, Iterable, Iterator, List, NamedTuple, Optional, Sequence, Tuple
 
 from sundial_tools.errors import ToolError
+from sundial_tools.fleet.lineage import Lineages, Reading, Told
 from sundial_tools.fleet.who import Cause, Watch
 from sundial_tools.outputs import OutputLine, read_output
 from sundial_tools.plan import Plan
@@ -66,6 +67,8 @@ class Replay:
     refused_text: str = ""
     causes: List[Tuple[Mark, Cause]] = field(default_factory=list)
     alarms: List[Mark] = field(default_factory=list)
+    # What is not honest in the lineage of a wrong report, by its line.
+    unsound: Dict[int, str] = field(default_factory=dict)
     wrong: int = 0
     tracks: Optional[Tracks] = None
 
@@ -80,7 +83,7 @@ class ReplayReader:
         self._names = [device.name for device in topology.devices]
         self._fleet = Fleet(topology, plans)
         self._watch = Watch(self._fleet) if with_causes else None
-        self._tracks = Tracks(topology)
+        self._tracks, self._lineages = Tracks(topology), Lineages(self._fleet)
         self._replay = Replay(tracks=self._tracks)
         self._lines: Iterator[Tuple[int, OutputLine]] = iter(())
         self._next: Optional[Tuple[int, OutputLine]] = None
@@ -152,6 +155,7 @@ class ReplayReader:
             self._drawn(event, said, happened)
         if happened or event.word not in ("tick", "recv", "ask"):
             self._track(event, happened)
+            self._lineages.after(event, number, happened)
         if happened in LANE_OF:
             closes = event.device is None or happened == "close"
             text = "the window closes" if closes else f"{happened} {self._names[event.device or 0]}"
@@ -248,7 +252,10 @@ class ReplayReader:
         clock, eps = line.fields["clock"], line.fields["eps"]
         if said != (clock, eps):
             raise self._wrong(f"the report is not that of these plans and this schedule: {said} was expected")
-        report = Report(number, event.device, event.ref, clock, eps)
+        lineage = self._lineages.held(event.device, Reading(number, event.ref, event.counter or 0))
+        report = Report(number, event.device, event.ref, clock, eps, lineage)
+        if report.is_wrong and lineage is not None and self._replay.wrong < MOST_MARKS:
+            self._replay.unsound[number] = Told(self._topology, lineage).unsound()
         self._replay.wrong += report.is_wrong
         self._replay.reports.add(report)
         self._replay.percentiles.setdefault(event.device, Percentiles()).add(eps)

@@ -4,6 +4,7 @@ from __future__ import annotations
 
 from typing import List
 
+from sundial_tools.fleet.lineage import Told
 from sundial_tools.report.markup import Raw, element, folded, joined
 from sundial_tools.report.replay import LANES
 from sundial_tools.report.replay_view import ReplayView
@@ -95,13 +96,23 @@ def reports_table(view: ReplayView) -> Raw:
     rows: List[List[Cell]] = [
         [
             str(report.line), (refs.texts[place], report.ref), view.name(report.device), (clocks.texts[place], report.clock),
-            (eps.texts[place], report.eps), (off.texts[place], abs(report.off)), _share(report),
+            (eps.texts[place], report.eps), (off.texts[place], abs(report.off)), _share(report), _lineage(view, report),
         ]
         for place, report in enumerate(worst)
     ]
     caption = f"Reports: {view.replay.reports.count}" + (f", {len(rows)} of them" if len(rows) < view.replay.reports.count else "")
-    head = ("line", f"reference, {refs.unit}", "device", f"clock, {clocks.unit}", f"eps, {eps.unit}", f"off, {off.unit}", "of its eps")
+    head = ("line", f"reference, {refs.unit}", "device", f"clock, {clocks.unit}", f"eps, {eps.unit}", f"off, {off.unit}", "of its eps", "rests on")
     return folded(f"{caption}, the worst first", table("reports", head, rows))
+
+
+def _lineage(view: ReplayView, report: Report) -> Cell:
+    """The clocks and links on which the interval rests, and behind them each part of the lineage in words."""
+    if report.lineage is None:
+        return ""
+    told = Told(view.topology, report.lineage)
+    names = ", ".join(told.devices) + (f" over {', '.join(told.links)}" if told.links else "")
+    caption = names if told.is_honest else f"{names}: not honest"
+    return folded(caption, element("ol", [element("li", readable(text)) for text in told.texts()]), class_="lineage")
 
 
 def spans_table(view: ReplayView) -> Raw:

@@ -5,6 +5,8 @@ from __future__ import annotations
 from collections import Counter
 from typing import Dict, List, NamedTuple, Optional
 
+from sundial_tools.fleet.lineage import Lineage
+
 MOST_INTERVALS = 360
 MOST_REPORTS = 3000
 MOST_VALUES = 4096
@@ -57,13 +59,14 @@ def _joined(first: Optional[Interval], second: Optional[Interval]) -> Optional[I
 
 
 class Report(NamedTuple):
-    """A printed report: the line and the reference of its ask, and what the device said, in picoseconds."""
+    """A printed report: the line and the reference of its ask, what the device said, in picoseconds, and on what it rests."""
 
     line: int
     device: int
     ref: int
     clock: int
     eps: int
+    lineage: Optional[Lineage] = None
 
     @property
     def off(self) -> int:
@@ -91,7 +94,7 @@ class Reports:
     def kept(self) -> List[Report]:
         if self._kept > MOST_REPORTS:
             self._halve()
-        return sorted(report for reports in self.of.values() for report in reports)
+        return sorted((report for reports in self.of.values() for report in reports), key=lambda report: report.line)
 
     def _halve(self) -> None:
         before = self._kept

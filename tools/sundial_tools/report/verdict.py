@@ -122,7 +122,9 @@ def _facts(replay: Replay) -> List[Fact]:
         found.append((mark.line, place, Fact(_where(mark), f"line-{mark.line}", mark.text, MEANS[cause.premise], f"{readable(cause.text)}.")))
     for place, mark in enumerate(_first_alarms(replay.alarms), len(found)):
         kind = mark.text.split(" ")[2]
-        found.append((mark.line, place, Fact(_where(mark), f"line-{mark.line}", mark.text, ALARM_MEANS[kind], "")))
+        unsound = replay.unsound.get(mark.line, "") if kind == "interval" else ""
+        who = f"Not honest in its lineage: {readable(unsound)}." if unsound else ""
+        found.append((mark.line, place, Fact(_where(mark), f"line-{mark.line}", mark.text, ALARM_MEANS[kind], who)))
     return [fact for *_, fact in sorted(found, key=lambda one: one[:2])]
 
 

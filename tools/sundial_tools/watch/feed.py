@@ -82,7 +82,7 @@ class Feed(Recorder):
     KEPT = ("_bases", "_last", "_ended", "_given_origin", "origin", "events", "losses")
 
     def __init__(self, topology: Topology, plans: Sequence[Plan], origin: Optional[int], from_life: bool, hooks: Hooks) -> None:
-        super().__init__(topology, plans, cast(Any, None), origin, from_life, True, lambda: None)
+        super().__init__(topology, plans, cast(Any, None), origin, from_life, True, lambda _: None)
         self.fleet = self._fleet = Watched(topology, plans, hooks)
 
     @property

@@ -67,6 +67,12 @@ search_left marks stack = 2 * count_by is_new marks + length stack
 abbrev pub NoneNewer : List Mark → List Mark → Type 0
 NoneNewer before after = (d : ℕ) → mark_at after d ≡ mark.New → mark_at before d ≡ mark.New
 
+-- a step of the search: devices only cease to be new, and less of it is left
+pub record HasStepped (net : Network) (plan : Plan) (f : DomainId) (old new : Recoveries) : Type 0 where
+  pub searched : IsSearch net plan f new.marks.items new.stack.items
+  pub newer : NoneNewer old.marks.items new.marks.items
+  pub left : search_left new.marks.items new.stack.items < search_left old.marks.items old.stack.items
+
 -- there is a mark for each device
 pub record HasRoom (net : Network) (recoveries : Recoveries) : Type 0 where
   pub marks : length recoveries.marks.items ≡ length net.devices

@@ -35,7 +35,7 @@ impl Recoveries {
     ghost use Rattle.sd_topo.specs.Topologies.{network};
     ghost use Rattle.sd_drill.specs.recovery.Recoveries.{IsRecovery};
     ghost use Rattle.sd_drill.specs.recovery.Searches as searches;
-    ghost use Rattle.sd_drill.specs.recovery.Searches.{HasRoom, IsReadyFor, IsSearch, Leads, NoneNewer, mark_at, search_left, stacked_at};
+    ghost use Rattle.sd_drill.specs.recovery.Searches.{HasRoom, HasStepped, IsReadyFor, IsSearch, Leads, NoneNewer, mark_at, stacked_at};
     ghost use Rattle.sd_drill.specs.declared.recovery.marks.Mark.TheVariants as mark;
 
     /// Room for the devices of a topology.
@@ -68,13 +68,9 @@ impl Recoveries {
         requires led { (k : ℕ) → k + 1 ≡ length self.old.stack.items
             → Leads (net_of outage.now) (plan_of outage.now) outage.now.domain
             (stacked_at self.old.stack.items k) next }
-        ensures searched { OnOk result
-            (IsSearch (net_of outage.now) (plan_of outage.now) outage.now.domain
-            self.new.marks.items self.new.stack.items) }
-        ensures newer { OnOk result (NoneNewer self.old.marks.items self.new.marks.items) }
-        ensures left { OnOk result
-            (search_left self.new.marks.items self.new.stack.items < search_left
-            self.old.marks.items self.old.stack.items) }
+        ensures stepped { OnOk result
+            (HasStepped (net_of outage.now) (plan_of outage.now) outage.now.domain self.old
+            self.new) }
         ensures entered { OnOk result (mark_at self.new.marks.items next ≡ mark.Entered) }
         ensures size { length self.new.marks.items ≡ length self.old.marks.items }
     {
@@ -94,11 +90,8 @@ impl Recoveries {
         requires some { 0 < length self.old.stack.items }
         requires recovery { IsRecovery (net_of outage.now) (plan_of outage.now) outage.now.domain
             top recovery }
-        ensures searched { IsSearch (net_of outage.now) (plan_of outage.now) outage.now.domain
-            self.new.marks.items self.new.stack.items }
-        ensures newer { NoneNewer self.old.marks.items self.new.marks.items }
-        ensures left { search_left self.new.marks.items self.new.stack.items < search_left
-            self.old.marks.items self.old.stack.items }
+        ensures stepped { HasStepped (net_of outage.now) (plan_of outage.now) outage.now.domain
+            self.old self.new }
         ensures size { length self.new.marks.items ≡ length self.old.marks.items }
     {
         self.marks[top as usize] = Mark::Settled(recovery);
@@ -113,13 +106,9 @@ impl Recoveries {
         requires top { (k : ℕ) → k + 1 ≡ length self.old.stack.items
             → stacked_at self.old.stack.items k ≡ top }
         requires some { 0 < length self.old.stack.items }
-        ensures searched { OnOk result
-            (IsSearch (net_of outage.now) (plan_of outage.now) outage.now.domain
-            self.new.marks.items self.new.stack.items) }
-        ensures newer { OnOk result (NoneNewer self.old.marks.items self.new.marks.items) }
-        ensures left { OnOk result
-            (search_left self.new.marks.items self.new.stack.items < search_left
-            self.old.marks.items self.old.stack.items) }
+        ensures stepped { OnOk result
+            (HasStepped (net_of outage.now) (plan_of outage.now) outage.now.domain self.old
+            self.new) }
         ensures size { length self.new.marks.items ≡ length self.old.marks.items }
     {
         let hops = hops_of(outage, top);

@@ -3,9 +3,10 @@ use Rattle.std.specs.Prelude.{◌≡◌, ℕ, ◌+◌, ◌<◌, ◌≤◌, Bool,
 use Rattle.std.specs.List.{list_any}
 use Rattle.std.specs.Option.{option_or}
 use Rattle.std.proofs.Common.{arith, sym, subst, inl, inr}
-use Rattle.std.proofs.lemmas.Bool.{eq-eqb, ne_eqb, cases_eq, cases_Bool}
+use Rattle.std.proofs.lemmas.Bool.{eq-eqb, eqb-true, ne_eqb, cases_eq, cases_Bool}
 use Rattle.sd_core.specs.Msg.declared.Flight.{Flight}
 use Rattle.sd_core.specs.Msg.Books.{has_number, AreNumbered}
+use Rattle.sd_sched.proofs.Num.Firsts.{find_passes}
 use Rattle.sd_core.proofs.Msg.Numbered.{numbered_filter}
 use Rattle.sd_core.proofs.Msg.Finding.{beyond}
 use Rattle.sd_history.proofs.Among.{Among, first, later}
@@ -50,6 +51,10 @@ finds n (g ∷ fs) f is (later a) =
     let past = within (n + 1) fs f is.1 a in
     let number : g.number ≡ n = is.0 in
     rw (ne_eqb g.number f.number (λ same. omega (arith, past.0))) (finds (n + 1) fs f is.1 a)
+
+-- what is found by a number has it
+pub found_number : (n : ℕ) (fs : List Flight) (f : Flight) → find (has_number n) fs ≡ Some f → f.number ≡ n
+found_number n fs f is = eqb-true f.number n (find_passes (has_number n) fs f is)
 
 -- a number above all is not found
 pub past_all : (floor top n : ℕ) (fs : List Flight) → AreNumbered floor top fs → top < n → (find (has_number n) fs ≡ None) × (floor ≤ top)

@@ -75,7 +75,7 @@ named_message setting steps e n none past = go (message_of e) (none_holds (cause
         ne_eqb m n (λ same. omega arith)
 
 -- a number that was not given was not used
-unused : (setting : Setting) (steps : List Step) (n : ℕ) → AreSteps setting steps → flight_count steps < n → was_used steps n ≡ false
+pub unused : (setting : Setting) (steps : List Step) (n : ℕ) → AreSteps setting steps → flight_count steps < n → was_used steps n ≡ false
 unused setting [] n is past = refl
 unused setting (s ∷ earlier) n is past =
     let all = counted s earlier in

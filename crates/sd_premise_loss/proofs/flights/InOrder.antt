@@ -6,7 +6,7 @@ use Rattle.std.specs.List.Sorted.{IsNonDecreasingBy}
 use Rattle.std.proofs.lemmas.Bool.{cases_eq, cases_lt, eq-eqb, ne_eqb}
 use Rattle.std.proofs.lemmas.List.Elements.{All-head, All-tail}
 use Rattle.std.proofs.lemmas.Option.{same_Some}
-use Rattle.sd_msg.specs.declared.Flight.{Flight}
+use Rattle.sd_premise_loss.specs.declared.flights.WaitingFlight.{WaitingFlight}
 use Rattle.sd_premise_loss.specs.declared.flights.orderly.Entry.{Entry}
 use Rattle.sd_premise_loss.specs.flights.OrderlyKept.{waits_at, IsBefore, AreInOrder}
 
@@ -29,10 +29,10 @@ rises es h i j d order within = by (cases_eq i j)
     by (inl same) = subst (λ k. number_at es i d ≤ number_at es k d) same (omega arith)
     by (inr other) = let apart = h i j d (omega (arith, other)) within in omega (arith, apart.0)
 
--- A flight behind all others
+-- A flight after all others
 
 -- the last is before it, and so are those before the last
-pub before_all : (es : List Entry) (i : ℕ) (last : Entry) (f : Flight) → AreInOrder es → i + 1 ≡ length es → ((d : Entry) → last ≡ get_or es i d)
+pub before_all : (es : List Entry) (i : ℕ) (last : Entry) (f : WaitingFlight) → AreInOrder es → i + 1 ≡ length es → ((d : Entry) → last ≡ get_or es i d)
     → IsBefore last.flight f → All (λ e. IsBefore e.flight f) es
 before_all es i last f h ends is before k d within = by (cases_lt k i)
   where
@@ -44,7 +44,7 @@ before_all es i last f h ends is before k d within = by (cases_lt k i)
     by (inr late) = let same : i ≡ k = omega (arith, within, late, ends) in subst (λ j. IsBefore (get_or es j d).flight f) same is_before
 
 -- an entry whose number another does not have, where that one's flight is put in or taken out
-passed : (n m : ℕ) (e : Entry) (new old put : Option Flight) → (e.flight.number ≡ n → m ≡ n → ⊥) → new ≡ cond (nat_eq m n) put old
+passed : (n m : ℕ) (e : Entry) (new old put : Option WaitingFlight) → (e.flight.number ≡ n → m ≡ n → ⊥) → new ≡ cond (nat_eq m n) put old
     → cond (nat_eq e.flight.number n && e.waits) (Some e.flight) new ≡ cond (nat_eq m n) put (cond (nat_eq e.flight.number n && e.waits) (Some e.flight) old)
 passed n m e new old put other is = by (cases_eq e.flight.number n)
   where
@@ -58,7 +58,7 @@ passed n m e new old put other is = by (cases_eq e.flight.number n)
     by (inr apart) = rw (ne_eqb e.flight.number n apart) is
 
 -- so it is found
-pub pushed : (n : ℕ) (es : List Entry) (f : Flight) → All (λ e. IsBefore e.flight f) es
+pub pushed : (n : ℕ) (es : List Entry) (f : WaitingFlight) → All (λ e. IsBefore e.flight f) es
     → waits_at (es ++ record { flight = f; waits = true } ∷ []) n ≡ cond (nat_eq f.number n) (Some f) (waits_at es n)
 pushed n [] f before = by (nat_eq f.number n)
   where
@@ -85,14 +85,14 @@ absent_out n m es others = by (cases_eq m n)
     by (inl same) = rw (eq-eqb m n same) (subst (λ k. waits_at es k ≡ None) same (absent m es others))
     by (inr other) = rw (ne_eqb m n other) refl
 
--- behind the entry with a number there is no other
-behind : (n : ℕ) (e : Entry) (es : List Entry) → AreInOrder (e ∷ es) → e.flight.number ≡ n → waits_at es n ≡ None
-behind n e es h here =
+-- after the entry with a number there is no other
+none_after : (n : ℕ) (e : Entry) (es : List Entry) → AreInOrder (e ∷ es) → e.flight.number ≡ n → waits_at es n ≡ None
+none_after n e es h here =
     absent n es (λ k d within same.
     let apart = h zero (suc k) d (omega arith) (omega (arith, within)) in
     omega (arith, apart.0, here, same))
 
--- all before the place have smaller numbers, the one at the place has a greater one, and so have those behind it
+-- all before the place have smaller numbers, the one at the place has a greater one, and so have those after it
 pub none_there : (n : ℕ) (es : List Entry) (i : ℕ) (e : Entry) → AreInOrder es → ((k : ℕ) (d : Entry) → k < i → number_at es k d < n)
     → ((k : ℕ) (d : Entry) → i ≤ k → k < length es → n ≤ number_at es k d) → i < length es → ((d : Entry) → e ≡ get_or es i d) → (e.flight.number ≡ n → ⊥)
     → All (λ g. g.flight.number ≡ n → ⊥) es
@@ -106,7 +106,7 @@ none_there n es i e h before after inside is other k d within same = by (cases_l
         other (ap (λ (g : Entry). g.flight.number) (is d) ∙ omega (arith, low, high, same))
 
 -- the flight of an entry, where it waits
-abbrev pub waiting_of : Entry → Option Flight
+abbrev pub waiting_of : Entry → Option WaitingFlight
 waiting_of e = cond e.waits (Some e.flight) None
 
 -- the entry at the place has the number
@@ -116,7 +116,7 @@ at_place n (e ∷ es) zero d h within here = rw (eq-eqb e.flight.number n here) 
   where
     by : (b : Bool) → cond b (Some e.flight) (waits_at es n) ≡ cond b (Some e.flight) None
     by true = refl
-    by false = behind n e es h here
+    by false = none_after n e es h here
 at_place n (e ∷ es) (suc i) d h within here =
     let apart = h zero (suc i) d (omega arith) within in
     rw (ne_eqb e.flight.number n (λ same. omega (arith, apart.0, here, same))) (at_place n es i d (rest e es h) (omega (arith, within)) here)
@@ -141,7 +141,7 @@ struck_out n [] i e h within is = absurd (omega (arith, within))
 struck_out n (g ∷ es) zero e h within is = rw is (by (cases_eq g.flight.number n))
   where
     by : (g.flight.number ≡ n) ⊎ (g.flight.number ≡ n → ⊥) → waits_at (struck g ∷ es) n ≡ cond (nat_eq g.flight.number n) None (waits_at (g ∷ es) n)
-    by (inl same) = rw (eq-eqb g.flight.number n same) (behind n g es h same)
+    by (inl same) = rw (eq-eqb g.flight.number n same) (none_after n g es h same)
     by (inr other) = rw (ne_eqb g.flight.number n other) refl
 struck_out n (g ∷ es) (suc i) e h within is =
     let apart = h zero (suc i) e (omega arith) within in
@@ -165,17 +165,17 @@ pub without_waiting : (n : ℕ) (e : Entry) (es : List Entry) → AreInOrder (e 
 without_waiting n e es h = by (cases_eq e.flight.number n)
   where
     by : (e.flight.number ≡ n) ⊎ (e.flight.number ≡ n → ⊥) → waits_at es n ≡ cond (nat_eq e.flight.number n) None (waits_at (e ∷ es) n)
-    by (inl same) = rw (eq-eqb e.flight.number n same) (behind n e es h same)
+    by (inl same) = rw (eq-eqb e.flight.number n same) (none_after n e es h same)
     by (inr other) = rw (ne_eqb e.flight.number n other) refl
 
 -- where it is due at the reference or later, so is each that waits
-pub late : (reference n : ℕ) (f : Flight) (es : List Entry) → All (λ e. reference ≤ e.flight.due) es → waits_at es n ≡ Some f → reference ≤ f.due
+pub late : (reference n : ℕ) (f : WaitingFlight) (es : List Entry) → All (λ e. reference ≤ e.flight.due) es → waits_at es n ≡ Some f → reference ≤ f.due
 late reference n f [] each at = cc
 late reference n f (e ∷ es) each at =
     by (nat_eq e.flight.number n && e.waits) (late reference n f es (All-tail (λ (g : Entry). reference ≤ g.flight.due) e es each)) at
   where
     by : (b : Bool) → (waits_at es n ≡ Some f → reference ≤ f.due) → cond b (Some e.flight) (waits_at es n) ≡ Some f → reference ≤ f.due
-    by true others this = subst (λ (g : Flight). reference ≤ g.due) (same_Some e.flight f this) (All-head (λ (g : Entry). reference ≤ g.flight.due) e es each)
+    by true others this = subst (λ (g : WaitingFlight). reference ≤ g.due) (same_Some e.flight f this) (All-head (λ (g : Entry). reference ≤ g.flight.due) e es each)
     by false others that = others that
 
 pub all_late : (reference : ℕ) (es : List Entry) → AreInOrder es → ((d : Entry) → 0 < length es → reference ≤ (get_or es 0 d).flight.due)

@@ -7,52 +7,52 @@ use Rattle.std.proofs.lemmas.List.Sorted.{list_any-IsPermutation}
 use Rattle.std.proofs.lemmas.Option.{same_Some, none-some}
 use Rattle.std.proofs.lemmas.List.Elements.{All-head, All-tail}
 use Rattle.std.proofs.lemmas.Bool.{cases_eq, eq-eqb, ne_eqb, eqb-true, or_left, or_right, or_cases, and_parts, and_from}
-use Rattle.sd_msg.specs.declared.Flight.{Flight}
+use Rattle.sd_premise_loss.specs.declared.flights.WaitingFlight.{WaitingFlight}
 use Rattle.sd_premise_loss.specs.flights.UnorderedKept.{Entry, entry, is_entry_of, AreListed}
 
-own_entry : (f : Flight) → is_entry_of f (entry f.due f.number) ≡ true
+own_entry : (f : WaitingFlight) → is_entry_of f (entry f.due f.number) ≡ true
 own_entry f = and_from (nat_eq f.due f.due) (nat_eq f.number f.number) (eq-eqb f.due f.due refl) (eq-eqb f.number f.number refl)
 
 -- a flight more, with its entry
-pub listed_more : (old new : ℕ → Option Flight) (xs ys : List Entry) (f : Flight) → AreListed old xs
+pub listed_more : (old new : ℕ → Option WaitingFlight) (xs ys : List Entry) (f : WaitingFlight) → AreListed old xs
     → ((n : ℕ) → new n ≡ cond (nat_eq f.number n) (Some f) (old n))
     → IsPermutation (entry f.due f.number ∷ xs) ys → AreListed new ys
 listed_more old new xs ys f h is same =
     record { numbered = λ n g at. by_number n g (cases_eq f.number n) at; listed = λ n g at. moved g (in_longer n g (cases_eq f.number n) at) }
   where
-    here : (n : ℕ) (g : Flight) → f.number ≡ n → new n ≡ Some g → f ≡ g
+    here : (n : ℕ) (g : WaitingFlight) → f.number ≡ n → new n ≡ Some g → f ≡ g
     here n g this at = let is_f : new n ≡ Some f = is n ∙ rw (eq-eqb f.number n this) refl in same_Some f g (sym is_f ∙ at)
 
-    there : (n : ℕ) (g : Flight) → (f.number ≡ n → ⊥) → new n ≡ Some g → old n ≡ Some g
+    there : (n : ℕ) (g : WaitingFlight) → (f.number ≡ n → ⊥) → new n ≡ Some g → old n ≡ Some g
     there n g other at = sym (is n ∙ rw (ne_eqb f.number n other) refl) ∙ at
 
-    by_number : (n : ℕ) (g : Flight) → (f.number ≡ n) ⊎ (f.number ≡ n → ⊥) → new n ≡ Some g → g.number ≡ n
-    by_number n g (inl this) at = sym (ap (λ (k : Flight). k.number) (here n g this at)) ∙ this
+    by_number : (n : ℕ) (g : WaitingFlight) → (f.number ≡ n) ⊎ (f.number ≡ n → ⊥) → new n ≡ Some g → g.number ≡ n
+    by_number n g (inl this) at = sym (ap (λ (k : WaitingFlight). k.number) (here n g this at)) ∙ this
     by_number n g (inr other) at = h.numbered n g (there n g other at)
 
-    in_longer : (n : ℕ) (g : Flight) → (f.number ≡ n) ⊎ (f.number ≡ n → ⊥) → new n ≡ Some g → list_any (is_entry_of g) (entry f.due f.number ∷ xs) ≡ true
+    in_longer : (n : ℕ) (g : WaitingFlight) → (f.number ≡ n) ⊎ (f.number ≡ n → ⊥) → new n ≡ Some g → list_any (is_entry_of g) (entry f.due f.number ∷ xs) ≡ true
     in_longer n g (inl this) at =
         or_left (is_entry_of g (entry f.due f.number)) (list_any (is_entry_of g) xs)
-        (subst (λ (k : Flight). is_entry_of k (entry f.due f.number) ≡ true) (here n g this at) (own_entry f))
+        (subst (λ (k : WaitingFlight). is_entry_of k (entry f.due f.number) ≡ true) (here n g this at) (own_entry f))
     in_longer n g (inr other) at = or_right (is_entry_of g (entry f.due f.number)) (list_any (is_entry_of g) xs) (h.listed n g (there n g other at))
 
-    moved : (g : Flight) → list_any (is_entry_of g) (entry f.due f.number ∷ xs) ≡ true → list_any (is_entry_of g) ys ≡ true
+    moved : (g : WaitingFlight) → list_any (is_entry_of g) (entry f.due f.number ∷ xs) ≡ true → list_any (is_entry_of g) ys ≡ true
     moved g in_it = sym (list_any-IsPermutation (is_entry_of g) (entry f.due f.number ∷ xs) ys same) ∙ in_it
 
 -- an entry less, which is that of no flight any more
-pub listed_less : (old new : ℕ → Option Flight) (xs ys : List Entry) (due number : ℕ) → AreListed old xs
-    → ((n : ℕ) (f : Flight) → new n ≡ Some f → old n ≡ Some f)
-    → ((f : Flight) → new number ≡ Some f → f.due ≡ due → ⊥) → IsPermutation xs (entry due number ∷ ys) → AreListed new ys
+pub listed_less : (old new : ℕ → Option WaitingFlight) (xs ys : List Entry) (due number : ℕ) → AreListed old xs
+    → ((n : ℕ) (f : WaitingFlight) → new n ≡ Some f → old n ≡ Some f)
+    → ((f : WaitingFlight) → new number ≡ Some f → f.due ≡ due → ⊥) → IsPermutation xs (entry due number ∷ ys) → AreListed new ys
 listed_less old new xs ys due number h fewer gone same =
     record {
       numbered = λ n f at. h.numbered n f (fewer n f at);
       listed = λ n f at. left n f at (or_cases (is_entry_of f (entry due number)) (list_any (is_entry_of f) ys) (moved f (h.listed n f (fewer n f at))));
     }
   where
-    moved : (f : Flight) → list_any (is_entry_of f) xs ≡ true → list_any (is_entry_of f) (entry due number ∷ ys) ≡ true
+    moved : (f : WaitingFlight) → list_any (is_entry_of f) xs ≡ true → list_any (is_entry_of f) (entry due number ∷ ys) ≡ true
     moved f in_it = sym (list_any-IsPermutation (is_entry_of f) xs (entry due number ∷ ys) same) ∙ in_it
 
-    left : (n : ℕ) (f : Flight) → new n ≡ Some f → (is_entry_of f (entry due number) ≡ true) ⊎ (list_any (is_entry_of f) ys ≡ true)
+    left : (n : ℕ) (f : WaitingFlight) → new n ≡ Some f → (is_entry_of f (entry due number) ≡ true) ⊎ (list_any (is_entry_of f) ys ≡ true)
         → list_any (is_entry_of f) ys ≡ true
     left n f at (inr rest) = rest
     left n f at (inl its) =
@@ -61,9 +61,9 @@ listed_less old new xs ys due number h fewer gone same =
         absurd (gone f (subst (λ (k : ℕ). new k ≡ Some f) (sym this) at) (sym (eqb-true due f.due parts.0)))
 
 -- an entry before the reference is popped, and its flight taken out where its due lies before the reference
-pub listed_taken : (old new : ℕ → Option Flight) (xs ys : List Entry) (due number reference : ℕ) (result : Option Flight) → AreListed old xs → due < reference
+pub listed_taken : (old new : ℕ → Option WaitingFlight) (xs ys : List Entry) (due number reference : ℕ) (result : Option WaitingFlight) → AreListed old xs → due < reference
     → IsPermutation xs (entry due number ∷ ys)
-    → ((n : ℕ) → new n ≡ cond (is_some result && nat_eq number n) None (old n)) → IfNone result ((f : Flight) → old number ≡ Some f → reference ≤ f.due)
+    → ((n : ℕ) → new n ≡ cond (is_some result && nat_eq number n) None (old n)) → IfNone result ((f : WaitingFlight) → old number ≡ Some f → reference ≤ f.due)
     → AreListed new ys
 listed_taken old new xs ys due number reference None h early same is none =
     listed_less old new xs ys due number h (λ n f at. sym (is n) ∙ at) (λ f at is_due. let late : reference ≤ f.due = none f (sym (is number) ∙ at) in
@@ -71,14 +71,14 @@ listed_taken old new xs ys due number reference None h early same is none =
 listed_taken old new xs ys due number reference (Some taken) h early same is none =
     listed_less old new xs ys due number h (λ n f at. fewer n f (cases_eq number n) at) (λ f at is_due. nothing f at) same
   where
-    fewer : (n : ℕ) (f : Flight) → (number ≡ n) ⊎ (number ≡ n → ⊥) → new n ≡ Some f → old n ≡ Some f
+    fewer : (n : ℕ) (f : WaitingFlight) → (number ≡ n) ⊎ (number ≡ n → ⊥) → new n ≡ Some f → old n ≡ Some f
     fewer n f (inl this) at = let empty : new n ≡ None = is n ∙ rw (eq-eqb number n this) refl in absurd (none-some f (sym empty ∙ at))
     fewer n f (inr other) at = sym (is n ∙ rw (ne_eqb number n other) refl) ∙ at
 
-    nothing : (f : Flight) → new number ≡ Some f → ⊥
+    nothing : (f : WaitingFlight) → new number ≡ Some f → ⊥
     nothing f at = let empty : new number ≡ None = is number ∙ rw (eq-eqb number number refl) refl in none-some f (sym empty ∙ at)
 
-late_entry : (reference : ℕ) (f : Flight) (xs : List Entry) → list_any (is_entry_of f) xs ≡ true → All (λ e. reference ≤ e.0.0) xs → reference ≤ f.due
+late_entry : (reference : ℕ) (f : WaitingFlight) (xs : List Entry) → list_any (is_entry_of f) xs ≡ true → All (λ e. reference ≤ e.0.0) xs → reference ≤ f.due
 late_entry reference f [] in_it each = cc
 late_entry reference f (e ∷ xs) in_it each =
     by_case (or_cases (is_entry_of f e) (list_any (is_entry_of f) xs) in_it)
@@ -92,6 +92,6 @@ late_entry reference f (e ∷ xs) in_it each =
     by_case (inr rest) others = others rest
 
 -- where no entry lies before the reference, no flight is overdue
-pub none_overdue : (flights : ℕ → Option Flight) (xs : List Entry) (reference : ℕ) → AreListed flights xs → All (λ e. reference ≤ e.0.0) xs
-    → (n : ℕ) (f : Flight) → flights n ≡ Some f → reference ≤ f.due
+pub none_overdue : (flights : ℕ → Option WaitingFlight) (xs : List Entry) (reference : ℕ) → AreListed flights xs → All (λ e. reference ≤ e.0.0) xs
+    → (n : ℕ) (f : WaitingFlight) → flights n ≡ Some f → reference ≤ f.due
 none_overdue flights xs reference h each n f at = late_entry reference f xs (h.listed n f at) each

@@ -9,6 +9,7 @@ use Rattle.sd_msg.specs.declared.Flight.{Flight}
 use Rattle.sd_history.specs.World.{Setting, Seen, fails}
 use Rattle.sd_history.specs.Premises.{reaching_flights, seen_since_sending, was_interrupted}
 use Rattle.sd_premise_loss.specs.rounds.Order.{last_sent, IsInOrder}
+use Rattle.sd_premise_loss.specs.flights.Kept.{kept_of}
 use Rattle.sd_premise_loss.specs.flights.Interrupted.{is_interrupted}
 use Rattle.sd_premise_loss.specs.rounds.Loss.{mark_in}
 use Rattle.sd_premise_loss.proofs.rounds.InOrder.{last_sent_more, le_greatest, sent_above, has_sent, has_not_sent}
@@ -59,7 +60,7 @@ any_either p q (s ∷ xs) = ap (λ b. (p s || q s) || b) (any_either p q xs) ∙
 
 -- a flight was interrupted where it is cut by these numbers
 pub was_interrupted_by : (setting : Setting) (seen : List Seen) (f : Flight) → IsInOrder setting seen → Contains (reaching_flights seen) f
-    → was_interrupted seen f ≡ is_interrupted (mark_in seen) f
+    → was_interrupted seen f ≡ is_interrupted (mark_in seen) (kept_of f)
 was_interrupted_by setting seen f order sent =
     let since = seen_since_sending seen f.number in
     let by : Thing → Seen → Bool = λ x s. fails x s.event in

@@ -6,20 +6,20 @@ use Rattle.sd_num.proofs.Shared.{same_from_both, and_true}
 use Rattle.sd_topo.specs.declared.Thing.{Thing}
 use Rattle.sd_topo.specs.declared.Thing.TheVariants as thing
 use Rattle.sd_history.specs.Domain.Things.{same_thing}
-use Rattle.sd_msg.specs.declared.Flight.{Flight}
+use Rattle.sd_premise_loss.specs.declared.flights.WaitingFlight.{WaitingFlight}
 use Rattle.sd_sched.specs.declared.Event.{Event}
 use Rattle.sd_sched.specs.declared.Event.TheVariants.{FailDevice, FailLink}
 use Rattle.sd_sched.specs.Events.{reference_of}
 use Rattle.sd_history.specs.Things.{failure_of}
 use Rattle.sd_history.specs.World.{Setting, Seen, fails}
 use Rattle.sd_history.specs.Refusals.{unknown_device, unknown_link}
-use Rattle.sd_history.specs.Premises.{loss_holds}
+use Rattle.sd_history.specs.Premises.{loss_holds, is_round}
 use Rattle.sd_history.specs.Rounds.{is_spoiled}
 use Rattle.sd_premise_loss.specs.declared.flights.interruptions.Interruptions.{Interruptions}
 use Rattle.sd_premise_loss.specs.rounds.Order.{last_sent, Follows, IsInOrder}
 use Rattle.sd_premise_loss.specs.flights.Interrupted.{is_interrupted}
 use Rattle.sd_premise_loss.specs.flights.Runs.{HasLongRun}
-use Rattle.sd_premise_loss.specs.rounds.Loss.{AreWaiting, mark_in, is_round_of, IsLost, HasOnlyLost, AddsLost}
+use Rattle.sd_premise_loss.specs.rounds.Loss.{AreWaiting, mark_in, IsLost, HasOnlyLost, AddsLost}
 use Rattle.sd_premise_loss.specs.flights.InterruptionsView.{mark_of, last_number, device_places, link_places, has_place}
 use Rattle.sd_premise_loss.proofs.rounds.InOrder.{device_known, link_known}
 use Rattle.sd_premise_loss.proofs.flights.LongRuns.{long_kept}
@@ -61,25 +61,25 @@ mark_next setting earlier s old new follows devices links last marked is x =
     ∙ ap (λ n. cond (fails x s.event) n (mark_of old x)) last ∙ ap (cond (fails x s.event) (last_sent earlier)) (marked x)
 
 -- equal marks interrupt the same flights
-interrupted_same : (f : Flight) (marks other : Thing → ℕ) → ((x : Thing) → marks x ≡ other x) → is_interrupted marks f ≡ is_interrupted other f
+interrupted_same : (f : WaitingFlight) (marks other : Thing → ℕ) → ((x : Thing) → marks x ≡ other x) → is_interrupted marks f ≡ is_interrupted other f
 interrupted_same f marks other same = rw (same (thing.Device f.sender), same (thing.Device f.receiver), same (thing.Link f.link)) refl
 
-lost_same : (left : ℕ → Option Flight) (marks other : Thing → ℕ) (reference : ℕ) (f : Flight) → ((x : Thing) → marks x ≡ other x)
+lost_same : (left : ℕ → Option WaitingFlight) (marks other : Thing → ℕ) (reference : ℕ) (f : WaitingFlight) → ((x : Thing) → marks x ≡ other x)
     → IsLost left marks reference f → IsLost left other reference f
 lost_same left marks other reference f same lost =
     record { waits = lost.waits; overdue = lost.overdue; whole = sym (interrupted_same f marks other same) ∙ lost.whole }
 
 -- Spoiled rounds
 
-same_stamp : (f : Flight) (t r : ℕ) (rounds : ℕ → ℕ → Bool) → is_round_of f t r ≡ true → rounds f.message.stamp.term f.message.stamp.round ≡ true
+same_stamp : (f : WaitingFlight) (t r : ℕ) (rounds : ℕ → ℕ → Bool) → is_round f.stamp t r ≡ true → rounds f.stamp.term f.stamp.round ≡ true
     → rounds t r ≡ true
 same_stamp f t r rounds of_round there =
-    let parts = and_parts (nat_eq f.message.stamp.term t) (nat_eq f.message.stamp.round r) of_round in
-    subst (λ (n : ℕ). rounds t n ≡ true) (eqb-true f.message.stamp.round r parts.1)
-    (subst (λ (n : ℕ). rounds n f.message.stamp.round ≡ true) (eqb-true f.message.stamp.term t parts.0) there)
+    let parts = and_parts (nat_eq f.stamp.term t) (nat_eq f.stamp.round r) of_round in
+    subst (λ (n : ℕ). rounds t n ≡ true) (eqb-true f.stamp.round r parts.1)
+    (subst (λ (n : ℕ). rounds n f.stamp.round ≡ true) (eqb-true f.stamp.term t parts.0) there)
 
 module _ (setting : Setting) (earlier : List Seen) (s : Seen) (order : IsInOrder setting earlier) (follows : Follows setting earlier s)
-    (was left : ℕ → Option Flight) (waiting : AreWaiting earlier was)
+    (was left : ℕ → Option WaitingFlight) (waiting : AreWaiting earlier was)
     (received : LeavesTaken s was left)
     (marks : Thing → ℕ) (marked : (x : Thing) → marks x ≡ mark_in (s ∷ earlier) x)
     (old new : ℕ → ℕ → Bool) (spoiled : (t r : ℕ) → old t r ≡ is_spoiled earlier t r) (only : HasOnlyLost left marks (reference_of s.event) old new) where
@@ -87,7 +87,7 @@ module _ (setting : Setting) (earlier : List Seen) (s : Seen) (order : IsInOrder
   new_is_spoiled : (t r : ℕ) → new t r ≡ true → is_spoiled (s ∷ earlier) t r ≡ true
   new_is_spoiled t r there = by_case (only t r there)
     where
-      by_case : (old t r ≡ true) ⊎ ((f : Flight) × IsLost left marks (reference_of s.event) f × (is_round_of f t r ≡ true))
+      by_case : (old t r ≡ true) ⊎ ((f : WaitingFlight) × IsLost left marks (reference_of s.event) f × (is_round f.stamp t r ≡ true))
           → is_spoiled (s ∷ earlier) t r ≡ true
       by_case (inl before) = spoiled_still s earlier t r (sym (spoiled t r) ∙ before)
       by_case (inr (f, lost, of_round)) =
@@ -100,7 +100,7 @@ module _ (setting : Setting) (earlier : List Seen) (s : Seen) (order : IsInOrder
       same_from_both (new t r) (is_spoiled (s ∷ earlier) t r) (new_is_spoiled t r)
       (λ is. by_case (spoiled_only setting earlier s order follows was left waiting received t r is))
     where
-      by_case : (is_spoiled earlier t r ≡ true) ⊎ ((f : Flight) × IsLost left (mark_in (s ∷ earlier)) (reference_of s.event) f × (is_round_of f t r ≡ true))
+      by_case : (is_spoiled earlier t r ≡ true) ⊎ ((f : WaitingFlight) × IsLost left (mark_in (s ∷ earlier)) (reference_of s.event) f × (is_round f.stamp t r ≡ true))
           → new t r ≡ true
       by_case (inl before) = adds.kept t r (spoiled t r ∙ before)
       by_case (inr (f, lost, of_round)) =

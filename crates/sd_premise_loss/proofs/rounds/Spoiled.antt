@@ -1,20 +1,28 @@
 -- Which rounds are spoiled after one more event.
-use Rattle.std.proofs.Common.{◌≡◌, ℕ, zero, suc, Bool, true, false, cond, ◌||◌, ◌&&◌, not, List, [], ◌∷◌, map, filter, Option, None, nat_lt, ◌⊎◌, inl, inr, refl, sym, ◌∙◌, ap, subst, arith}
+use Rattle.std.proofs.Common.{◌≡◌, ℕ, zero, suc, ◌<◌, Bool, true, false, cond, ◌||◌, ◌&&◌, not, List, [], ◌∷◌, map, filter, Option, None, nat_lt, ◌⊎◌, inl, inr, refl, sym, ◌∙◌, ap, subst, arith}
 use Rattle.std.specs.List.{Contains, list_any}
 use Rattle.std.proofs.lemmas.Bool.{or_left, or_right, or_parts, or_cases, or_from, and_parts, and_from, not-true, not_from_false, ltb-true, lt-ltb, both_ways}
 use Rattle.std.proofs.lemmas.List.Elements.{Contains-append_cases, Contains-append_right}
 use Rattle.sd_msg.specs.declared.Flight.{Flight}
+use Rattle.sd_num.specs.Lists.{same_number}
 use Rattle.sd_sched.specs.Events.{reference_of}
 use Rattle.sd_history.specs.World.{Setting, Seen}
 use Rattle.sd_history.specs.Premises.{reaching_flights, is_overdue, was_received, was_interrupted, spoils, is_round}
 use Rattle.sd_history.proofs.Shared.{spoiled_is_overdue, stays_spoiled}
 use Rattle.sd_history.specs.Rounds.{is_spoiled}
 use Rattle.sd_premise_loss.specs.rounds.Order.{Follows, IsInOrder}
-use Rattle.sd_premise_loss.specs.rounds.Loss.{Waits, AreWaiting, mark_in, is_round_of, IsLost, HasOnlyLost}
+use Rattle.sd_premise_loss.specs.declared.flights.WaitingFlight.{WaitingFlight}
+use Rattle.sd_premise_loss.specs.flights.Kept.{kept_of}
+use Rattle.sd_premise_loss.specs.flights.Interrupted.{is_interrupted}
+use Rattle.sd_premise_loss.specs.rounds.Loss.{number_taken, Waits, AreWaiting, mark_in, IsLost, HasOnlyLost}
 use Rattle.sd_premise_loss.proofs.rounds.Marks.{was_interrupted_by}
 use Rattle.sd_premise_loss.proofs.rounds.Waits.{LeavesTaken, received_now, left_parts, sent_waits}
 
 -- A spoiled round is that of a flight that was spoiled
+
+-- the round is that of a flight
+abbrev pub is_round_of : Flight → ℕ → ℕ → Bool
+is_round_of f term round = is_round f.message.stamp term round
 
 pub record SpoiledBy (seen : List Seen) (t r : ℕ) : Type 0 where
   pub flight : Flight
@@ -84,11 +92,11 @@ spoiled_still s earlier t r is =
 -- One more event
 
 module _ (setting : Setting) (earlier : List Seen) (s : Seen) (order : IsInOrder setting earlier) (follows : Follows setting earlier s)
-    (was left : ℕ → Option Flight) (waiting : AreWaiting earlier was)
+    (was left : ℕ → Option WaitingFlight) (waiting : AreWaiting earlier was)
     (received : LeavesTaken s was left) where
   -- a flight that was sent before and is not spoiled_is_overdue is spoiled where it is lost
   lost_where : (f : Flight) → Contains (reaching_flights earlier) f → is_overdue earlier f ≡ false → spoils (s ∷ earlier) f ≡ true
-      → IsLost left (mark_in (s ∷ earlier)) (reference_of s.event) f
+      → IsLost left (mark_in (s ∷ earlier)) (reference_of s.event) (kept_of f)
   lost_where f held unsettled spoilt =
       let judged : spoils_now s earlier f ≡ true = subst (λ (b : Bool). cond b (spoils earlier f) (spoils_now s earlier f) ≡ true) unsettled spoilt in
       let outer = and_parts _ _ judged in
@@ -103,24 +111,34 @@ module _ (setting : Setting) (earlier : List Seen) (s : Seen) (order : IsInOrder
       }
 
   -- a lost flight is spoiled with this event
-  lost_spoils : (f : Flight) → IsLost left (mark_in (s ∷ earlier)) (reference_of s.event) f → Contains (reaching_flights earlier) f × (spoils (s ∷ earlier) f ≡ true)
-  lost_spoils f lost =
-      let there = left_parts s was left received f.number f lost.waits in
-      let known = (waiting.found f.number f there.0).1 in
-      let not_received : was_received (s ∷ earlier) f.number ≡ false = or_from _ _ (received_now s f.number ∙ there.1) known.unreceived in
+  lost_spoils : (kept : WaitingFlight) → IsLost left (mark_in (s ∷ earlier)) (reference_of s.event) kept
+      → (f : Flight) × (kept_of f ≡ kept) × Contains (reaching_flights earlier) f × (spoils (s ∷ earlier) f ≡ true)
+  lost_spoils kept lost =
+      let there = left_parts s was left received kept.number kept lost.waits in
+      let known = waiting.found kept.number kept there.0 in
+      let f = known.flight in
+      let overdue = subst (λ (k : WaitingFlight). k.due < reference_of s.event) (sym known.same) lost.overdue in
+      let not_received : was_received (s ∷ earlier) f.number ≡ false =
+      or_from _ _ (received_now s f.number ∙ ap (same_number (number_taken s)) known.number ∙ there.1) known.waits.unreceived in
       let whole : was_interrupted (s ∷ earlier) f ≡ false =
-      was_interrupted_by setting (s ∷ earlier) f (order, follows) (Contains-append_right s.sent (reaching_flights earlier) f known.sent) ∙ lost.whole in
+      was_interrupted_by setting (s ∷ earlier) f (order, follows) (Contains-append_right s.sent (reaching_flights earlier) f known.waits.sent)
+      ∙ ap (is_interrupted (mark_in (s ∷ earlier))) known.same ∙ lost.whole in
       let judged : spoils_now s earlier f ≡ true =
-      and_from _ _ (and_from _ _ (lt-ltb f.due (reference_of s.event) lost.overdue) (not_from_false _ not_received)) (not_from_false _ whole) in
-      (known.sent, subst (λ (b : Bool). cond b (spoils earlier f) (spoils_now s earlier f) ≡ true) (sym known.in_time) judged)
+      and_from _ _ (and_from _ _ (lt-ltb f.due (reference_of s.event) overdue) (not_from_false _ not_received)) (not_from_false _ whole) in
+      (f, known.same, known.waits.sent, subst (λ (b : Bool). cond b (spoils earlier f) (spoils_now s earlier f) ≡ true) (sym known.waits.in_time) judged)
 
   -- so is its round
-  pub lost_round : (f : Flight) (t r : ℕ) → IsLost left (mark_in (s ∷ earlier)) (reference_of s.event) f → is_round_of f t r ≡ true
+  pub lost_round : (kept : WaitingFlight) (t r : ℕ) → IsLost left (mark_in (s ∷ earlier)) (reference_of s.event) kept → is_round kept.stamp t r ≡ true
       → is_spoiled (s ∷ earlier) t r ≡ true
-  lost_round f t r lost of_round =
-      let found = lost_spoils f lost in
+  lost_round kept t r lost of_round =
+      let (f, same, sent, spoilt) = lost_spoils kept lost in
       is_spoiled_by (s ∷ earlier) t r
-      (record { flight = f; sent = Contains-append_right s.sent (reaching_flights earlier) f found.0; spoils_it = found.1; of_round = of_round })
+      (record {
+        flight = f;
+        sent = Contains-append_right s.sent (reaching_flights earlier) f sent;
+        spoils_it = spoilt;
+        of_round = subst (λ (k : WaitingFlight). is_round k.stamp t r ≡ true) (sym same) of_round;
+      })
 
   -- and no other round is spoiled with it
   pub spoiled_only : HasOnlyLost left (mark_in (s ∷ earlier)) (reference_of s.event) (is_spoiled earlier) (is_spoiled (s ∷ earlier))
@@ -130,15 +148,15 @@ module _ (setting : Setting) (earlier : List Seen) (s : Seen) (order : IsInOrder
       by = spoiled_by (s ∷ earlier) t r is
 
       by_settled : Contains (reaching_flights earlier) by.flight → (b : Bool) → is_overdue earlier by.flight ≡ b
-          → (is_spoiled earlier t r ≡ true) ⊎ ((f : Flight) × IsLost left (mark_in (s ∷ earlier)) (reference_of s.event) f × (is_round_of f t r ≡ true))
+          → (is_spoiled earlier t r ≡ true) ⊎ ((f : WaitingFlight) × IsLost left (mark_in (s ∷ earlier)) (reference_of s.event) f × (is_round f.stamp t r ≡ true))
       by_settled held true settled_before =
           let before : spoils earlier by.flight ≡ true =
           subst (λ (b : Bool). cond b (spoils earlier by.flight) (spoils_now s earlier by.flight) ≡ true) settled_before by.spoils_it in
           inl (is_spoiled_by earlier t r (record { flight = by.flight; sent = held; spoils_it = before; of_round = by.of_round }))
-      by_settled held false unsettled = inr (by.flight, lost_where by.flight held unsettled by.spoils_it, by.of_round)
+      by_settled held false unsettled = inr (kept_of by.flight, lost_where by.flight held unsettled by.spoils_it, by.of_round)
 
       by_place : Contains s.sent by.flight ⊎ Contains (reaching_flights earlier) by.flight
-          → (is_spoiled earlier t r ≡ true) ⊎ ((f : Flight) × IsLost left (mark_in (s ∷ earlier)) (reference_of s.event) f × (is_round_of f t r ≡ true))
+          → (is_spoiled earlier t r ≡ true) ⊎ ((f : WaitingFlight) × IsLost left (mark_in (s ∷ earlier)) (reference_of s.event) f × (is_round f.stamp t r ≡ true))
       by_place (inl held) =
           absurd (both_ways (is_overdue (s ∷ earlier) by.flight) (sent_waits setting earlier s order follows by.flight held).in_time
           (spoiled_is_overdue (s ∷ earlier) by.flight by.spoils_it))

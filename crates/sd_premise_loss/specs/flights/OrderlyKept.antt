@@ -2,19 +2,19 @@
 use Rattle.std.specs.Prelude.{ℕ, ◌<◌, ◌≤◌, ◌&&◌, List, [], ◌∷◌, Option, Some, None, nat_eq, if◌then◌else◌}
 use Rattle.std.specs.List.{AllPairs}
 use Rattle.std.proofs.Props.{props}
-use Rattle.sd_msg.specs.declared.Flight.{Flight}
+use Rattle.sd_premise_loss.specs.declared.flights.WaitingFlight.{WaitingFlight}
 use Rattle.sd_premise_loss.specs.declared.flights.orderly.Entry.{Entry}
 
 -- the flight of a number, where it waits
-abbrev pub waits_at : List Entry → ℕ → Option Flight
+abbrev pub waits_at : List Entry → ℕ → Option WaitingFlight
 waits_at [] n = None
 waits_at (e ∷ es) n = if nat_eq e.flight.number n && e.waits then Some e.flight else waits_at es n
 
 -- the one has a lesser number, and is due no later
-abbrev pub IsBefore : Flight → Flight → Type 0
+abbrev pub IsBefore : WaitingFlight → WaitingFlight → Type 0
 IsBefore f g = (f.number < g.number) × (f.due ≤ g.due)
 
--- each flight is before all that stand behind it
+-- each flight is before all that stand after it
 abbrev pub AreInOrder : List Entry → Type 0
 AreInOrder entries = AllPairs (λ x y. IsBefore x.flight y.flight) entries
 

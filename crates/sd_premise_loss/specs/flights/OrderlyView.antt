@@ -2,12 +2,12 @@
 use Rattle.std.specs.Prelude.{ℕ, ◌-◌, Option}
 use Rattle.std.specs.List.{All}
 use Rattle.std.specs.VecDeque.{deque_len, deque_capacity}
-use Rattle.sd_msg.specs.declared.Flight.{Flight}
+use Rattle.sd_premise_loss.specs.declared.flights.WaitingFlight.{WaitingFlight}
 use Rattle.sd_premise_loss.specs.flights.OrderlyKept.{waits_at, IsBefore}
 use Rattle.sd_premise_loss.specs.declared.flights.orderly.Orderly.{Orderly}
 
 -- the flight of a number, where it waits
-abbrev pub orderly_at : Orderly → ℕ → Option Flight
+abbrev pub orderly_at : Orderly → ℕ → Option WaitingFlight
 orderly_at orderly n = waits_at orderly.entries.items n
 
 -- how many are kept, of which some may no longer wait
@@ -19,5 +19,5 @@ abbrev pub orderly_room : Orderly → ℕ
 orderly_room orderly = deque_capacity orderly.entries - deque_len orderly.entries
 
 -- each that is kept is before the flight
-abbrev pub AreBefore : Orderly → Flight → Type 0
+abbrev pub AreBefore : Orderly → WaitingFlight → Type 0
 AreBefore orderly flight = All (λ e. IsBefore e.flight flight) orderly.entries.items

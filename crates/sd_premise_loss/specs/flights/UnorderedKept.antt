@@ -8,14 +8,14 @@ use Rattle.std.specs.Ordering.{nat_cmp, ordering_then}
 use Rattle.std.specs.declared.cmp.Ordering.{Ordering}
 use Rattle.std.specs.declared.cmp.Reverse.{Reverse}
 use Rattle.std.proofs.Props.{props}
-use Rattle.sd_msg.specs.declared.Flight.{Flight}
+use Rattle.sd_premise_loss.specs.declared.flights.WaitingFlight.{WaitingFlight}
 
 -- flights by number
 abbrev pub Flights : Type 0
-Flights = HashMap ℕ Flight (BuildHasherDefault FoldHasher)
+Flights = HashMap ℕ WaitingFlight (BuildHasherDefault FoldHasher)
 
 -- the flight of a number
-abbrev pub flight_in : Flights → ℕ → Option Flight
+abbrev pub flight_in : Flights → ℕ → Option WaitingFlight
 flight_in flights n = get nat_eq flights n
 
 -- a due with a number, the least due first
@@ -31,14 +31,14 @@ abbrev pub by_due : Entry → Entry → Ordering
 by_due x y = ordering_then (nat_cmp y.0.0 x.0.0) (nat_cmp y.0.1 x.0.1)
 
 -- the entry is that of the flight
-abbrev pub is_entry_of : Flight → Entry → Bool
+abbrev pub is_entry_of : WaitingFlight → Entry → Bool
 is_entry_of f e = nat_eq e.0.0 f.due && nat_eq e.0.1 f.number
 
 -- each flight stands under its own number, and its due is among the entries
-pub record AreListed (flights : ℕ → Option Flight) (entries : List Entry) : Type 0 where
-  pub numbered : (n : ℕ) (f : Flight) → flights n ≡ Some f → f.number ≡ n
-  pub listed : (n : ℕ) (f : Flight) → flights n ≡ Some f → list_any (is_entry_of f) entries ≡ true
+pub record AreListed (flights : ℕ → Option WaitingFlight) (entries : List Entry) : Type 0 where
+  pub numbered : (n : ℕ) (f : WaitingFlight) → flights n ≡ Some f → f.number ≡ n
+  pub listed : (n : ℕ) (f : WaitingFlight) → flights n ≡ Some f → list_any (is_entry_of f) entries ≡ true
 
 -- that they are is one fact, however it was shown
-pub AreListed-prop : (flights : ℕ → Option Flight) (entries : List Entry) → IsProp (AreListed flights entries)
+pub AreListed-prop : (flights : ℕ → Option WaitingFlight) (entries : List Entry) → IsProp (AreListed flights entries)
 AreListed-prop flights entries = Prim.hlevel props

@@ -2,12 +2,12 @@
 use Rattle.std.specs.Prelude.{ℕ, ◌-◌, min, Option}
 use Rattle.std.specs.HashMap.{spare, hash_map_len}
 use Rattle.std.specs.BinaryHeap.{heap_len, heap_capacity}
-use Rattle.sd_msg.specs.declared.Flight.{Flight}
+use Rattle.sd_premise_loss.specs.declared.flights.WaitingFlight.{WaitingFlight}
 use Rattle.sd_premise_loss.specs.flights.UnorderedKept.{flight_in}
 use Rattle.sd_premise_loss.specs.declared.flights.unordered.Unordered.{Unordered}
 
 -- the flight of a number, where it waits
-abbrev pub unordered_at : Unordered → ℕ → Option Flight
+abbrev pub unordered_at : Unordered → ℕ → Option WaitingFlight
 unordered_at unordered n = flight_in unordered.flights n
 
 -- how many wait

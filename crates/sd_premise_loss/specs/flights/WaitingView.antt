@@ -1,13 +1,13 @@
 -- What is seen of flights that wait for their receipt.
 use Rattle.std.specs.Prelude.{ℕ, ◌+◌, min, Option}
-use Rattle.sd_msg.specs.declared.Flight.{Flight}
+use Rattle.sd_premise_loss.specs.declared.flights.WaitingFlight.{WaitingFlight}
 use Rattle.sd_premise_loss.specs.flights.WaitingKept.{either_at}
 use Rattle.sd_premise_loss.specs.flights.OrderlyView.{orderly_at, orderly_count, orderly_room}
 use Rattle.sd_premise_loss.specs.flights.UnorderedView.{unordered_at, unordered_count, unordered_room}
 use Rattle.sd_premise_loss.specs.declared.flights.waiting.Waiting.{Waiting}
 
 -- the flight of a number, where it waits
-abbrev pub waiting_at : Waiting → ℕ → Option Flight
+abbrev pub waiting_at : Waiting → ℕ → Option WaitingFlight
 waiting_at waiting n = either_at (orderly_at waiting.orderly) (unordered_at waiting.others) n
 
 -- how many are kept: no fewer than wait

@@ -5,6 +5,8 @@ use Rattle.sd_topo.specs.declared.Thing.{Thing}
 use Rattle.sd_msg.specs.declared.Flight.{Flight}
 use Rattle.sd_history.specs.World.{Seen, fails}
 use Rattle.sd_history.specs.Premises.{reaching_flights, is_overdue, was_received, is_round}
+use Rattle.sd_premise_loss.specs.declared.flights.WaitingFlight.{WaitingFlight}
+use Rattle.sd_premise_loss.specs.flights.Kept.{kept_of}
 use Rattle.sd_premise_loss.specs.flights.Interrupted.{is_interrupted}
 use Rattle.sd_premise_loss.specs.rounds.Order.{last_sent}
 
@@ -20,18 +22,25 @@ pub record Waits (seen : List Seen) (f : Flight) : Type 0 where
   pub in_time : is_overdue seen f ≡ false
   pub unreceived : was_received seen f.number ≡ false
 
--- under each number stands the flight of that number that waits
-pub record AreWaiting (seen : List Seen) (waiting : ℕ → Option Flight) : Type 0 where
-  pub found : (n : ℕ) (f : Flight) → waiting n ≡ Some f → (f.number ≡ n) × Waits seen f
-  pub all : (f : Flight) → Waits seen f → waiting f.number ≡ Some f
+-- what is kept under a number is that of the flight of this number, which waits
+pub record IsKeptOf (seen : List Seen) (n : ℕ) (kept : WaitingFlight) : Type 0 where
+  pub flight : Flight
+  pub same : kept_of flight ≡ kept
+  pub number : flight.number ≡ n
+  pub waits : Waits seen flight
+
+-- so is all that is kept, and each flight that waits is kept under its number
+pub record AreWaiting (seen : List Seen) (waiting : ℕ → Option WaitingFlight) : Type 0 where
+  pub found : (n : ℕ) (kept : WaitingFlight) → waiting n ≡ Some kept → IsKeptOf seen n kept
+  pub all : (f : Flight) → Waits seen f → waiting f.number ≡ Some (kept_of f)
 
 -- what waits with the flights that are sent
-abbrev pub with_sent : List Flight → (ℕ → Option Flight) → ℕ → Option Flight
+abbrev pub with_sent : List Flight → (ℕ → Option WaitingFlight) → ℕ → Option WaitingFlight
 with_sent [] waiting n = waiting n
-with_sent (f ∷ fs) waiting n = with_sent fs (λ m. if nat_eq f.number m then Some f else waiting m) n
+with_sent (f ∷ fs) waiting n = with_sent fs (λ m. if nat_eq f.number m then Some (kept_of f) else waiting m) n
 
 -- the flight where its due does not lie before the reference
-abbrev pub if_in_time : ℕ → Option Flight → Option Flight
+abbrev pub if_in_time : ℕ → Option WaitingFlight → Option WaitingFlight
 if_in_time reference waiting = map_or waiting None (λ f. if nat_le reference f.due then Some f else None)
 
 -- Interruptions
@@ -44,21 +53,17 @@ mark_in (s ∷ earlier) x = if fails x s.event then last_sent earlier else mark_
 -- Spoiled rounds
 
 -- a waiting flight is overdue at the reference, and was not interrupted
-pub record IsLost (waiting : ℕ → Option Flight) (marks : Thing → ℕ) (reference : ℕ) (f : Flight) : Type 0 where
+pub record IsLost (waiting : ℕ → Option WaitingFlight) (marks : Thing → ℕ) (reference : ℕ) (f : WaitingFlight) : Type 0 where
   pub waits : waiting f.number ≡ Some f
   pub overdue : f.due < reference
   pub whole : is_interrupted marks f ≡ false
 
--- the round is that of a flight
-abbrev pub is_round_of : Flight → ℕ → ℕ → Bool
-is_round_of f term round = is_round f.message.stamp term round
-
 -- what the new rounds are: old ones, and those of lost flights
-abbrev pub HasOnlyLost : (ℕ → Option Flight) → (Thing → ℕ) → ℕ → (ℕ → ℕ → Bool) → (ℕ → ℕ → Bool) → Type 0
+abbrev pub HasOnlyLost : (ℕ → Option WaitingFlight) → (Thing → ℕ) → ℕ → (ℕ → ℕ → Bool) → (ℕ → ℕ → Bool) → Type 0
 HasOnlyLost waiting marks reference old new =
-    (term round : ℕ) → new term round ≡ true → (old term round ≡ true) ⊎ ((f : Flight) × IsLost waiting marks reference f × (is_round_of f term round ≡ true))
+    (term round : ℕ) → new term round ≡ true → (old term round ≡ true) ⊎ ((f : WaitingFlight) × IsLost waiting marks reference f × (is_round f.stamp term round ≡ true))
 
 -- the rounds of all lost flights are added, and none is left out
-pub record AddsLost (waiting : ℕ → Option Flight) (marks : Thing → ℕ) (reference : ℕ) (old new : ℕ → ℕ → Bool) : Type 0 where
+pub record AddsLost (waiting : ℕ → Option WaitingFlight) (marks : Thing → ℕ) (reference : ℕ) (old new : ℕ → ℕ → Bool) : Type 0 where
   pub kept : (term round : ℕ) → old term round ≡ true → new term round ≡ true
-  pub added : (f : Flight) → IsLost waiting marks reference f → new f.message.stamp.term f.message.stamp.round ≡ true
+  pub added : (f : WaitingFlight) → IsLost waiting marks reference f → new f.stamp.term f.stamp.round ≡ true

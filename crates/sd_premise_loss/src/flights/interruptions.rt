@@ -5,7 +5,7 @@ ghost use Rattle.sd_num.specs.Lists.{map_or};
 ghost use Rattle.sd_history.specs.Domain.Things.{same_thing};
 ghost use Rattle.sd_premise_loss.specs.flights.Interrupted.{is_interrupted};
 
-use sd_msg::Flight;
+use crate::flights::WaitingFlight;
 use sd_num::NoMemory;
 use sd_topo::Thing;
 use std::alloc::Global;
@@ -67,7 +67,7 @@ impl Interruptions {
     }
 
     /// Whether a failure of its sender, its receiver or its link interrupted the flight.
-    pub fn interrupted(&self, flight: &Flight) -> bool
+    pub fn interrupted(&self, flight: &WaitingFlight) -> bool
         ensures { result ≡ is_interrupted (mark_of self.now) flight.now }
     {
         flight.number <= at(&self.devices, flight.sender)

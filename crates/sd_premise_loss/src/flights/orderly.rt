@@ -4,7 +4,7 @@ ghost use Rattle.std.specs.VecDeque.{deque_len, deque_capacity};
 ghost use Rattle.sd_num.specs.Lists.{map_or};
 ghost use Rattle.sd_premise_loss.specs.flights.OrderlyKept.{waits_at, AreInOrder, AreInOrder-prop};
 
-use sd_msg::Flight;
+use crate::flights::WaitingFlight;
 use sd_num::NoMemory;
 use std::alloc::Global;
 use std::collections::VecDeque;
@@ -13,7 +13,7 @@ use std::collections::VecDeque;
 /// first.
 #[derive(Clone, Copy)]
 pub(crate) struct Entry {
-    flight: Flight,
+    flight: WaitingFlight,
     waits: bool,
 }
 
@@ -59,8 +59,8 @@ impl Orderly {
         self.entries.len()
     }
 
-    /// Whether the flight may stand behind all others.
-    pub fn is_followed_by(&self, flight: &Flight) -> bool
+    /// Whether the flight may stand after all others.
+    pub fn is_followed_by(&self, flight: &WaitingFlight) -> bool
         ensures { IsTrue result ↔ AreBefore self.now flight.now }
     {
         match self.entries.back() {
@@ -69,8 +69,8 @@ impl Orderly {
         }
     }
 
-    /// Adds a flight behind all others.
-    pub fn add(&mut self, flight: Flight)
+    /// Adds a flight after all others.
+    pub fn add(&mut self, flight: WaitingFlight)
         requires order { AreBefore self.old flight }
         requires room { 1 ≤ orderly_room self.old }
         ensures flights { (n : ℕ)
@@ -107,7 +107,7 @@ impl Orderly {
     /// Whether the first flight lies past its due at the reference: if not, none does that waits.
     #[inline(always)]
     pub fn may_be_overdue(&self, reference: u64) -> bool
-        ensures { result ≡ false → (n : ℕ) (f : Flight) → orderly_at self.now n ≡ Some f
+        ensures { result ≡ false → (n : ℕ) (f : WaitingFlight) → orderly_at self.now n ≡ Some f
             → reference ≤ f.due }
     {
         match self.entries.front() {
@@ -117,14 +117,14 @@ impl Orderly {
     }
 
     /// Takes out a flight whose due lies before the reference, as long as there is one.
-    pub fn next_overdue(&mut self, reference: u64) -> Option<Flight>
+    pub fn next_overdue(&mut self, reference: u64) -> Option<WaitingFlight>
         ensures flight { IfSome result
             (λ f. (orderly_at self.old f.number ≡ Some f) × (f.due < reference)) }
         ensures flights { (n : ℕ)
             → orderly_at self.new n
             ≡ (if map_or result false (λ f. nat_eq f.number n) then None else orderly_at self.old
             n) }
-        ensures none { IfNone result ((n : ℕ) (f : Flight) → orderly_at self.new n ≡ Some f
+        ensures none { IfNone result ((n : ℕ) (f : WaitingFlight) → orderly_at self.new n ≡ Some f
             → reference ≤ f.due) }
         ensures count { orderly_count self.new + (if is_some result then 1 else 0)
             ≤ orderly_count self.old }
@@ -154,7 +154,7 @@ fn place_from(entries: &VecDeque<Entry>, number: u64) -> usize
     entries.partition_point(|entry| entry.flight.number < number)
 }
 
-/// The place of the entry with a number while each number behind the first has its place.
+/// The place of the entry with a number while each number after the first has its place.
 fn place_guessed(entries: &VecDeque<Entry>, number: u64) -> Option<usize>
     ensures place { IfSome result (λ i. i < length entries.now.items) }
     ensures number { IfSome result (λ i. (d : Entry)

@@ -6,7 +6,7 @@ ghost use Rattle.std.specs.List.Sorted.{IsPermutation};
 ghost use Rattle.sd_num.specs.Lists.{map_or};
 ghost use Rattle.sd_premise_loss.specs.flights.UnorderedKept.{flight_in, entry, by_due, AreListed, AreListed-prop};
 
-use sd_msg::Flight;
+use crate::flights::WaitingFlight;
 use sd_num::NoMemory;
 use std::alloc::Global;
 use std::cmp::Reverse;
@@ -16,7 +16,7 @@ use std::collections::{BinaryHeap, HashMap};
 /// stays in the heap until it is the least: so each flight costs one push and one pop.
 #[derive(Drop)]
 pub(crate) struct Unordered {
-    flights: HashMap<u64, Flight>,
+    flights: HashMap<u64, WaitingFlight>,
     /// The due and the number of each flight, and of some that have left.
     dues: BinaryHeap<Reverse<(u64, u64)>>,
     ghost listed: { AreListed (flight_in flights) (heap_items dues) } by { AreListed-prop (flight_in flights) (heap_items dues) },
@@ -62,7 +62,7 @@ impl Unordered {
     }
 
     /// Adds a flight, in place of any of its number.
-    pub fn add(&mut self, flight: Flight)
+    pub fn add(&mut self, flight: WaitingFlight)
         requires { 1 ≤ unordered_room self.old }
         ensures flights { (n : ℕ)
             → unordered_at self.new n
@@ -92,21 +92,21 @@ impl Unordered {
     /// Whether the least due lies before the reference: if not, no flight is overdue.
     #[inline(always)]
     pub fn may_be_overdue(&self, reference: u64) -> bool
-        ensures { result ≡ false → (n : ℕ) (f : Flight) → unordered_at self.now n ≡ Some f
+        ensures { result ≡ false → (n : ℕ) (f : WaitingFlight) → unordered_at self.now n ≡ Some f
             → reference ≤ f.due }
     {
         begin_before(&self.dues, reference)
     }
 
     /// Takes out a flight whose due lies before the reference, as long as there is one.
-    pub fn next_overdue(&mut self, reference: u64) -> Option<Flight>
+    pub fn next_overdue(&mut self, reference: u64) -> Option<WaitingFlight>
         ensures flight { IfSome result
             (λ f. (unordered_at self.old f.number ≡ Some f) × (f.due < reference)) }
         ensures flights { (n : ℕ)
             → unordered_at self.new n
             ≡ (if map_or result false (λ f. nat_eq f.number n) then None else unordered_at self.old
             n) }
-        ensures none { IfNone result ((n : ℕ) (f : Flight) → unordered_at self.new n ≡ Some f
+        ensures none { IfNone result ((n : ℕ) (f : WaitingFlight) → unordered_at self.new n ≡ Some f
             → reference ≤ f.due) }
         ensures count { unordered_count self.new + (if is_some result then 1 else 0)
             ≡ unordered_count self.old }
@@ -122,7 +122,7 @@ impl Unordered {
 }
 
 /// Keeps a flight under its number.
-fn keep(flights: &mut HashMap<u64, Flight>, flight: Flight)
+fn keep(flights: &mut HashMap<u64, WaitingFlight>, flight: WaitingFlight)
     requires { 1 ≤ spare flights.old }
     ensures flights { (n : ℕ)
         → flight_in flights.new n
@@ -184,14 +184,18 @@ fn pop_before(dues: &mut BinaryHeap<Reverse<(u64, u64)>>, reference: u64) -> Opt
 }
 
 /// Takes out the flight of a number, if its due lies before the reference.
-fn take_overdue(flights: &mut HashMap<u64, Flight>, number: u64, reference: u64) -> Option<Flight>
+fn take_overdue(
+    flights: &mut HashMap<u64, WaitingFlight>,
+    number: u64,
+    reference: u64,
+) -> Option<WaitingFlight>
     ensures flight { IfSome result
         (λ f. (flight_in flights.old number ≡ Some f) × (f.due < reference)) }
     ensures flights { (n : ℕ)
         → flight_in flights.new n
         ≡ (if is_some result && nat_eq number n then None else flight_in flights.old n) }
     ensures none { IfNone result
-        ((f : Flight) → flight_in flights.old number ≡ Some f → reference ≤ f.due) }
+        ((f : WaitingFlight) → flight_in flights.old number ≡ Some f → reference ≤ f.due) }
     ensures count { hash_map_len flights.new + (if is_some result then 1 else 0)
         ≡ hash_map_len flights.old }
     ensures room { spare flights.old ≤ spare flights.new }

@@ -5,9 +5,9 @@ ghost use Rattle.sd_premise_loss.specs.flights.OrderlyView.{orderly_at};
 ghost use Rattle.sd_premise_loss.specs.flights.UnorderedView.{unordered_at};
 ghost use Rattle.sd_premise_loss.specs.flights.WaitingKept.{AreApart, AreApart-prop};
 
+use crate::flights::WaitingFlight;
 use crate::flights::orderly::Orderly;
 use crate::flights::unordered::Unordered;
-use sd_msg::Flight;
 use sd_num::NoMemory;
 use std::alloc::Global;
 
@@ -53,7 +53,7 @@ impl Waiting {
     }
 
     /// Adds a flight, in place of any of its number.
-    pub fn add(&mut self, flight: Flight)
+    pub fn add(&mut self, flight: WaitingFlight)
         requires { 1 ≤ room_for self.old }
         ensures flights { (n : ℕ)
             → waiting_at self.new n
@@ -89,21 +89,21 @@ impl Waiting {
     /// one look at each of the two first dues tells.
     #[inline(always)]
     pub fn may_be_overdue(&self, reference: u64) -> bool
-        ensures { result ≡ false → (n : ℕ) (f : Flight) → waiting_at self.now n ≡ Some f
+        ensures { result ≡ false → (n : ℕ) (f : WaitingFlight) → waiting_at self.now n ≡ Some f
             → reference ≤ f.due }
     {
         self.orderly.may_be_overdue(reference) || self.others.may_be_overdue(reference)
     }
 
     /// Takes out a flight whose due lies before the reference, as long as there is one.
-    pub fn next_overdue(&mut self, reference: u64) -> Option<Flight>
+    pub fn next_overdue(&mut self, reference: u64) -> Option<WaitingFlight>
         ensures flight { IfSome result
             (λ f. (waiting_at self.old f.number ≡ Some f) × (f.due < reference)) }
         ensures flights { (n : ℕ)
             → waiting_at self.new n
             ≡ (if map_or result false (λ f. nat_eq f.number n) then None else waiting_at self.old
             n) }
-        ensures none { IfNone result ((n : ℕ) (f : Flight) → waiting_at self.new n ≡ Some f
+        ensures none { IfNone result ((n : ℕ) (f : WaitingFlight) → waiting_at self.new n ≡ Some f
             → reference ≤ f.due) }
         ensures count { count_of self.new + (if is_some result then 1 else 0) ≤ count_of self.old }
         ensures room { room_for self.old ≤ room_for self.new }

@@ -14,12 +14,12 @@ use Rattle.sd_history.specs.Sched.Events.{reference_of}
 use Rattle.sd_history.specs.World.{Setting}
 use Rattle.sd_history.specs.Steps.{Step, acts_in}
 use Rattle.sd_history.specs.Chronicle.{chronicle}
+use Rattle.sd_history.proofs.Among.{any_passing}
 use Rattle.sd_proof_safety.specs.invariant.Bounds.{losses, depth, delay, tick_gap, rounds_gap, first_low, first_up, second_low, second_up, wait_low, IsTimedBy}
 use Rattle.sd_proof_safety.specs.invariant.Eras.{era, plan_now, failed_now, is_among, all_started, is_old, moved, on_primary, path_hit, root_failed, heard_at, moved_at, silent_for}
 use Rattle.sd_proof_safety.specs.invariant.Clauses.{backup_root_acts}
 use Rattle.sd_proof_safety.specs.invariant.Silences.{WholePathHears, root_failed_at}
 use Rattle.sd_proof_safety.specs.invariant.Coming.{IsNextEvent, AtNext}
-use Rattle.sd_proof_safety.proofs.invariant.Prefix.{any_passing}
 use Rattle.sd_proof_safety.proofs.invariant.Sides.{implied, not_both}
 use Rattle.sd_proof_safety.proofs.waits.Waits.{Stands, old_stands}
 use Rattle.sd_proof_safety.specs.behind.Pieces.{SealsSoon, HearsNoMore}

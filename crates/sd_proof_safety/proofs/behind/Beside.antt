@@ -16,15 +16,15 @@ use Rattle.sd_history.specs.Sched.Events.{reference_of}
 use Rattle.sd_history.specs.World.{Setting, plan_numbered}
 use Rattle.sd_history.specs.Steps.{Step, seen_of, acts_in}
 use Rattle.sd_history.specs.Chronicle.{chronicle}
-use Rattle.sd_history.proofs.Among.{first}
+use Rattle.sd_history.proofs.Among.{first, any_passing}
+use Rattle.sd_history.proofs.Filters.{filter_in}
 use Rattle.sd_proof_safety.specs.invariant.Bounds.{losses, depth, delay, tick_gap, first_low, first_up, second_low, second_up, wait_low, IsTimedBy}
 use Rattle.sd_proof_safety.specs.invariant.Eras.{era, plan_now, failed_now, failed_besides_root, is_among, touches, all_started, late, is_old, is_ordinary, is_behind, on_primary, hit_otherwise, root_failed, heard_at, silent_for}
 use Rattle.sd_proof_safety.specs.invariant.Silences.{WholePathHears, TakesOverSoon, BesideWaits, root_failed_at}
 use Rattle.sd_proof_safety.specs.invariant.Coming.{IsNextEvent, AtNext}
 use Rattle.sd_proof_safety.proofs.invariant.Arithmetic.{beside_the_root, silence_is_short, a1}
-use Rattle.sd_proof_safety.proofs.invariant.Prefix.{Passing, some_passing, any_passing}
+use Rattle.sd_proof_safety.proofs.invariant.Prefix.{Passing, some_passing}
 use Rattle.sd_proof_safety.proofs.invariant.Sides.{not_both}
-use Rattle.sd_proof_safety.proofs.invariant.Staying.{filter_in}
 use Rattle.sd_proof_safety.proofs.behind.Failing.{FirstFailure, first_failing, some_failed, none_failed_yet}
 use Rattle.sd_proof_safety.proofs.invariant.CutPaths.{uncut_path}
 use Rattle.sd_proof_safety.proofs.waits.Standing.{Early, sound, leads, lives, heard_late, backup_root_is_old}

@@ -19,13 +19,14 @@ use Rattle.sd_history.specs.Steps.{Step, seen_of, acts_in, epoch_in, has_settled
 use Rattle.sd_history.specs.Chronicle.{chronicle, next_step}
 use Rattle.sd_history.specs.Premises.{failures_since_closing}
 use Rattle.sd_history.proofs.Given.{some_is}
+use Rattle.sd_history.proofs.Among.{any_passing}
 use Rattle.sd_history.proofs.Shared.{epoch_kept}
 use Rattle.sd_proof_safety.specs.invariant.Bounds.{depth, delay, tick_gap, first_up}
 use Rattle.sd_proof_safety.specs.invariant.Eras.{era, plan_now, failed_now, is_among, touches, first_failure, beginning, all_started, late, is_old, moved, on_primary, live_past, moved_at, belongs}
 use Rattle.sd_proof_safety.specs.invariant.Invariant.{Invariant, AtEach}
 use Rattle.sd_proof_safety.specs.invariant.Guarded.{AreGuarded, IsSteady}
 use Rattle.sd_proof_safety.specs.invariant.Coming.{IsNextEvent, AtNext}
-use Rattle.sd_proof_safety.proofs.invariant.Prefix.{Passing, some_passing, any_passing, clean_before}
+use Rattle.sd_proof_safety.proofs.invariant.Prefix.{Passing, some_passing, clean_before}
 use Rattle.sd_proof_safety.proofs.invariant.Sides.{implied}
 use Rattle.sd_proof_safety.specs.timers.Times.{AreTimed}
 use Rattle.sd_proof_safety.proofs.timers.Histories.{timely, timed}

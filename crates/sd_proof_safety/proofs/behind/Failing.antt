@@ -15,7 +15,7 @@ use Rattle.sd_history.specs.World.{Setting, Seen, fails, epoch_in_force}
 use Rattle.sd_history.specs.Steps.{Step, seen_of}
 use Rattle.sd_history.specs.Chronicle.{chronicle, next_step}
 use Rattle.sd_history.specs.Premises.{failures_since_closing}
-use Rattle.sd_history.proofs.Among.{Among}
+use Rattle.sd_history.proofs.Among.{Among, any_passing}
 use Rattle.sd_history.proofs.Given.{some_is}
 use Rattle.sd_history.proofs.Shared.{epoch_kept}
 use Rattle.sd_proof_safety.specs.messages.Moments.{Tail, whole, behind}
@@ -23,7 +23,6 @@ use Rattle.sd_proof_safety.specs.invariant.Eras.{is_among, first_failure}
 use Rattle.sd_proof_safety.specs.invariant.Invariant.{Invariant, AtEach}
 use Rattle.sd_proof_safety.specs.invariant.Guarded.{AreGuarded, IsSteady}
 use Rattle.sd_proof_safety.specs.invariant.Coming.{IsNextEvent}
-use Rattle.sd_proof_safety.proofs.invariant.Prefix.{any_passing}
 use Rattle.sd_proof_safety.proofs.invariant.Sides.{not_both}
 use Rattle.sd_proof_safety.proofs.receipts.Stood.{clean_of}
 

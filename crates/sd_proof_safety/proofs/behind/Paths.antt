@@ -10,9 +10,9 @@ use Rattle.sd_checker.specs.Plan.declared.Hop.{Hop}
 use Rattle.sd_checker.specs.Plan.declared.Plan.{Plan}
 use Rattle.sd_checker.specs.Plan.Plans.{is_root, is_backup_root, primary_of}
 use Rattle.sd_checker.specs.Plan.Walks.{hops, walk, path, epath, things_of, ends_walks, on_walk}
-use Rattle.sd_history.proofs.Among.{Among, first, later}
+use Rattle.sd_history.proofs.Among.{Among, first, later, any_passing}
 use Rattle.sd_proof_safety.specs.invariant.Eras.{is_among, touches}
-use Rattle.sd_proof_safety.proofs.invariant.Prefix.{Passing, some_passing, any_passing}
+use Rattle.sd_proof_safety.proofs.invariant.Prefix.{Passing, some_passing}
 use Rattle.sd_proof_safety.proofs.invariant.Sides.{not_both}
 
 module _ (plan : Plan) (y : Thing) where

@@ -13,12 +13,12 @@ use Rattle.sd_history.specs.Sched.Events.{reference_of}
 use Rattle.sd_history.specs.World.{Setting, is_up}
 use Rattle.sd_history.specs.Steps.{Step, seen_of}
 use Rattle.sd_history.specs.Chronicle.{chronicle}
+use Rattle.sd_history.proofs.Among.{any_passing}
 use Rattle.sd_proof_safety.specs.invariant.Bounds.{losses, depth, delay, tick_gap, wait_low}
 use Rattle.sd_checker.specs.CheckRoot.Timing.{round_gap}
 use Rattle.sd_proof_safety.specs.invariant.Eras.{era, plan_now, failed_now, device_failed_now, is_among, all_started, is_old, is_new, hit, heard_at, silent_for}
 use Rattle.sd_proof_safety.specs.invariant.Silences.{WholePathHears, BehindWaits, TakesOverSoon, BesideWaits}
 use Rattle.sd_proof_safety.specs.invariant.Coming.{IsNextEvent, AtNext}
-use Rattle.sd_proof_safety.proofs.invariant.Prefix.{any_passing}
 use Rattle.sd_proof_safety.proofs.invariant.Sides.{not_both}
 use Rattle.sd_proof_safety.proofs.waits.Waits.{Stands, old_stands}
 use Rattle.sd_proof_safety.specs.behind.Pieces.{HearsNoMore}

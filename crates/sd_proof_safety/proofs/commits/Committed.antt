@@ -16,13 +16,13 @@ use Rattle.sd_history.specs.World.{Setting, has_commit, staged_epoch, is_staged_
 use Rattle.sd_history.specs.Steps.{Step, seen_of, acts_in}
 use Rattle.sd_history.specs.Chronicle.{past_in, chronicle}
 use Rattle.sd_history.proofs.Known.{admitted_up_is_known}
+use Rattle.sd_history.proofs.Among.{any_passing}
 use Rattle.sd_proof_safety.specs.invariant.Bounds.{losses, depth, delay, tick_gap, rounds_gap, first_low, first_up, second_low, second_up, wait_low, IsTimedBy}
 use Rattle.sd_proof_safety.specs.invariant.Clauses.{commit_at, staged_root}
 use Rattle.sd_proof_safety.specs.invariant.Guarded.{IsSteady}
 use Rattle.sd_proof_safety.specs.invariant.Coming.{IsNextEvent, AtNext}
 use Rattle.sd_proof_safety.specs.invariant.Eras.{era, plan_now, failed_now, is_among, device_failed_now, is_old, is_new, is_ordinary, will_belong, hit, root_failed, all_started, beginning, heard_at, silent_for}
 use Rattle.sd_proof_safety.proofs.invariant.Facts.{IsSound}
-use Rattle.sd_proof_safety.proofs.invariant.Prefix.{any_passing}
 use Rattle.sd_proof_safety.proofs.invariant.Sides.{implied, not_both}
 use Rattle.sd_proof_safety.specs.timers.Times.{AreTimed}
 use Rattle.sd_proof_safety.specs.messages.Moments.{Tail, whole, behind, Moment, when, IsIn}

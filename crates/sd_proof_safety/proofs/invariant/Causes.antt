@@ -15,16 +15,17 @@ use Rattle.sd_checker.specs.CheckRoot.Timing.{round_gap}
 use Rattle.sd_checker.proofs.Domain.Within.{same_thing-true}
 use Rattle.sd_history.specs.World.{Setting, is_up, has_commit}
 use Rattle.sd_history.specs.Steps.{Step, seen_of}
-use Rattle.sd_history.proofs.Among.{Among}
+use Rattle.sd_history.proofs.Among.{Among, any_passing}
+use Rattle.sd_history.proofs.Filters.{filter_in}
 use Rattle.sd_proof_safety.specs.invariant.Bounds.{IsTimedBy, losses, depth, delay, tick_gap, first_low, first_up, second_low, second_up, wait_low}
 use Rattle.sd_proof_safety.specs.invariant.Eras.{plan_now, failed_now, failed_besides_root, is_among, touches, is_old, is_new, on_primary, on_backup, is_ordinary, is_behind, hit, hit_otherwise, path_hit, root_failed, heard_at, silent_for, rests_for}
 use Rattle.sd_proof_safety.specs.invariant.Clauses.{backup_root_acts, backup_root_stays, above_backup_root, staged_root}
 use Rattle.sd_proof_safety.specs.invariant.Invariant.{Core}
 use Rattle.sd_proof_safety.specs.invariant.Silences.{WholePathHears, BehindWaits, FallbackHears, BesideWaits, root_leads}
 use Rattle.sd_proof_safety.proofs.invariant.Arithmetic.{a1, a2, a4_first, a4_second, a5}
-use Rattle.sd_proof_safety.proofs.invariant.Prefix.{Passing, some_passing, any_passing}
+use Rattle.sd_proof_safety.proofs.invariant.Prefix.{Passing, some_passing}
 use Rattle.sd_proof_safety.proofs.invariant.Sides.{implied, not_both}
-use Rattle.sd_proof_safety.proofs.invariant.Staying.{filter_out, filter_in}
+use Rattle.sd_proof_safety.proofs.invariant.Staying.{filter_out}
 use Rattle.sd_proof_safety.proofs.invariant.CutPaths.{root_not_on_cut, root_on_cut, root_on_path}
 
 pub ordinary_parts : (member root backup : Bool) → (member && not root && not backup) ≡ true → (member ≡ true) × (root ≡ false) × (backup ≡ false)

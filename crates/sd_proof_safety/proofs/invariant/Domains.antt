@@ -15,11 +15,11 @@ use Rattle.sd_history.specs.Things.{failure_of}
 use Rattle.sd_history.specs.World.{Setting, Seen}
 use Rattle.sd_history.specs.Steps.{Step, seen_of}
 use Rattle.sd_history.specs.Premises.{domain_holds, fails_within_one, failures_since_closing}
-use Rattle.sd_history.proofs.Among.{Among, first, later, passes}
+use Rattle.sd_history.proofs.Among.{Among, first, later, passes, any_passing}
 use Rattle.sd_history.proofs.Given.{some_is}
 use Rattle.sd_history.proofs.Known.{has_some}
 use Rattle.sd_proof_safety.specs.invariant.Eras.{failed_now, is_among, touches, plan_now, hit}
-use Rattle.sd_proof_safety.proofs.invariant.Prefix.{Passing, some_passing, any_passing}
+use Rattle.sd_proof_safety.proofs.invariant.Prefix.{Passing, some_passing}
 
 -- an element has a place
 record Placed {A : Type 0} (x : A) (xs : List A) : Type 0 where

@@ -13,7 +13,7 @@ use Rattle.sd_history.specs.Sched.declared.Event.{Event}
 use Rattle.sd_history.specs.Steps.{seen_of}
 use Rattle.sd_history.specs.Chronicle.{next_step, chronicle}
 use Rattle.sd_proof_safety.proofs.invariant.Parts.{AllButStart, premises_of, premises_hold}
-use Rattle.sd_history.proofs.Among.{Among, first, later, passes, all_pass, on_right}
+use Rattle.sd_history.proofs.Among.{Among, first, later, passes, all_pass, on_right, any_passing}
 use Rattle.sd_history.proofs.Shared.{stays_spoiled}
 
 -- Lists
@@ -35,11 +35,6 @@ passing_when p x xs false is rest any = further (rest any)
 pub some_passing : {A : Type 0} (p : A → Bool) (xs : List A) → list_any p xs ≡ true → Passing p xs
 some_passing p [] any = cc
 some_passing p (x ∷ xs) any = passing_when p x xs (p x) refl (some_passing p xs) any
-
-pub any_passing : {A : Type 0} (p : A → Bool) (x : A) (xs : List A) → Among x xs → p x ≡ true → list_any p xs ≡ true
-any_passing p x [] a passed = elim a [ ]
-any_passing p x (y ∷ xs) first passed = or_left (p y) (list_any p xs) passed
-any_passing p x (y ∷ xs) (later a) passed = or_right (p y) (list_any p xs) (any_passing p x xs a passed)
 
 abbrev IsWithin : {A : Type 0} → List A → List A → Type 0
 IsWithin {A} xs ys = (x : A) → Among x xs → Among x ys

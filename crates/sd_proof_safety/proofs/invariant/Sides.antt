@@ -21,13 +21,13 @@ use Rattle.sd_history.specs.World.{Setting, is_up, has_commit, is_counted, joine
 use Rattle.sd_history.specs.Steps.{Step, seen_of, parent_in, acts_in}
 use Rattle.sd_history.specs.Chronicle.{chronicle}
 use Rattle.sd_history.specs.Lines.{counted_parent}
-use Rattle.sd_history.proofs.Among.{Among, first, later}
+use Rattle.sd_history.proofs.Among.{Among, first, later, any_passing}
 use Rattle.sd_history.proofs.Given.{some_is}
 use Rattle.sd_proof_safety.specs.invariant.Bounds.{depth}
 use Rattle.sd_proof_safety.specs.invariant.Eras.{plan_now, is_old, is_new, is_blank, live_past, moved, on_primary, is_ordinary, hit, root_failed, root_lives}
 use Rattle.sd_proof_safety.specs.invariant.Clauses.{above_backup_root, backup_root_stays, backup_root_moved, backup_root_acts, staged_root, leads_to_root}
 use Rattle.sd_proof_safety.specs.invariant.Invariant.{Invariant}
-use Rattle.sd_proof_safety.proofs.invariant.Prefix.{Passing, some_passing, any_passing}
+use Rattle.sd_proof_safety.proofs.invariant.Prefix.{Passing, some_passing}
 use Rattle.sd_proof_safety.proofs.invariant.Cycles.{Over, IsEdge, Endless, Primaries, goes_on, walk_stops, follow_front}
 use Rattle.sd_proof_safety.proofs.invariant.Parents.{old_is, Follows, follows_of, acting_follows_nobody}
 use Rattle.sd_proof_safety.proofs.invariant.Domains.{Holding, hit_is_hit}

@@ -1,6 +1,6 @@
 -- Up to the takeover the old devices of the fallback are on their primaries: one on its backup would be hit otherwise than by the root, and its
 -- cut path lies within the fallback, of which nothing failed. With Fallback this makes C7 follow from C1, C3, C4 and the root condition.
-use Rattle.std.specs.Prelude.{◌≡◌, ℕ, zero, suc, ◌+◌, ◌<◌, Bool, true, false, ◌&&◌, ◌||◌, not, List, [], ◌∷◌, filter, map, length, nat_eq, count_by, Option, Some, None, option_map, refl, if◌then◌else◌, ◌⊎◌, IfSome}
+use Rattle.std.specs.Prelude.{◌≡◌, ℕ, zero, suc, ◌+◌, ◌<◌, Bool, true, false, ◌&&◌, ◌||◌, not, List, [], ◌∷◌, filter, length, nat_eq, count_by, Option, Some, None, option_map, refl, if◌then◌else◌, ◌⊎◌, IfSome}
 use Rattle.std.proofs.Common.{arith, ◌∙◌, ap, sym, subst, inl, inr}
 use Rattle.std.proofs.lemmas.Bool.{and_parts, and_from, or_parts, eqb-true, eq-eqb, not-false, false_from_ne_true, not-true}
 use Rattle.sd_checker.specs.Num.Lists.{has, map_or}
@@ -21,11 +21,12 @@ use Rattle.sd_checker.proofs.Num.Shared.{same_number-some}
 use Rattle.sd_checker.proofs.Domain.Within.{same_thing-true}
 use Rattle.sd_history.specs.World.{Setting, is_up, joined_in_window}
 use Rattle.sd_history.specs.Steps.{Step, Answers, seen_of, answers_in, epoch_in}
-use Rattle.sd_history.proofs.Among.{Among, first, later}
+use Rattle.sd_history.proofs.Among.{Among, first, later, any_passing, mapped_in}
+use Rattle.sd_history.proofs.Filters.{filter_in}
 use Rattle.sd_history.proofs.Given.{some_is}
 use Rattle.sd_proof_safety.specs.invariant.Eras.{era, plan_now, failed_now, failed_besides_root, is_among, device_failed_now, link_failed_now, is_old, is_new, is_blank, moved, is_ordinary, hit, hit_otherwise}
 use Rattle.sd_proof_safety.specs.invariant.Clauses.{backup_root_moved, backup_root_acts, backup_is_caused, outsider_is_past, fallback_device_is_sound, fallback_link_is_sound, fallback_stays}
-use Rattle.sd_proof_safety.proofs.invariant.Prefix.{Passing, some_passing, any_passing}
+use Rattle.sd_proof_safety.proofs.invariant.Prefix.{Passing, some_passing}
 use Rattle.sd_proof_safety.proofs.invariant.Fallback.{from_absurd}
 use Rattle.sd_proof_safety.proofs.invariant.Sides.{implied, not_both}
 
@@ -171,20 +172,6 @@ filter_out p x (y ∷ xs) a = out_when p x y xs (p y) refl a (filter_out p x xs)
         → (Among x (filter p xs) → Among x xs × (p x ≡ true)) → Among x (y ∷ xs) × (p x ≡ true)
     out_when p x y xs true is a rest = out_first p x y xs (filter p xs) is a rest
     out_when p x y xs false is a rest = let both = rest a in (later both.0, both.1)
-
-pub filter_in : {A : Type 0} (p : A → Bool) (x : A) (xs : List A) → Among x xs → p x ≡ true → Among x (filter p xs)
-filter_in p x [] a passed = elim a [ ]
-filter_in p x (y ∷ xs) first passed = subst (λ c. Among x (if c then x ∷ filter p xs else filter p xs)) (sym passed) first
-filter_in p x (y ∷ xs) (later a) passed = past p x y xs (p y) (filter_in p x xs a passed)
-  where
-    past : {A : Type 0} (p : A → Bool) (x y : A) (xs : List A) (c : Bool) → Among x (filter p xs) → Among x (if c then y ∷ filter p xs else filter p xs)
-    past p x y xs true found = later found
-    past p x y xs false found = found
-
-pub mapped_in : {A B : Type 0} (g : A → B) (x : A) (xs : List A) → Among x xs → Among (g x) (map g xs)
-mapped_in g x [] a = elim a [ ]
-mapped_in g x (y ∷ xs) first = first
-mapped_in g x (y ∷ xs) (later a) = later (mapped_in g x xs a)
 
 has_of : (xs : List ℕ) (x : ℕ) → Among x xs → has xs x ≡ true
 has_of xs x a = any_passing (nat_eq x) x xs a (eq-eqb x x refl)

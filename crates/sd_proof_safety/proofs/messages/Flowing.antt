@@ -17,6 +17,7 @@ use Rattle.sd_history.specs.Chronicle.{answers_by, told_by}
 use Rattle.sd_history.specs.Premises as premises
 use Rattle.sd_history.specs.Premises.{delay_holds, is_in_time, is_overdue}
 use Rattle.sd_history.proofs.Among.{Among, first, later, found, on_right}
+use Rattle.sd_history.proofs.Filters.{filter_in}
 use Rattle.sd_history.proofs.Given.{some_is}
 use Rattle.sd_history.proofs.flights.Sending.{counted}
 use Rattle.sd_history.specs.Rounds.{is_spoiled}
@@ -29,7 +30,6 @@ use Rattle.sd_proof_safety.proofs.messages.Overlap.{delay_within, in_time_most}
 use Rattle.sd_proof_safety.proofs.messages.Numbers.{one_flight, numbers_within, newly_numbered, sent_at_moment, on_left}
 use Rattle.sd_proof_safety.proofs.messages.Spoils.{clean_flight, Overdue, first_overdue, overdue_now, before_due, Received, clean_is_received}
 use Rattle.sd_proof_safety.proofs.messages.Hearing.{heard_at}
-use Rattle.sd_proof_safety.proofs.invariant.Staying.{filter_in}
 
 -- What a sender's step sends
 

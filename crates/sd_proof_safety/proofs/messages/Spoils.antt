@@ -12,12 +12,13 @@ use Rattle.sd_history.specs.Sched.Events.{reference_of}
 use Rattle.sd_history.specs.World.{Seen, fails, latest_reference}
 use Rattle.sd_history.specs.Steps.{Step, seen_of}
 use Rattle.sd_history.specs.Premises.{reaching_flights, seen_since_sending, was_received, is_overdue, was_interrupted, spoils, spoiled_rounds, is_round}
-use Rattle.sd_history.proofs.Among.{Among, first, later, on_right}
+use Rattle.sd_history.proofs.Among.{Among, first, later, on_right, any_passing, mapped_in}
+use Rattle.sd_history.proofs.Filters.{filter_in}
 use Rattle.sd_history.proofs.Shared.{stays_spoiled}
 use Rattle.sd_history.specs.Rounds.{is_spoiled}
 use Rattle.sd_proof_safety.specs.messages.Moments.{Tail, whole, behind, Moment, upto, when, IsIn, IsBefore}
-use Rattle.sd_proof_safety.proofs.invariant.Prefix.{Passing, some_passing, any_passing}
-use Rattle.sd_proof_safety.proofs.invariant.Staying.{filter_out, filter_in, mapped_in}
+use Rattle.sd_proof_safety.proofs.invariant.Prefix.{Passing, some_passing}
+use Rattle.sd_proof_safety.proofs.invariant.Staying.{filter_out}
 
 -- Membership and tests
 

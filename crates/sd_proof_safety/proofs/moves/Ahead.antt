@@ -25,6 +25,7 @@ use Rattle.sd_history.specs.Steps.{Act, Makes, Calls, Asks, Passes, Answers, Ste
 use Rattle.sd_history.specs.Refusals.{window_order, window_order_seen, window_order_within}
 use Rattle.sd_history.specs.Chronicle.{new_past, past_in, past_after, answers_by, told_by, chronicle}
 use Rattle.sd_history.proofs.Among.{Among, first, later, passes}
+use Rattle.sd_history.proofs.Filters.{filter_in}
 use Rattle.sd_history.proofs.Admitted.{rule_holds}
 use Rattle.sd_history.proofs.Bridges.{answers_by_words}
 use Rattle.sd_proof_safety.specs.invariant.Eras.{era, is_new}
@@ -33,7 +34,6 @@ use Rattle.sd_proof_safety.specs.invariant.Guarded.{AreGuarded, IsSteady}
 use Rattle.sd_proof_safety.specs.invariant.Coming.{IsNextEvent}
 use Rattle.sd_proof_safety.proofs.invariant.Orders.{orderly}
 use Rattle.sd_proof_safety.proofs.invariant.Prefix.{clean_before}
-use Rattle.sd_proof_safety.proofs.invariant.Staying.{filter_in}
 use Rattle.sd_proof_safety.specs.timers.Times.{Fits, gives_duty, makes_device}
 use Rattle.sd_history.proofs.Known.{admitted_up_is_known}
 use Rattle.sd_history.proofs.Given.{some_is}

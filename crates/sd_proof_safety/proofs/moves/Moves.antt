@@ -24,6 +24,7 @@ use Rattle.sd_history.specs.World.{Setting, has_commit}
 use Rattle.sd_history.specs.Steps.{Answers, Step, seen_of, acts_in, tells_nothing, tells_called, flights_by, flights}
 use Rattle.sd_history.specs.Chronicle.{answers_by, past_in, chronicle}
 use Rattle.sd_history.proofs.Given.{some_is}
+use Rattle.sd_history.proofs.Among.{any_passing}
 use Rattle.sd_proof_safety.specs.invariant.Bounds.{first_low, wait_low}
 use Rattle.sd_proof_safety.specs.invariant.Eras.{era, plan_now, is_old, is_new, is_blank, live_past, moved, on_primary, silent_for, is_ordinary, hit, hit_otherwise, path_hit, root_failed, failed_now, is_among}
 use Rattle.sd_proof_safety.specs.invariant.Clauses.{is_beginning, nothing_emitted, stays, root_acts, ordinary_follows, backup_is_caused, move_is_caused, takeover_is_caused, path_stays, above_backup_root, backup_root_stays, backup_root_acts, none_sent_ahead, committer_acts}
@@ -31,7 +32,6 @@ use Rattle.sd_proof_safety.specs.invariant.Invariant.{Core}
 use Rattle.sd_proof_safety.specs.invariant.Silences.{AreSilent}
 use Rattle.sd_proof_safety.specs.invariant.Kept.{KeepsTick}
 use Rattle.sd_proof_safety.specs.invariant.Coming.{IsNextEvent, AtNext}
-use Rattle.sd_proof_safety.proofs.invariant.Prefix.{any_passing}
 use Rattle.sd_proof_safety.proofs.invariant.Fallback.{from_absurd}
 use Rattle.sd_proof_safety.proofs.invariant.Causes.{move_is_hit, move_needs_hit, above_does_not_move, ordinary_parts}
 use Rattle.sd_proof_safety.proofs.invariant.CutPaths.{root_on_path}

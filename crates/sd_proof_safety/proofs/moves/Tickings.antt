@@ -18,12 +18,13 @@ use Rattle.sd_history.specs.World.{Setting, is_up, has_commit, is_counted, is_st
 use Rattle.sd_history.specs.Steps.{Told, Answers, Step, seen_of, answers_in, epoch_in, parent_in, acts_in}
 use Rattle.sd_history.specs.Chronicle.{answers_by, past_in, chronicle}
 use Rattle.sd_history.proofs.Given.{some_is}
+use Rattle.sd_history.proofs.Among.{any_passing}
 use Rattle.sd_proof_safety.specs.invariant.Bounds.{depth}
 use Rattle.sd_proof_safety.specs.invariant.Eras.{plan_now, is_old, is_new, is_blank, is_past, on_primary, heard_at, root_failed}
 use Rattle.sd_proof_safety.specs.invariant.Clauses.{is_beginning, was_touched, member_is_up, member_follows, returned_is_joined, outsider_is_past, counted_is_current, blank_is_idle, link_is_sound, failed_root_is_not_old, shadow_is_short, above_backup_root, backup_root_stays, none_is_new, member_enters, member_entered, committer_is_root, new_is_linked, left_out_is_hit, someone_untouched, leads_to_root, staged_root, nothing_emitted, stays, root_acts, ordinary_follows, backup_is_caused, move_is_caused, takeover_is_caused, path_stays, none_sent_ahead, committer_acts}
 use Rattle.sd_proof_safety.specs.invariant.Invariant.{Core, IsCounted, IsClosed, leaves_out_rightly}
 use Rattle.sd_proof_safety.proofs.invariant.Sides.{implied}
-use Rattle.sd_proof_safety.proofs.invariant.Prefix.{Passing, some_passing, any_passing}
+use Rattle.sd_proof_safety.proofs.invariant.Prefix.{Passing, some_passing}
 use Rattle.sd_proof_safety.proofs.invariant.Parents.{acting_follows_nobody}
 use Rattle.sd_proof_safety.specs.invariant.Silences.{EntersSoon}
 use Rattle.sd_proof_safety.proofs.moves.Ticks as ticks

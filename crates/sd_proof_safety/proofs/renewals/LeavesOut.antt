@@ -29,7 +29,7 @@ use Rattle.sd_history.specs.World.{Setting, Seen, is_up, was_made, has_ever_fail
 use Rattle.sd_history.specs.Steps.{Step, seen_of}
 use Rattle.sd_history.specs.Chronicle.{chronicle, next_step}
 use Rattle.sd_history.specs.Admitted.{IsAdmitted}
-use Rattle.sd_history.proofs.Among.{first, later, all_pass, passes}
+use Rattle.sd_history.proofs.Among.{first, later, all_pass, passes, any_passing}
 use Rattle.sd_history.proofs.Admitted.{rule_holds}
 use Rattle.sd_history.proofs.Known.{admitted_up_is_known}
 use Rattle.sd_history.proofs.Shared.{among_below}
@@ -37,7 +37,6 @@ use Rattle.sd_proof_safety.specs.invariant.Eras.{era, plan_now, failed_now, devi
 use Rattle.sd_proof_safety.specs.invariant.Clauses.{is_beginning, begins_with, left_out_is_hit}
 use Rattle.sd_proof_safety.specs.invariant.Invariant.{Core, leaves_out_rightly}
 use Rattle.sd_proof_safety.specs.invariant.Coming.{IsNextEvent}
-use Rattle.sd_proof_safety.proofs.invariant.Prefix.{any_passing}
 use Rattle.sd_proof_safety.proofs.invariant.Sides.{implied, not_both}
 use Rattle.sd_proof_safety.proofs.invariant.Opening.{gives}
 use Rattle.sd_proof_safety.proofs.invariant.Domains.{Holding, held, touched_is_hit}

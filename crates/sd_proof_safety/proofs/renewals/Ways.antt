@@ -10,7 +10,7 @@ use Rattle.sd_checker.specs.Topo.Network.{Network, joins, device_numbers, link_n
 use Rattle.sd_checker.specs.Topo.Joined.{Joined, here, over, joined_within}
 use Rattle.sd_checker.proofs.Num.Distinct.{AreDistinct, few}
 use Rattle.sd_history.proofs.Shared.{among_below}
-use Rattle.sd_proof_safety.proofs.invariant.Prefix.{any_passing}
+use Rattle.sd_history.proofs.Among.{any_passing}
 
 module _ (net : Network) (may_pass may_cross : ℕ → Bool) (known : (e : ℕ) → may_pass e ≡ true → e < length net.devices) where
   abbrev has_link : ℕ → ℕ → Bool

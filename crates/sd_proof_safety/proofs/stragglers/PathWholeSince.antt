@@ -21,12 +21,13 @@ use Rattle.sd_history.specs.Things.{failure_of}
 use Rattle.sd_history.specs.World.{Setting, fails, is_thing, link_has_failed}
 use Rattle.sd_history.specs.Steps.{Step, seen_of}
 use Rattle.sd_history.specs.Chronicle.{past_in, chronicle}
+use Rattle.sd_history.proofs.Among.{any_passing}
 use Rattle.sd_proof_safety.specs.invariant.Eras.{era, plan_now, all_started, failed_now, is_among, device_failed_now, root_failed, is_old, on_primary}
 use Rattle.sd_proof_safety.specs.invariant.Guarded.{IsSteady}
 use Rattle.sd_proof_safety.specs.invariant.Coming.{IsNextEvent}
 use Rattle.sd_proof_safety.proofs.invariant.CutPaths.{root_on_path}
 use Rattle.sd_proof_safety.proofs.invariant.Facts.{IsSound}
-use Rattle.sd_proof_safety.proofs.invariant.Prefix.{clean_before, any_passing}
+use Rattle.sd_proof_safety.proofs.invariant.Prefix.{clean_before}
 use Rattle.sd_proof_safety.proofs.invariant.Sides.{not_both}
 use Rattle.sd_proof_safety.specs.messages.Moments.{Tail, behind, IsChronicle, Moment, when, IsIn, IsBefore}
 use Rattle.sd_proof_safety.proofs.messages.Flowing.{tail_rest}

@@ -20,6 +20,7 @@ use Rattle.sd_history.specs.World.{Setting, Seen, is_up, window, window_is_open,
 use Rattle.sd_history.specs.Steps.{Answers, Step, seen_of, answers_in, live_answers, acts_in, epoch_in, parent_in, given_in, has_settled}
 use Rattle.sd_history.specs.Chronicle.{past_in, next_step, chronicle}
 use Rattle.sd_history.proofs.Among.{Among, passes}
+use Rattle.sd_history.proofs.Filters.{filter_in}
 use Rattle.sd_history.proofs.Shared.{among_below}
 use Rattle.sd_proof_safety.specs.invariant.Bounds.{depth, delay, rounds_gap}
 use Rattle.sd_proof_safety.specs.invariant.Eras.{era, plan_now, belongs, will_belong, is_old, is_new, is_blank, on_primary, heard_at, sent_at, sends, silent_for, root_failed}
@@ -27,7 +28,6 @@ use Rattle.sd_proof_safety.specs.invariant.Clauses.{just_closed, member_enters, 
 use Rattle.sd_proof_safety.proofs.invariant.InForce.{in_force_too}
 use Rattle.sd_proof_safety.proofs.invariant.Prefix.{clean_before}
 use Rattle.sd_proof_safety.proofs.invariant.Sides.{implied, not_both}
-use Rattle.sd_proof_safety.proofs.invariant.Staying.{filter_in}
 use Rattle.sd_proof_safety.proofs.timers.Histories.{Timely, timely, timed, before, sends_soon}
 use Rattle.sd_proof_safety.proofs.waits.SameReferences.{sent_is}
 use Rattle.sd_proof_safety.specs.windows.Standing.{HasEntered}

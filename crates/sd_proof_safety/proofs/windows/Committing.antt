@@ -25,12 +25,12 @@ use Rattle.sd_history.specs.Chronicle.{answers_by, past_in, next_step, chronicle
 use Rattle.sd_history.specs.Admitted.{IsAdmitted}
 use Rattle.sd_history.specs.Premises.{is_prepared, was_given, leaves_out_failed, leaves_out_cleanly}
 use Rattle.sd_history.proofs.Among.{passes}
+use Rattle.sd_history.proofs.Filters.{filter_in}
 use Rattle.sd_proof_safety.specs.invariant.Eras.{plan_now, failed_now, is_new, live_past, root_failed}
 use Rattle.sd_proof_safety.specs.invariant.Clauses.{staged_root, committer_is_root, committer_acts}
 use Rattle.sd_proof_safety.proofs.invariant.Parents.{live_is}
 use Rattle.sd_proof_safety.proofs.invariant.Orders.{renews}
 use Rattle.sd_proof_safety.proofs.invariant.Sides.{not_both}
-use Rattle.sd_proof_safety.proofs.invariant.Staying.{filter_in}
 use Rattle.sd_history.proofs.Known.{admitted_named_is_known}
 use Rattle.sd_history.proofs.Shared.{among_below}
 use Rattle.sd_proof_safety.proofs.timers.Turns.{after_recommit}

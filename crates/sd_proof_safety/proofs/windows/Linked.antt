@@ -15,11 +15,11 @@ use Rattle.sd_history.specs.Steps.{Step, seen_of, parent_in, epoch_in}
 use Rattle.sd_history.specs.Chronicle.{next_step, chronicle}
 use Rattle.sd_history.specs.Admitted.{IsAdmitted}
 use Rattle.sd_history.proofs.Shared.{among_below}
+use Rattle.sd_history.proofs.Among.{any_passing}
 use Rattle.sd_proof_safety.specs.invariant.Bounds.{depth}
 use Rattle.sd_proof_safety.specs.invariant.Eras.{era, is_new, on_primary}
 use Rattle.sd_proof_safety.specs.invariant.Clauses.{new_is_linked, leads_to_root, staged_root, just_closed}
 use Rattle.sd_proof_safety.specs.invariant.Invariant.{IsClosed}
-use Rattle.sd_proof_safety.proofs.invariant.Prefix.{any_passing}
 use Rattle.sd_proof_safety.proofs.invariant.Sides.{implied, not_both}
 use Rattle.sd_proof_safety.specs.windows.Standing.{HasEntered}
 use Rattle.sd_proof_safety.proofs.windows.NoneBeforeCommit.{epoch_within}

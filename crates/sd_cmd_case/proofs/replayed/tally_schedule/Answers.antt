@@ -8,5 +8,5 @@ use Rattle.sd_cmd_case.proofs.replayed.tally_schedule.Goals as goal
 pub returns : goal.returns
 returns c =
     let setting = setting_over (network c.args.topo) c.args.plans in
-    tally_as c.in_ok-replayed.replayed c.tally.result c.tally.ensures setting (history_of setting c.args.number)
+    tally_as c.in_ok-replayed.replayed c.tally-tally.result c.tally-tally.ensures setting (history_of setting c.args.number)
     (c.in_ok-replayed.ensures setting c.args.topo.is_network (c.in_ok-replay.ensures.stands setting refl refl))

@@ -37,7 +37,7 @@ returns-in_err-write_kind-2-clause-adds g c =
     (handed_on c.from_residual-in_err-write_kind-2.result why c.from_residual-in_err-write_kind-2.ensures.1)
     (stopped_second net plan budget c.args.planned.topo.now.is_network c.args.planned.is_index.fits c.requires.accepted (Unit {0})
     (Unit {0}) first before after why c.in_ok-write_kind.ensures.adds
-    (subst (λ (b : Budget). AddsLines {T = Unit {0}} net plan b (all_of net kind.Device) before after (Err why)) c.write_kind.ensures.budget
+    (subst (λ (b : Budget). AddsLines {T = Unit {0}} net plan b (all_of net kind.Device) before after (Err why)) c.write_kind.ensures.room.budget
     c.in_err-write_kind-2.ensures.adds))
 
 pub returns-clause-adds : goal.returns-clause-adds
@@ -51,6 +51,6 @@ returns-clause-adds g c =
     let after = g.O.Sink.written c.write_kind-3.new.out in
     come_third net plan budget c.args.planned.topo.now.is_network c.args.planned.is_index.fits c.requires.accepted first before between after
     c.write_kind-3.result c.in_ok-write_kind.ensures.adds
-    (subst (λ (b : Budget). Added net plan b (all_of net kind.Device) before between) c.write_kind.ensures.budget c.in_ok-write_kind-2.ensures.adds)
+    (subst (λ (b : Budget). Added net plan b (all_of net kind.Device) before between) c.write_kind.ensures.room.budget c.in_ok-write_kind-2.ensures.adds)
     (subst (λ (b : Budget). AddsLines net plan b (all_of net kind.Link) between after c.write_kind-3.result)
-    (c.write_kind-2.ensures.budget ∙ c.write_kind.ensures.budget) c.write_kind-3.ensures.adds)
+    (c.write_kind-2.ensures.room.budget ∙ c.write_kind.ensures.room.budget) c.write_kind-3.ensures.adds)

@@ -40,7 +40,7 @@ loop-number-preserved g c =
       added = kind_more net plan budget c.args.planned.topo.now.is_network c.args.planned.is_index.fits c.requires.accepted c.args.kind c.loop-number.number
           c.domain.result first before after c.domain.ensures.is come.added
           (subst (λ (b : Budget). Added net plan b (c.domain.result ∷ []) before after) come.granted c.in_ok-write_domain.ensures.adds);
-      room = c.write_domain.ensures.room;
-      granted = c.write_domain.ensures.budget ∙ come.granted;
+      room = c.write_domain.ensures.room.ready;
+      granted = c.write_domain.ensures.room.budget ∙ come.granted;
       steady = search (rules, come.steady);
     }

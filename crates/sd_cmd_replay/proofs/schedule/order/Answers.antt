@@ -1,4 +1,4 @@
-use Rattle.std.proofs.Common.{[], refl, sym, subst, map}
+use Rattle.std.proofs.Common.{[], refl, rules, sym, subst, map}
 use Rattle.std.specs.Prelude.{string_bytes}
 use Rattle.sd_core.specs.declared.registers.Registers.{Registers}
 use Rattle.sd_core.specs.contracts.device.DeviceNode.TheImpl.{ghosts as device}
@@ -6,46 +6,55 @@ use Rattle.sd_cmd_replay.specs.declared.told.ToldWaits.{ToldWaits}
 use Rattle.sd_cmd_replay.specs.contracts.told.ToldWaitsObserver.TheImpl.{ghosts}
 use Rattle.sd_replay.specs.declared.replay.Replay.{Replay}
 use Rattle.sd_replay.specs.Devices.{HasReplayed}
+use Rattle.sd_cmd_files.proofs.Keeping.{keeps_both}
 use Rattle.sd_cmd_replay.specs.Replays.{order_work}
 use Rattle.sd_cmd_replay.proofs.Loading.{early_leaves, early_near, run_leaves, run_near}
 use Rattle.sd_cmd_replay.proofs.Reading.{refused_as_replay}
 use Rattle.sd_cmd_replay.proofs.Whole.{order_whole}
 use Rattle.sd_cmd_replay.proofs.schedule.order.Goals as goal
 
-pub returns-in-Ok-clause-outcome : goal.returns-in-Ok-clause-outcome
-returns-in-Ok-clause-outcome g c =
-    run_leaves c.args.files.topology.now (map string_bytes c.args.files.plans.now) c.args.files.schedule.now ghosts order_work c.in-Ok.replay
-    (g.S.Shelf.held c.args.shelf.now) (g.S.Shelf.held c.start.new.shelf) c.start.ensures.shelf.same_held
-    (g.O.Sink.written c.args.out.now) (g.O.Sink.written c.go_through.new.out) c.go_through.result c.in-Ok.ensures.started (λ setting replayed.
-    c.go_through.ensures.outcome (order_work setting)
-    (record {
-      setting = setting;
-      is = refl;
-      replayed = subst (λ (r : Replay Registers ToldWaits device ghosts). HasReplayed ghosts r setting []) (sym c.new-replayed.ensures) replayed;
-    })
-    (order_whole setting))
+pub returns-in-Ok : goal.returns-in-Ok
+returns-in-Ok g c =
+    record {
+      outcome =
+          run_leaves c.args.files.topology.now (map string_bytes c.args.files.plans.now) c.args.files.schedule.now ghosts order_work c.in-Ok.replay
+          (g.S.Shelf.held c.args.shelf.now) (g.S.Shelf.held c.start.new.shelf) c.start.ensures.shelf.same_held
+          (g.O.Sink.written c.args.out.now) (g.O.Sink.written c.go_through.new.out) c.go_through.result c.in-Ok.ensures.started (λ setting replayed.
+          c.go_through.ensures.outcome (order_work setting)
+          (record {
+            setting = setting;
+            is = refl;
+            replayed = subst (λ (r : Replay Registers ToldWaits device ghosts). HasReplayed ghosts r setting []) (sym c.new-replayed.ensures) replayed;
+          })
+          (order_whole setting));
+      gives = search rules;
+      near = λ refused.
+          run_near c.args.files.topology.now (map string_bytes c.args.files.plans.now) c.args.files.schedule.now ghosts order_work c.in-Ok.replay
+          (g.S.Shelf.held c.args.shelf.now) (g.S.Shelf.held c.start.new.shelf) c.start.ensures.shelf.same_held
+          (g.O.Sink.written c.args.out.now) (g.O.Sink.written c.go_through.new.out) c.go_through.result
+          (g.S.Shelf.rest c.go_through.new.shelf) refused_as_replay c.in-Ok.ensures.started (λ setting replayed.
+          c.go_through.ensures.near (order_work setting)
+          (record {
+            setting = setting;
+            is = refl;
+            replayed = subst (λ (r : Replay Registers ToldWaits device ghosts). HasReplayed ghosts r setting []) (sym c.new-replayed.ensures) replayed;
+          }) refused);
+      shelf = keeps_both g.S.Shelf _ _ _ _ _ (λ e. cc) c.in-Ok.ensures.shelf c.go_through.ensures.shelf;
+      sink = search rules;
+    }
 
-pub returns-in-Ok-clause-near : goal.returns-in-Ok-clause-near
-returns-in-Ok-clause-near g c = λ refused.
-    run_near c.args.files.topology.now (map string_bytes c.args.files.plans.now) c.args.files.schedule.now ghosts order_work c.in-Ok.replay
-    (g.S.Shelf.held c.args.shelf.now) (g.S.Shelf.held c.start.new.shelf) c.start.ensures.shelf.same_held
-    (g.O.Sink.written c.args.out.now) (g.O.Sink.written c.go_through.new.out) c.go_through.result
-    (g.S.Shelf.rest c.go_through.new.shelf) refused_as_replay c.in-Ok.ensures.started (λ setting replayed.
-    c.go_through.ensures.near (order_work setting)
-    (record {
-      setting = setting;
-      is = refl;
-      replayed = subst (λ (r : Replay Registers ToldWaits device ghosts). HasReplayed ghosts r setting []) (sym c.new-replayed.ensures) replayed;
-    }) refused)
-
-pub returns-in-Err-clause-outcome : goal.returns-in-Err-clause-outcome
-returns-in-Err-clause-outcome g c =
-    early_leaves c.args.files.topology.now (map string_bytes c.args.files.plans.now) c.args.files.schedule.now order_work
-    (g.S.Shelf.held c.args.shelf.now) c.in-Err.early (g.O.Sink.written c.args.out.now) (g.O.Sink.written c.end_early.new.out)
-    c.end_early.result c.in-Err.ensures.makes c.end_early.ensures.writes
-
-pub returns-in-Err-clause-near : goal.returns-in-Err-clause-near
-returns-in-Err-clause-near g c = λ refused.
-    early_near c.args.files.topology.now (map string_bytes c.args.files.plans.now) c.args.files.schedule.now (g.S.Shelf.held c.args.shelf.now) c.in-Err.early
-    (g.O.Sink.written c.args.out.now) (g.O.Sink.written c.end_early.new.out)
-    (g.S.Shelf.rest c.start.new.shelf) c.end_early.result c.in-Err.ensures.makes c.end_early.ensures.writes refused
+pub returns-in-Err : goal.returns-in-Err
+returns-in-Err g c =
+    record {
+      outcome =
+          early_leaves c.args.files.topology.now (map string_bytes c.args.files.plans.now) c.args.files.schedule.now order_work
+          (g.S.Shelf.held c.args.shelf.now) c.in-Err.early (g.O.Sink.written c.args.out.now) (g.O.Sink.written c.end_early.new.out)
+          c.end_early.result c.in-Err.ensures.makes c.end_early.ensures.writes;
+      gives = search rules;
+      near = λ refused.
+          early_near c.args.files.topology.now (map string_bytes c.args.files.plans.now) c.args.files.schedule.now (g.S.Shelf.held c.args.shelf.now) c.in-Err.early
+          (g.O.Sink.written c.args.out.now) (g.O.Sink.written c.end_early.new.out)
+          (g.S.Shelf.rest c.start.new.shelf) c.end_early.result c.in-Err.ensures.makes c.end_early.ensures.writes refused;
+      shelf = search rules;
+      sink = search rules;
+    }

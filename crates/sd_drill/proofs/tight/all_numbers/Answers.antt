@@ -17,7 +17,11 @@ loop-d-preserved c =
           (listed_more (IsTightListed (net_of o) (plan_of o) c.args.times.budget o.domain) old c.in_ok-number.number c.loop-d.d c.loop-d.invariant.size
           c.loop-d.invariant.listed c.in_ok-number.ensures.number);
       size = ap (λ (xs : List (Option ℕ)). length xs) items ∙ length_push old c.in_ok-number.number ∙ omega (arith, c.loop-d.invariant.size);
-      ready = c.in_ok-number.ensures.ready;
-      search_room = c.number_of.ensures.room;
+      can = record {
+        timed = c.requires.can.timed;
+        acyclic = c.requires.can.acyclic;
+        ready = c.in_ok-number.ensures.ready;
+        room = c.number_of.ensures.room;
+      };
       room = c.push_reserved.ensures.capacity ∙ c.loop-d.invariant.room;
     }

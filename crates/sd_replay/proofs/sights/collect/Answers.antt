@@ -1,5 +1,5 @@
 -- One flight more is looked up.
-use Rattle.std.proofs.Common.{ℕ, ◌≡◌, ◌+◌, ◌∷◌, length, filter, ap, ◌∙◌, arith}
+use Rattle.std.proofs.Common.{ℕ, ◌≡◌, ◌+◌, ◌∷◌, length, filter, ap, sym, ◌∙◌, arith}
 use Rattle.std.proofs.lemmas.List.{take_all}
 use Rattle.sd_fleet.specs.declared.Outcome.{Outcome}
 use Rattle.sd_history.specs.flights.Flights.{look_in}
@@ -10,19 +10,21 @@ use Rattle.sd_replay.proofs.sights.collect.Goals as goal
 pub loop-i-preserved : goal.loop-i-preserved
 loop-i-preserved g c =
     record {
-      flights = λ setting run event accepted.
-          one_collected setting accepted.next.step (steps_of run) c.args.outcome.now c.loop-i.i c.flight.result c.loop-i.sent.items c.add_found.new.sent.items
+      flights = λ setting run event outcome accepted tells.
+          one_collected setting accepted.next.step (steps_of run) outcome c.loop-i.i c.flight.result c.loop-i.sent.items c.add_found.new.sent.items
           accepted.stands.fabric.accepted accepted.comes
-          (omega (arith, c.loop-i-test.true, c.loop-i.auto.i-end))
+          (omega (arith, c.loop-i-test.true, c.loop-i.auto.i-end, tells.count))
           (c.flight.ensures setting (accepted.next ∷ run) accepted.stands
-          ∙ ap (λ (n : ℕ). look_in (accepted.next.step ∷ steps_of run) (c.args.outcome.now.first_sent + n)) c.from.ensures)
-          (c.loop-i.invariant.flights setting run event accepted) c.add_found.ensures.items;
+          ∙ ap (λ (n : ℕ). look_in (accepted.next.step ∷ steps_of run) (c.args.messages.first + n)) c.from.ensures
+          ∙ ap (λ (n : ℕ). look_in (accepted.next.step ∷ steps_of run) (n + c.loop-i.i)) (sym tells.first))
+          (c.loop-i.invariant.flights setting run event outcome accepted tells) c.add_found.ensures.items;
       few = omega (arith, c.add_found.ensures.few, c.loop-i.invariant.few);
       capacity = omega (arith, c.add_found.ensures.capacity, c.loop-i.invariant.capacity);
     }
 
 pub returns-clause-flights : goal.returns-clause-flights
-returns-clause-flights g c = λ setting run event accepted.
-    let count : c.args.outcome.now.sent ≡ length accepted.next.step.sent = ap (λ (o : Outcome). o.sent) accepted.comes in
-    c.loop-i.invariant.flights setting run event accepted
-    ∙ ap (filter (λ f. f.reaches)) (take_all c.loop-i.i accepted.next.step.sent (omega (arith, c.loop-i-test.false, c.loop-i.auto.i-end, count)))
+returns-clause-flights g c = λ setting run event outcome accepted tells.
+    let count : outcome.sent ≡ length accepted.next.step.sent = ap (λ (o : Outcome). o.sent) accepted.comes in
+    c.loop-i.invariant.flights setting run event outcome accepted tells
+    ∙ ap (filter (λ f. f.reaches))
+    (take_all c.loop-i.i accepted.next.step.sent (omega (arith, c.loop-i-test.false, c.loop-i.auto.i-end, count, tells.count)))

@@ -1,7 +1,7 @@
 //! Each structure by a few of its calls.
 
-use sd_msg::{Flight, Message, Stamp};
-use sd_premise_loss::flights::{Interruptions, Runs, Waiting};
+use sd_msg::Stamp;
+use sd_premise_loss::flights::{Interruptions, Runs, Waiting, WaitingFlight};
 use sd_test_examples::num::NoMemory;
 use sd_test_examples::topo::Thing;
 use std::alloc::Global;
@@ -9,22 +9,14 @@ use std::process::Abort;
 use std::test::Fail;
 
 /// A flight over link 1 from device 2 to device 3.
-fn flight(number: u64, due: u64) -> Flight {
-    Flight {
+fn flight(number: u64, due: u64) -> WaitingFlight {
+    WaitingFlight {
         number,
+        due,
+        stamp: stamp(1, 1),
         link: 1,
         sender: 2,
         receiver: 3,
-        sent_at: 0,
-        due,
-        last: due,
-        reaches: true,
-        message: Message {
-            epoch: 1,
-            stamp: stamp(1, 1),
-            clock: 0,
-            eps: 0,
-        },
     }
 }
 

@@ -36,7 +36,7 @@ sound : (c : goal.After-note_rest) → IsSound (new c)
 sound c =
     sound_rest (old c) c.args.reference c.args.d c.args.counter c.purge.new.self c.note_rest.new.self c.self.invariant
     (subst (λ r. refusal_in r (event.Tick c.args.reference c.args.d c.args.counter) ≡ None) (sym c.self.view_is) c.requires.accepted)
-    c.note_rest.ensures.tick c.note_rest.ensures.sound c.purge.ensures.given c.purge.ensures.last c.purge.ensures.size
+    c.note_rest.ensures.tick c.note_rest.ensures.sound c.purge.ensures.given (omega (arith, c.purge.ensures.last)) c.purge.ensures.size
 
 pub invariant_of-self : goal.invariant_of-self
 invariant_of-self c = sound c

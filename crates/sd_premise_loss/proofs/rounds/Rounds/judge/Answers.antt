@@ -1,5 +1,5 @@
 use Rattle.std.proofs.Common.{ℕ, ◌≡◌, Bool, false, sym, ap, ◌∙◌, subst, arith}
-use Rattle.sd_msg.specs.declared.Flight.{Flight}
+use Rattle.sd_premise_loss.specs.declared.flights.WaitingFlight.{WaitingFlight}
 use Rattle.sd_premise_loss.specs.declared.flights.interruptions.Interruptions.{Interruptions}
 use Rattle.sd_premise_loss.specs.flights.Runs.{HasLongRun}
 use Rattle.sd_premise_loss.specs.flights.Interrupted.{is_interrupted}
@@ -10,7 +10,7 @@ use Rattle.sd_premise_loss.proofs.rounds.Judging.{judges_interrupted, judges_los
 use Rattle.sd_premise_loss.proofs.rounds.Rounds.judge.Goals as goal
 
 -- the interruptions stay as they were when the judging began
-whole_then : (was now : Interruptions) (f : Flight) (cut : Bool) → now ≡ was → cut ≡ is_interrupted (mark_of now) f → cut ≡ false
+whole_then : (was now : Interruptions) (f : WaitingFlight) (cut : Bool) → now ≡ was → cut ≡ is_interrupted (mark_of now) f → cut ≡ false
     → is_interrupted (mark_of was) f ≡ false
 whole_then was now f cut same is none = ap (λ k. is_interrupted (mark_of k) f) (sym same) ∙ sym is ∙ none
 

@@ -1,5 +1,5 @@
 -- What is seen of the step, how devices stand after it, and what is found of it.
-use Rattle.std.proofs.Common.{length, arith, sym, ap, ◌∙◌}
+use Rattle.std.proofs.Common.{length, refl, arith, sym, ap, ◌∙◌}
 use Rattle.std.proofs.Props.{props}
 use Rattle.std.proofs.Math.Logic.{∥∥₁_elim, ∥∥₁_map}
 use Rattle.sd_history.specs.Steps.{seen_of}
@@ -16,7 +16,7 @@ judge-broken-requires g c =
     (∥∥₁_map c.requires.step (λ has.
     can_see has.setting has.accepted.next.step (steps_of has.run) c.args.event.now c.args.outcome.now
     (step_to g.N.Node c.args.fleet.now has.setting has.run c.args.event.now c.args.outcome.now has.accepted) c.deref.result.now
-    (c.deref.ensures.value ∙ c.collect.ensures.flights has.setting has.run c.args.event.now has.accepted)
+    (c.deref.ensures.value ∙ c.collect.ensures.flights has.setting has.run c.args.event.now c.args.outcome.now has.accepted (record { first = refl; count = refl }))
     c.args.self.now.premises has.has_seen.premises
     (let few = c.collect.ensures.few in let same = ap length c.deref.ensures.value in omega (arith, few, same, c.requires.room))))
 
@@ -36,7 +36,7 @@ alarms_of-alarms-requires-clause-acting g c =
 
 pub returns-clause-stands : goal.returns-clause-stands
 returns-clause-stands g c = λ setting run accepted has_seen.
-    let collected = c.deref.ensures.value ∙ c.collect.ensures.flights setting run c.args.event.now accepted in
+    let collected = c.deref.ensures.value ∙ c.collect.ensures.flights setting run c.args.event.now c.args.outcome.now accepted (record { first = refl; count = refl }) in
     record {
       premises =
           seen_on setting accepted.next.step (steps_of run) c.args.event.now c.args.outcome.now
@@ -51,7 +51,7 @@ returns-clause-stands g c = λ setting run accepted has_seen.
 
 pub returns-clause-found : goal.returns-clause-found
 returns-clause-found g c = λ setting run accepted has_seen.
-    let collected = c.deref.ensures.value ∙ c.collect.ensures.flights setting run c.args.event.now accepted in
+    let collected = c.deref.ensures.value ∙ c.collect.ensures.flights setting run c.args.event.now c.args.outcome.now accepted (record { first = refl; count = refl }) in
     lines_are setting accepted.next.step (steps_of run) _
     (found_on setting accepted.next.step (steps_of run) c.args.event.now c.args.outcome.now
     (step_to g.N.Node c.args.fleet.now setting run c.args.event.now c.args.outcome.now accepted) c.deref.result.now collected c.judge-broken.result
@@ -66,7 +66,7 @@ returns-clause-found g c = λ setting run accepted has_seen.
 
 pub returns-clause-devices : goal.returns-clause-devices
 returns-clause-devices g c = λ setting run accepted has_seen.
-    let collected = c.deref.ensures.value ∙ c.collect.ensures.flights setting run c.args.event.now accepted in
+    let collected = c.deref.ensures.value ∙ c.collect.ensures.flights setting run c.args.event.now c.args.outcome.now accepted (record { first = refl; count = refl }) in
     found_of setting accepted.next.step (steps_of run) _
     (found_on setting accepted.next.step (steps_of run) c.args.event.now c.args.outcome.now
     (step_to g.N.Node c.args.fleet.now setting run c.args.event.now c.args.outcome.now accepted) c.deref.result.now collected c.judge-broken.result
