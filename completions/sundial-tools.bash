@@ -13,7 +13,7 @@ _sundial_tool() {
         sundial-duty) words="--device --first-epoch --form --help --output --version" ;;
         sundial-report) words="--check --domain --drill --help --layout --only --output --readiness --replay --title --version" ;;
         sundial-whatif) words="--allow --ask --base --clocks --delays --drift --fail --help --hold --late --lose --lossy --mend --no-fixes --output --over --renew --report --seed --until --version" ;;
-        sundial-readiness) words="--base --help --hold --json --output --refused --version" ;;
+        sundial-readiness) words="--base --help --hold --json --output --refused --search --version" ;;
         sundial-plain-replay) words="--follow --help --output --version" ;;
     esac
     COMPREPLY=()

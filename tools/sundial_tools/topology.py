@@ -121,8 +121,17 @@ def read_topology(path: str) -> Topology:
 
 def sundial_program() -> Optional[str]:
     """The program that reads topologies: the one that SUNDIAL names, or `sundial` of the path. An empty SUNDIAL is none."""
-    said = os.environ.get("SUNDIAL")
-    return shutil.which("sundial") if said is None else said or None
+    return _program("sundial", "SUNDIAL")
+
+
+def search_program() -> Optional[str]:
+    """The program that searches for plans: the one that SUNDIALCTL names, or `sundialctl` of the path."""
+    return _program("sundialctl", "SUNDIALCTL")
+
+
+def _program(name: str, variable: str) -> Optional[str]:
+    said = os.environ.get(variable)
+    return shutil.which(name) if said is None else said or None
 
 
 def _migrated(program: str, path: str, text: bytes) -> str:

@@ -20,8 +20,9 @@ from sundial_tools.errors import run_tool  # noqa: E402
 
 # The built program: a test that needs it is skipped where there is none.
 PROGRAM = pathlib.Path(os.environ.get("SUNDIAL", TOOLS.parent / "crates" / "sundial" / "out" / "sundial"))
+SEARCH = pathlib.Path(os.environ.get("SUNDIALCTL", TOOLS.parent / "crates" / "sundialctl" / "out" / "sundialctl"))
 # (the tools themselves read topologies without it, but where a test says otherwise)
-os.environ["SUNDIAL"] = ""
+os.environ["SUNDIAL"] = os.environ["SUNDIALCTL"] = ""
 needs_sundial = unittest.skipUnless(PROGRAM.is_file(), "the program sundial is not built (SUNDIAL names it)")
 
 

@@ -5,7 +5,7 @@ import os
 import unittest
 from unittest import mock
 
-from support import EXAMPLES, PROGRAM, directory, needs_sundial, run, sundial
+from support import EXAMPLES, PROGRAM, SEARCH, directory, needs_sundial, run, sundial
 
 from sundial_tools.network.main import main as topology_main
 from sundial_tools.plan import read_plan
@@ -15,6 +15,7 @@ from sundial_tools.things import all_named, find_named
 from sundial_tools.topology import read_topology
 
 FABRIC, PLAN = EXAMPLES / "fabric" / "topology.toml", EXAMPLES / "fabric" / "plan.json"
+TOPOLOGY = read_topology(str(FABRIC))
 
 
 class Moved(unittest.TestCase):
@@ -33,6 +34,66 @@ class Moved(unittest.TestCase):
         status, out, err = run("sundial-readiness", main, [FABRIC, PLAN])
         self.assertEqual((status, out), (1, ""))
         self.assertIn("this asks sundial", err)
+
+
+# In place of both programs: a drill of one domain, a renewal that finds no plan, and a search that finds one for three of the losses.
+ASKED = """#!/bin/sh
+case $1 in
+    migrate) exit 1 ;;
+    drill) echo 'bound device spine1 leaf1 7'; echo 'done 1 1' ;;
+    *) if [ $# = 4 ]; then echo 'refused plan 1 root device a at device a'; exit 1; fi
+        echo "$5 $6 $7 $8" >> "$(dirname "$0")/words"
+        if grep -q leaf1-spine "$4"; then echo '{"backup_root":"spine3","root":"spine2","rows":[]}'; exit 0; fi
+        echo 'refused plan 1 loop device b cycle b'; exit 1 ;;
+esac
+"""
+
+
+class Search(unittest.TestCase):
+    def searched(self, path, *words):
+        for name in "sundial", "sundialctl":
+            (path / name).write_text(ASKED)
+            (path / name).chmod(0o755)
+        said = {"SUNDIAL": str(path / "sundial"), "SUNDIALCTL": str(path / "sundialctl")}
+        # (the topology is read without the program)
+        with mock.patch.dict(os.environ, said), mock.patch("sundial_tools.readiness.main.read_topology", lambda it: TOPOLOGY):
+            return run("sundial-readiness", main, [FABRIC, PLAN, *words])
+
+    def test_the_search_is_asked_where_renew_finds_no_plan(self):
+        with directory() as path:
+            status, out, err = self.searched(path, "--search", "7", "--base", "2us", "--hold", "3us")
+            self.assertEqual((status, err), (0, ""))
+            words = (path / "words").read_text().splitlines()
+        self.assertEqual((len(words), set(words)), (46, {"2000000 3000000 1 7"}))
+        lines = {line.split("  ")[0]: line for line in out.splitlines()}
+        # (rack1 lists the three links of leaf1, too)
+        self.assertEqual(out.splitlines()[-1], "0 of 46 losses can be planned again, and 4 more by a search")
+        self.assertTrue(lines["link leaf1-spine2"].endswith("by a search: spine2, spine3"))
+        self.assertTrue(lines["device leaf1"].endswith("no: root device a at device a; search: loop device b cycle b"))
+
+    def test_the_rows_say_what_the_search_said(self):
+        with directory() as path:
+            rows = [json.loads(line) for line in self.searched(path, "--search", "7", "--json")[1].splitlines()]
+        link = next(row for row in rows if row["name"] == "leaf1-spine1")
+        self.assertEqual([link[it] for it in ("planned_again", "found_by_search", "search_refusal", "next_root")], [False, True, None, "spine2"])
+        leaf = next(row for row in rows if row["name"] == "leaf1")
+        self.assertEqual([leaf[it] for it in ("found_by_search", "search_refusal", "next_root")], [False, "loop device b cycle b", None])
+
+    def test_without_a_search_nothing_is_said_of_one(self):
+        with directory() as path:
+            _, out, _ = self.searched(path)
+            rows = [json.loads(line) for line in self.searched(path, "--json")[1].splitlines()]
+        self.assertNotIn("search", out)
+        self.assertNotIn("found_by_search", rows[0])
+
+    def test_a_search_that_is_not_there_and_words_that_are_wrong(self):
+        with mock.patch.dict(os.environ, {"SUNDIAL": "/bin/false", "SUNDIALCTL": ""}):
+            status, out, err = run("sundial-readiness", main, [FABRIC, PLAN, "--search", "7"])
+        self.assertEqual((status, out), (1, ""))
+        self.assertIn("--search asks sundialctl", err)
+        for word in "-1", "many", str((1 << 60) + 1):
+            with self.assertRaises(SystemExit):
+                run("sundial-readiness", main, [FABRIC, PLAN, f"--search={word}"])
 
 
 @needs_sundial
@@ -58,6 +119,12 @@ class Program(unittest.TestCase):
             rows = [json.loads(line) for line in self.readiness(path / "t.toml", path / "p.json", "--json")[1].splitlines()]
             leaf = next(row for row in rows if (row["kind"], row["name"]) == ("device", "leaf3"))
             self.assertEqual((leaf["cut_off"], leaf["planned_again"]), (["host3-1"], True))
+
+    @unittest.skipUnless(SEARCH.is_file(), "the program sundialctl is not built (SUNDIALCTL names it)")
+    def test_a_link_to_the_backup_root_is_planned_again_by_a_search(self):
+        with mock.patch.dict(os.environ, {"SUNDIALCTL": str(SEARCH)}):
+            out = self.readiness(FABRIC, PLAN, "--search", "0")[1]
+        self.assertEqual(out.splitlines()[-1], "38 of 46 losses can be planned again, and 8 more by a search")
 
 
 if __name__ == "__main__":

@@ -760,12 +760,25 @@ class ReadinessOfLosses(unittest.TestCase):
         self.assertEqual(tree.one("section", "verdict")["data-verdict"], "accepted")
         self.assertIn("#readiness", [node["href"] for node in tree.one("nav").all("a")])
 
+    def test_what_a_search_said_is_shown(self):
+        lost = {"planned_again": False, "refusal": "reach device spine1 chain leaf1", "next_root": None, "next_backup_root": None}
+        found = {**lost, "found_by_search": True, "search_refusal": None, "next_root": "spine1", "next_backup_root": "spine3"}
+        tree = parse(self.made(
+            self.row("leaf1-spine1", kind="link", **found, bound_ps=9),
+            self.row("leaf1-spine2", kind="link", **lost, found_by_search=False, search_refusal="loop device b cycle b"),
+        )[1])
+        section = tree.one("section", "readiness")
+        self.assertTrue(section.one("p", "facts").text.endswith("After 1 of these the search finds one."))
+        rows = [row.all("td")[7].text for row in section.one("tbody").all("tr")]
+        self.assertTrue(rows[0].endswith("search: loop device b cycle b") and rows[1].endswith("by a search: spine1, spine3"), rows)
+
     def test_what_is_no_readiness(self):
         for row, reason in (
             (self.row("leaf99"), "readiness:1: the topology has no device leaf99"),
             (self.row("leaf1", kind="rack"), "readiness:1: the topology has no rack leaf1"),
             (self.row("leaf1", bound_ps="5"), "readiness:1: no line of sundial-readiness --json"),
             (self.row("leaf1", moving=[1]), "readiness:1: no line of sundial-readiness --json"),
+            (self.row("leaf1", search_refusal=None), "readiness:1: no line of sundial-readiness --json"),
             ([], "readiness:1: no line of sundial-readiness --json"),
         ):
             status, out, err = self.made(row)

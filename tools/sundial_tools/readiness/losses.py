@@ -16,6 +16,7 @@ from sundial_tools.topology import Topology
 from sundial_tools.why.said import epath, things_of, way
 
 DONE, REFUSED = 0, 1
+SEED = "1"
 
 
 class Bound(NamedTuple):
@@ -26,34 +27,59 @@ class Bound(NamedTuple):
     without: int
 
 
+class Next(NamedTuple):
+    """What comes after a loss: the two roots of the next plan, or why there is none. `refusal` is that of `renew`, and empty
+    where it plans again. `searched` is whether the search was asked, and `search_refusal` what it said where it found none."""
+
+    refusal: str
+    roots: Tuple[str, ...]
+    searched: bool = False
+    search_refusal: str = ""
+
+    @property
+    def found(self) -> bool:
+        """Whether the search found a plan where `renew` finds none."""
+        return self.searched and not self.search_refusal
+
+
 class Loss(NamedTuple):
-    """`cut_off` are devices that no candidate for root reaches any more. `refusal` is empty where `renew` plans again."""
+    """`cut_off` are devices that no candidate for root reaches any more."""
 
     named: Named
     takes_over: bool
     moving: Tuple[str, ...]
     bound: Bound
     cut_off: Tuple[str, ...]
-    refusal: str
-    next_roots: Tuple[str, ...]
+    next: Next
 
     def row(self) -> Dict[str, object]:
         """The loss as a JSON object. Times are picoseconds."""
+        refusal, roots = self.next.refusal, self.next.roots
+        said: Dict[str, object] = {"found_by_search": self.next.found, "search_refusal": self.next.search_refusal or None}
         return {
             "kind": self.named.kind, "name": self.named.name, "takes_over": self.takes_over, "moving": list(self.moving),
             "bound_ps": self.bound.eps, "bound_device": self.bound.device, "without_bound": self.bound.without,
-            "cut_off": list(self.cut_off), "planned_again": not self.refusal, "refusal": self.refusal or None,
-            "next_root": self.next_roots[0] if self.next_roots else None,
-            "next_backup_root": self.next_roots[1] if self.next_roots else None,
+            "cut_off": list(self.cut_off), "planned_again": not refusal, "refusal": refusal or None,
+            "next_root": roots[0] if roots else None, "next_backup_root": roots[1] if roots else None,
+            **(said if self.next.searched else {}),
         }
 
 
-class Losses:
-    """Asks the program. `files` are the paths of the topology and of the plan."""
+class Search(NamedTuple):
+    """The second program, and the most moves that it makes for a loss."""
 
-    def __init__(self, program: str, topology: Topology, plan: Plan, files: Tuple[str, str], base: int, hold: int) -> None:
+    program: str
+    steps: int
+
+
+class Losses:
+    """Asks the program, and where it finds no plan the search. `files` are the paths of the topology and of the plan."""
+
+    def __init__(
+        self, program: str, topology: Topology, plan: Plan, files: Tuple[str, str], base: int, hold: int, search: Optional[Search] = None
+    ) -> None:
         self._program, self._topology, self._plan, self._files = program, topology, plan, files
-        self._words = str(base), str(hold)
+        self._words, self._search = (str(base), str(hold)), search
 
     def all(self, step: Callable[[], None]) -> Iterator[Loss]:
         """Each loss, in the order of the checker. As many run at once as there are processors."""
@@ -61,10 +87,10 @@ class Losses:
         with tempfile.TemporaryDirectory() as folder, ThreadPoolExecutor(os.cpu_count() or 1) as pool:
             named = all_named(self._topology)
             paths = [os.path.join(folder, str(place)) for place in range(len(named))]
-            for one, (cut_off, refusal, roots) in zip(named, pool.map(self._renewed, named, paths)):
+            for one, (cut_off, then) in zip(named, pool.map(self._renewed, named, paths)):
                 step()
                 takes_over, moving = moved(self._topology, self._plan, one)
-                yield Loss(one, takes_over, moving, bounds.get(one.text, Bound(None, None, 0)), cut_off, refusal, roots)
+                yield Loss(one, takes_over, moving, bounds.get(one.text, Bound(None, None, 0)), cut_off, then)
 
     def _bounds(self) -> Dict[str, Bound]:
         found: Dict[str, Bound] = {}
@@ -83,23 +109,34 @@ class Losses:
             raise ToolError(f"{self._program} drill ended with status {running.returncode}: {said}")
         return found
 
-    def _renewed(self, named: Named, path: str) -> Tuple[Tuple[str, ...], str, Tuple[str, ...]]:
-        """What the loss cuts off, why it cannot be planned again (empty where it can), and the roots of the next plan."""
+    def _renewed(self, named: Named, path: str) -> Tuple[Tuple[str, ...], Next]:
+        """What the loss cuts off, and what comes after it."""
         plan = self._plan
         left = left_without(self._topology, {*named.devices, *plan.absent_devices}, {*named.links, *plan.absent_links})
         cut_off = tuple(self._topology.devices[it].name for it in left.cut_off)
         if not left.roots:
-            return cut_off, "no candidate for root is left", ()
+            return cut_off, Next("no candidate for root is left", ())
         with open(path, "w", encoding="ascii") as text:
             text.write(left.absent_text(self._topology))
-        done = subprocess.run([self._program, "renew", *self._files, path], stdout=subprocess.PIPE, check=False)
+        refusal, roots = _asked([self._program, "renew", *self._files, path])
+        then = Next(refusal, roots)
+        if refusal and self._search is not None:
+            words = ["renew", *self._files, path, *self._words, SEED, str(self._search.steps)]
+            why, roots = _asked([self._search.program, *words])
+            then = Next(refusal, roots, True, why)
         os.unlink(path)
-        said = done.stdout.decode("ascii", "replace").strip()
-        if done.returncode == REFUSED:
-            return cut_off, said.removeprefix("refused plan 1 "), ()
-        if done.returncode != DONE:
-            raise ToolError(f"{self._program} renew ended with status {done.returncode}: {said[:200]}")
-        return cut_off, "", _roots_of(said)
+        return cut_off, then
+
+
+def _asked(words: List[str]) -> Tuple[str, Tuple[str, ...]]:
+    """Why there is no plan, or nothing and the two roots of the plan that is printed."""
+    done = subprocess.run(words, stdout=subprocess.PIPE, check=False)
+    said = done.stdout.decode("ascii", "replace").strip()
+    if done.returncode == REFUSED:
+        return said.removeprefix("refused plan 1 "), ()
+    if done.returncode != DONE:
+        raise ToolError(f"{' '.join(words[:2])} ended with status {done.returncode}: {said[:200]}")
+    return "", _roots_of(said)
 
 
 def _wider(known: Bound, eps: Optional[int], device: str) -> Bound:

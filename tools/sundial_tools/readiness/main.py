@@ -4,17 +4,18 @@ from __future__ import annotations
 
 import argparse
 import json
-from typing import Iterable, Iterator, List, TextIO
+from typing import Iterable, Iterator, List, Optional, TextIO
 
 from sundial_tools.errors import ToolError
 from sundial_tools.inputs import as_files
 from sundial_tools.plan import read_plan
-from sundial_tools.readiness.losses import Loss, Losses
+from sundial_tools.readiness.losses import Loss, Losses, Next, Search
 from sundial_tools.safe_write import OUTPUT, Progress, whole_output
-from sundial_tools.topology import read_topology, sundial_program
+from sundial_tools.topology import read_topology, search_program, sundial_program
 from sundial_tools.whatif.wishes import time_of
 
 TICKS = 3
+MOST_STEPS = 1 << 60
 COLUMNS = ("loss", "moving", "greatest eps", "at", "cut off", "planned again")
 
 
@@ -24,22 +25,36 @@ def main(words: List[str]) -> int:
     if program is None:
         raise ToolError("this asks sundial: put it on the path, or name it in the variable SUNDIAL")
     with as_files(options, "topology", "plan"):
-        return _told(options, program)
+        return _told(options, program, _search(options.search))
 
 
-def _told(options: argparse.Namespace, program: str) -> int:
+def _search(steps: Optional[int]) -> Optional[Search]:
+    if steps is None:
+        return None
+    program = search_program()
+    if program is None:
+        raise ToolError("--search asks sundialctl: put it on the path, or name it in the variable SUNDIALCTL")
+    return Search(program, steps)
+
+
+def _told(options: argparse.Namespace, program: str, search: Optional[Search]) -> int:
     topology = read_topology(options.topology)
     plan = read_plan(options.plan, topology)
     hold = plan.wait_first + plan.wait_second + TICKS * topology.tick if options.hold is None else time_of(options.hold)
-    losses = Losses(program, topology, plan, (options.topology, options.plan), time_of(options.base), hold)
+    losses = Losses(program, topology, plan, (options.topology, options.plan), time_of(options.base), hold, search)
     with Progress("sundial-readiness", "losses") as progress, whole_output(options.output) as text:
         found = list(losses.all(progress.step))
         if options.json:
             text.writelines(json.dumps(loss.row()) + "\n" for loss in found)
         else:
-            _write_table([it for it in found if it.refusal] if options.refused else found, text)
-            text.write(f"{sum(not it.refusal for it in found)} of {len(found)} losses can be planned again\n")
+            _write_table([it for it in found if it.next.refusal] if options.refused else found, text)
+            text.write(_count(found, search is not None) + "\n")
     return 0
+
+
+def _count(losses: List[Loss], searched: bool) -> str:
+    said = f"{sum(not it.next.refusal for it in losses)} of {len(losses)} losses can be planned again"
+    return said + (f", and {sum(it.next.found for it in losses)} more by a search" if searched else "")
 
 
 def _write_table(losses: Iterable[Loss], text: TextIO) -> None:
@@ -56,7 +71,15 @@ def _cells(loss: Loss) -> Iterator[str]:
     yield "none" if loss.bound.eps is None else f"{loss.bound.eps / 10**6:,.3f} us"
     yield loss.bound.device or ""
     yield _few(loss.cut_off)
-    yield f"no: {loss.refusal}" if loss.refusal else f"yes: {', '.join(loss.next_roots)}"
+    yield _then(loss.next)
+
+
+def _then(then: Next) -> str:
+    if not then.refusal:
+        return f"yes: {', '.join(then.roots)}"
+    if then.found:
+        return f"by a search: {', '.join(then.roots)}"
+    return f"no: {then.refusal}" + (f"; search: {then.search_refusal}" if then.searched else "")
 
 
 def _few(names: "tuple[str, ...]") -> str:
@@ -77,7 +100,16 @@ def _parser() -> argparse.ArgumentParser:
     parser.add_argument(
         "--hold", metavar="TIME", help="HOLD of the drill (default: both waits of the backup root, and three ticks)"
     )
-    parser.add_argument("--refused", action="store_true", help="only losses after which nothing can be planned")
+    parser.add_argument(
+        "--search", type=_steps, metavar="STEPS", help="where renew finds no plan, ask sundialctl renew, with at most so many moves"
+    )
+    parser.add_argument("--refused", action="store_true", help="only losses after which renew finds no plan")
     parser.add_argument("--json", action="store_true", help="JSON lines, one a loss, with all names; times in picoseconds")
     parser.add_argument("--output", "-o", metavar="FILE", help=OUTPUT)
     return parser
+
+
+def _steps(word: str) -> int:
+    if not (word.isascii() and word.isdigit()) or int(word) > MOST_STEPS:
+        raise argparse.ArgumentTypeError(f"{word!r} is no number of moves")
+    return int(word)

@@ -15,11 +15,14 @@ KEYS: Dict[str, Tuple[type, ...]] = {
     "bound_device": (str, type(None)), "without_bound": (int,), "cut_off": (list,), "planned_again": (bool,),
     "refusal": (str, type(None)), "next_root": (str, type(None)), "next_backup_root": (str, type(None)),
 }
+# Keys that are there where the search was asked.
+SEARCHED: Dict[str, Tuple[type, ...]] = {"found_by_search": (bool,), "search_refusal": (str, type(None))}
 
 
 class Outcome(NamedTuple):
     """What a loss does. `bound` is the greatest of the drill, in picoseconds, and `at` the device that has it; None where
-    no device has one. `refusal` is empty where what is left can be planned again, with the two roots of `next_roots`."""
+    no device has one. `refusal` is empty where `renew` plans again. `found` is whether the search plans where `renew` does not, and
+    `search_refusal` why it finds no plan, where it was asked. `next_roots` are the two roots of the next plan."""
 
     takes_over: bool
     moving: Tuple[str, ...]
@@ -29,6 +32,8 @@ class Outcome(NamedTuple):
     cut_off: Tuple[str, ...]
     refusal: str
     next_roots: Tuple[str, ...]
+    found: bool = False
+    search_refusal: str = ""
 
     @property
     def meaning(self) -> str:
@@ -38,7 +43,8 @@ class Outcome(NamedTuple):
 
 
 class Readiness(NamedTuple):
-    """Each outcome with its losses, as `link a`. Those come first after which nothing can be planned, then the widest."""
+    """Each outcome with its losses, as `link a`. Those come first after which nothing is planned, then those that the search
+    plans alone, then the widest."""
 
     outcomes: Tuple[Tuple[Outcome, Tuple[str, ...]], ...]
 
@@ -49,6 +55,11 @@ class Readiness(NamedTuple):
     @property
     def planned_again(self) -> int:
         return sum(len(names) for outcome, names in self.outcomes if not outcome.refusal)
+
+    @property
+    def found(self) -> int:
+        """How many losses the search plans, and `renew` does not."""
+        return sum(len(names) for outcome, names in self.outcomes if outcome.found)
 
 
 def read_readiness(lines: Iterable[str], topology: Topology, source: str) -> Readiness:
@@ -64,7 +75,7 @@ def read_readiness(lines: Iterable[str], topology: Topology, source: str) -> Rea
         found.setdefault(_outcome(said), []).append(f"{said['kind']} {said['name']}")
     if not found:
         raise ToolError("there is no loss: it is no output of sundial-readiness --json", source)
-    order = sorted(found, key=lambda outcome: (not outcome.refusal, -(outcome.bound or 0), -len(outcome.moving)))
+    order = sorted(found, key=lambda it: (not it.refusal, it.found, -(it.bound or 0), -len(it.moving)))
     return Readiness(tuple((outcome, tuple(found[outcome])) for outcome in order))
 
 
@@ -73,7 +84,8 @@ def _row(text: str, source: str, number: int) -> Dict[str, Any]:
         said = parse_json(text, source)
     except ToolError as fault:
         raise ToolError(fault.reason, source, number) from None
-    if not isinstance(said, dict) or any(type(said.get(key)) not in kinds for key, kinds in KEYS.items()):
+    keys = {**KEYS, **(SEARCHED if isinstance(said, dict) and SEARCHED.keys() & said.keys() else {})}
+    if not isinstance(said, dict) or any(type(said.get(key)) not in kinds for key, kinds in keys.items()):
         raise ToolError("no line of sundial-readiness --json", source, number)
     if any(not isinstance(name, str) for key in ("moving", "cut_off") for name in said[key]):
         raise ToolError("no line of sundial-readiness --json", source, number)
@@ -85,4 +97,5 @@ def _outcome(said: Dict[str, Any]) -> Outcome:
     return Outcome(
         said["takes_over"], tuple(said["moving"]), said["bound_ps"], said["bound_device"], said["without_bound"],
         tuple(said["cut_off"]), "" if said["planned_again"] else said["refusal"] or "not said why", roots,
+        said.get("found_by_search", False), said.get("search_refusal") or "",
     )

@@ -16,6 +16,7 @@ def readiness_section(readiness: Readiness) -> Raw:
     lost = readiness.losses - readiness.planned_again
     facts = f"{readiness.planned_again} of {count(readiness.losses, 'loss', 'losses')} can be planned again."
     facts += f" After {lost} the rule of renew finds no plan: they come first." if lost else ""
+    facts += f" After {readiness.found} of these the search finds one." if readiness.found else ""
     return element(
         "section",
         element("h2", "Readiness: what each loss does", id="readiness"),
@@ -55,7 +56,12 @@ def _moving(outcome: Outcome) -> Raw:
 def _next(outcome: Outcome) -> Raw:
     if not outcome.refusal:
         return element("span", f"yes: {', '.join(outcome.next_roots)}")
-    return joined([element("span", f"no: {outcome.refusal}"), element("span", outcome.meaning, class_="cause") if outcome.meaning else ""])
+    said = [element("span", f"no: {outcome.refusal}"), element("span", outcome.meaning, class_="cause") if outcome.meaning else ""]
+    if outcome.found:
+        said.append(element("span", f"by a search: {', '.join(outcome.next_roots)}", class_="cause"))
+    elif outcome.search_refusal:
+        said.append(element("span", f"search: {outcome.search_refusal}", class_="cause"))
+    return joined(said)
 
 
 def _few(names: Sequence[str]) -> str:
