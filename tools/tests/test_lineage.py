@@ -7,6 +7,7 @@ import unittest
 import case
 from examples import EXAMPLES, outputs
 from histories import PLANS, TRIANGLE, History
+from page_tree import parse
 from support import directory, run
 
 from sundial_tools.fleet.lineage import MILLION
@@ -201,10 +202,20 @@ class OnThePage(unittest.TestCase):
             words = [here / "topology.toml", here / "plan.json", here / "plan.json", "--replay", here / "schedule.txt", path / "output"]
             status, page, err = run("sundial-report", report_main, words)
         self.assertEqual((status, err), (0, ""))
-        self.assertIn('<details class="lineage"><summary>', page)
-        self.assertIn(">rests on</th>", page)
-        # (the alarm of line 38: the message of line 37 took too long, and no clock lied)
-        self.assertIn("Not honest in its lineage: line ", page)
+        tree = parse(page)
+        reports = tree.one("table", "reports")
+        self.assertEqual(reports.one("thead").all("th")[-1].text, "rests on")
+        rows = {row.all("td")[0].text: row for row in reports.one("tbody").all("tr")}
+        self.assertEqual(len(rows), 8)
+        for line, row in rows.items():
+            self.assertEqual(row.all("td")[-1].one("summary").text.endswith(": not honest"), line == "38", line)
+        # (the alarm of line 38: the message of line 36 took too long, and no clock lied)
+        parts = rows["38"].one("details", "lineage").all("li")
+        self.assertEqual([part["class"] for part in parts], [None, None, "unsound", None])
+        self.assertEqual(parts[0].text, "line 30: fix set spine1 0 ps off, with an eps of 500 ps")
+        found = "line 36: over spine1-leaf to leaf in 1.9 us, and the link takes 400 ns to 1 us"
+        self.assertEqual(parts[2].text, f"{found}: not honest")
+        self.assertIn(f"Not honest in its lineage: {found}.", tree.one("section", "verdict").text)
 
 
 if __name__ == "__main__":

@@ -23,7 +23,7 @@ from sundial_tools.report.main import main
 from sundial_tools.report.replay import Replay
 from sundial_tools.report.replay_view import Drawn, ReplayView, greatest
 from sundial_tools.report.series import MOST_INTERVALS, MOST_REPORTS, Interval, Peaks, Percentiles, Report, Reports
-from sundial_tools.report.units import clear, column, exact, human, readable, round_steps
+from sundial_tools.report.units import clear, column, human, readable, round_steps
 from sundial_tools.schedule import parse_event
 from sundial_tools.topology import parse_topology, read_topology
 
@@ -178,6 +178,14 @@ class Trees(unittest.TestCase):
             {(str(device), True) for device, row in after.rows.items() if row.primary != before.rows[device].primary}
             | {(str(device), False) for device, row in after.rows.items() if row.backup and row.backup != before.rows[device].backup},
         )
+
+    def test_small_trees_stand_side_by_side_on_a_narrower_page(self):
+        for name, plans, least in ("incident", ("plan.json", "plan.json"), "360"), ("fabric", ("plan.json", "plan-2.json"), "520"):
+            here = EXAMPLES / name
+            tree = page(here / "topology.toml", *(here / plan for plan in plans))
+            self.assertEqual(tree.one("div", "side-by-side")["style"], f"--tree:{least}px")
+            widest = max(float(node["width"]) for node in tree.one("section", "plans").all("svg"))
+            self.assertEqual(int(least), max(360, min(520, widest)))
 
     def test_the_rows_stand_in_a_table(self):
         here = EXAMPLES / "triangle"
@@ -937,7 +945,10 @@ class Pages(unittest.TestCase):
     def test_styles_for_dark_forced_colours_print_and_narrow_pages(self):
         here = EXAMPLES / "triangle"
         style = page(here / "topology.toml", here / "plan.json").one("style").text
-        for rule in "prefers-color-scheme:dark", "forced-colors:active", "@media print", "max-width:640px", ":focus-visible", "position:sticky":
+        for rule in (
+            "prefers-color-scheme:dark", "forced-colors:active", "@media print", "max-width:640px", "max-width:900px", ":focus-visible",
+            "position:sticky",
+        ):
             self.assertIn(rule, style)
 
     def test_what_needs_script_is_hidden_without_it(self):
@@ -1030,7 +1041,10 @@ class Series(unittest.TestCase):
             [human(value) for value in (0, 999, 3202950, 10**9, 1345000000)],
             ["0 ps", "999 ps", "3.203 us", "1 ms", "1.345 ms"],
         )
-        self.assertEqual(exact(3202950), "3,202,950 ps")
+        self.assertEqual(
+            [clear(value) for value in (0, 999, 3202950, 3001900000, 2498679912, 86400 * 10**12 + 1, -1200000)],
+            ["0", "999 ps", "3.20295 us", "3.0019 ms", "2.498679912 ms", "86,400.000000000001 s", "-1.2 us"],
+        )
 
     def test_a_column_has_one_unit_and_all_digits(self):
         self.assertEqual(column([1500000000, 3001900000, 0]), ("ms", ["1.5000", "3.0019", "0.0000"]))
@@ -1041,7 +1055,8 @@ class Series(unittest.TestCase):
 
     def test_a_sentence_in_the_units_that_fit(self):
         self.assertEqual(readable("after 1,900,000 ps, and 400,000 to 1,000,000 ps"), "after 1.9 us, and 400 ns to 1 us")
-        self.assertEqual(readable("0 ps since line 5"), "0 since line 5")
+        self.assertEqual(readable("it takes 0 to 1,000 ps"), "it takes 0 to 1 ns")
+        self.assertEqual(readable("line 30: fix set r 0 ps off, with an eps of 500 ps"), "line 30: fix set r 0 ps off, with an eps of 500 ps")
         self.assertEqual(round_steps(0, 3.2, 8), [0, 0.5, 1, 1.5, 2, 2.5, 3])
 
 

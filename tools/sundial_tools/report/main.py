@@ -30,6 +30,8 @@ from sundial_tools.schedule import open_schedule
 from sundial_tools.topology import Topology, read_topology
 
 PARTS = ("tree", "drill", "replay", "readiness")
+# How wide a plan is at the least where plans stand side by side, in pixels of the page.
+LEAST_BESIDE, MOST_BESIDE = 360, 520
 
 
 def main(words: List[str]) -> int:
@@ -134,21 +136,22 @@ class _Report:
         return element("section", element("h2", "Files", id="files"), sources_table(sources, f", {_today()}"), class_="sources")
 
     def _trees(self) -> Raw:
-        parts: List[Raw] = []
+        trees: List[TreeSection] = []
         for place, plan in enumerate(self._plans, 1):
             before = self._plans[place - 2] if place > 1 else None
-            parts.append(
+            trees.append(
                 TreeSection(
                     self._topology, plan, place, self._refusals.get(place), self._said.domain, self._said.layout == "dot", before
-                ).html()
+                )
             )
         changes = [
             changes_section(self._topology, place, *pair) for place, pair in enumerate(zip(self._plans, self._plans[1:]), 1)
         ]
-        heading = "Plans: who follows whom" if len(parts) > 1 else "Plan: who follows whom"
-        return element(
-            "section", element("h2", heading, id="plans"), element("div", parts, class_="side-by-side"), changes, class_="plans"
-        )
+        heading = "Plans: who follows whom" if len(trees) > 1 else "Plan: who follows whom"
+        # Small trees stand side by side on a narrower page than large ones.
+        least = min(max(max(tree.width for tree in trees), LEAST_BESIDE), MOST_BESIDE)
+        beside = element("div", [tree.html() for tree in trees], class_="side-by-side", style=f"--tree:{least:.0f}px")
+        return element("section", element("h2", heading, id="plans"), beside, changes, class_="plans")
 
     def _refused(self, line: OutputLine, text: str, name: str) -> None:
         refusal = refusal_of(line, text, self._topology, name)

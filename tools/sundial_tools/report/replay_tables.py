@@ -111,8 +111,11 @@ def _lineage(view: ReplayView, report: Report) -> Cell:
         return ""
     told = Told(view.topology, report.lineage)
     names = ", ".join(told.devices) + (f" over {', '.join(told.links)}" if told.links else "")
-    caption = names if told.is_honest else f"{names}: not honest"
-    return folded(caption, element("ol", [element("li", readable(text)) for text in told.texts()]), class_="lineage")
+    caption = joined([element("span", names), "" if told.is_honest else element("b", ": not honest", class_="unsound")])
+    parts = [
+        element("li", readable(text), class_=None if one.is_honest else "unsound") for one, text in zip(told.judged, told.texts())
+    ]
+    return folded(caption, element("ol", parts), class_="lineage")
 
 
 def spans_table(view: ReplayView) -> Raw:

@@ -17,6 +17,10 @@ Point = Tuple[float, float]
 MOST_ZOOM, WIDE = 1.4, 760.0
 
 
+def zoom_of(width: float) -> float:
+    return max(1.0, min(MOST_ZOOM, WIDE / width))
+
+
 class TreePicture:
     """Draws one plan. `effect` is the domain under which it is shown, `refusal` what it is marked by, `changed` the hops
     that the plan before did not have."""
@@ -36,7 +40,7 @@ class TreePicture:
 
     def svg(self, label: str) -> Raw:
         width, height = self._drawing.width, self._drawing.height
-        zoom = max(1.0, min(MOST_ZOOM, WIDE / width))
+        zoom = zoom_of(width)
         drawn = [(edge, self._edge_states(edge), route) for edge, route in zip(self._drawing.edges, self._drawing.routes)]
         # What is refused is drawn last, over all others, at its full length.
         drawn.sort(key=lambda one: "breach" in one[1])

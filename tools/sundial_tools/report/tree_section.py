@@ -14,7 +14,7 @@ from sundial_tools.report.layout import lay_out
 from sundial_tools.report.markup import Raw, element, folded, joined, region
 from sundial_tools.report.refusal import Refusal
 from sundial_tools.report.tables import names_of, table
-from sundial_tools.report.tree_picture import TreePicture, effect_states
+from sundial_tools.report.tree_picture import TreePicture, effect_states, zoom_of
 from sundial_tools.report.units import count, human
 from sundial_tools.topology import Topology
 
@@ -44,6 +44,11 @@ class TreeSection:
         self._changed = changes(before, plan).hops if before is not None else frozenset()
         self._drawing: Drawing = draw(topology, plan, frozenset(refusal.steps) if refusal is not None else frozenset())
         lay_out(self._drawing, use_dot)
+
+    @property
+    def width(self) -> float:
+        """How wide its picture is, in pixels of the page."""
+        return self._drawing.width * zoom_of(self._drawing.width)
 
     def _choose(self, label: Optional[str]) -> Optional[Effect]:
         if label is None:

@@ -3,7 +3,7 @@
 from __future__ import annotations
 
 import re
-from typing import List, NamedTuple, Sequence, Tuple
+from typing import List, Match, NamedTuple, Sequence, Tuple
 
 UNITS: Tuple[Tuple[int, str], ...] = ((10**12, "s"), (10**9, "ms"), (10**6, "us"), (10**3, "ns"), (1, "ps"))
 
@@ -30,17 +30,11 @@ def in_unit(picoseconds: int, size: int) -> str:
 
 
 def clear(picoseconds: int) -> str:
-    """All digits in the unit that fits, up to nine of them: 3.0019 ms. A longer number stands in picoseconds."""
+    """All digits in the unit that fits: 3.0019 ms."""
     if picoseconds == 0:
         return "0"
-    size, name = unit_of(picoseconds)
-    text = f"{picoseconds // size}.{abs(picoseconds) % size:0{len(str(size)) - 1}d}".rstrip("0").rstrip(".") if size > 1 else str(picoseconds)
-    return f"{text} {name}" if len(text) <= 10 and picoseconds >= 0 else exact(picoseconds)
-
-
-def exact(picoseconds: int) -> str:
-    """All digits, in groups of three: 3,202,950 ps."""
-    return f"{picoseconds:,} ps"
+    unit, (text,) = column([picoseconds])
+    return f"{text} {unit}"
 
 
 COUNTS = re.compile(r"([0-9][0-9,]*)(?: to ([0-9][0-9,]*))? ps\b")
@@ -48,7 +42,13 @@ COUNTS = re.compile(r"([0-9][0-9,]*)(?: to ([0-9][0-9,]*))? ps\b")
 
 def readable(sentence: str) -> str:
     """The same sentence, with its picoseconds in the units that fit."""
-    return COUNTS.sub(lambda found: " to ".join(clear(int(digits.replace(",", ""))) for digits in found.groups() if digits), sentence)
+    return COUNTS.sub(_in_units, sentence)
+
+
+def _in_units(found: Match[str]) -> str:
+    counts = [int(digits.replace(",", "")) for digits in found.groups() if digits]
+    # (a 0 that stands alone keeps a unit: "0 ps off" and not "0 off")
+    return " to ".join(clear(one) for one in counts) if any(counts) else found[0]
 
 
 class Column(NamedTuple):
