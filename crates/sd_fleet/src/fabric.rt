@@ -1,5 +1,7 @@
 //! What a fabric keeps, and what it answers of the present.
-ghost use Rattle.std.specs.Prelude.{◌≡◌, ◌≤◌, ◌<◌, ◌^◌, ℕ, List, [], length, IfOk, IfSome, IsTrue, Option, Some, None, option_map, option_and_then};
+ghost use Rattle.std.specs.Prelude.{◌≡◌, ◌≤◌, ◌<◌, ◌^◌, ℕ, List, [], length, IfOk, IfSome, IsTrue, Option, Some, None, ◌+◌, ◌++◌, option_map, option_and_then, option_to_list};
+ghost use Rattle.std.specs.Result.{result_ok};
+ghost use Rattle.std.specs.Vec.{vec_capacity};
 ghost use Rattle.sd_topo.specs.Topologies.{network};
 ghost use Rattle.sd_topo.specs.Network.{rates_of};
 ghost use Rattle.sd_msg.specs.Books.{found};
@@ -165,6 +167,21 @@ impl Fabric {
         ensures { result ≡ is_open self.now.membership.world.window }
     {
         self.membership.world().window().is_open()
+    }
+
+    /// Adds the flight of a number to a list that has room, where it is on its way.
+    // A flight is large: it is copied once.
+    #[inline(always)]
+    pub fn push_flight(&self, number: u64, list: &mut Vec<Flight>)
+        requires { length list.old.items < vec_capacity list.old }
+        ensures items { (setting : Setting) (steps : List Step) → Stands self.now setting steps
+            → list.new.items ≡ list.old.items ++ option_to_list (result_ok (look_in steps number)) }
+        ensures few { length list.new.items ≤ length list.old.items + 1 }
+        ensures capacity { vec_capacity list.old ≤ vec_capacity list.new }
+    {
+        if let Ok(flight) = self.book.find(number) {
+            list.push_reserved(*flight);
+        }
     }
 
     /// The flight of a number, or why there is none: `Unknown` or `Spent`.

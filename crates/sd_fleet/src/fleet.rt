@@ -1,5 +1,7 @@
 //! The fleet: which events are refused, and what each accepted event comes to.
-ghost use Rattle.std.specs.Prelude.{◌≡◌, ◌≤◌, ◌<◌, ◌^◌, ℕ, List, [], length, replicate, false, IsTrue, Some, None, Err, IfOk, IfErr, IfSome, OnOk};
+ghost use Rattle.std.specs.Prelude.{◌≡◌, ◌≤◌, ◌<◌, ◌^◌, ℕ, List, [], length, replicate, false, ◌+◌, ◌++◌, option_to_list, IsTrue, Some, None, Err, IfOk, IfErr, IfSome, OnOk};
+ghost use Rattle.std.specs.Result.{result_ok};
+ghost use Rattle.std.specs.Vec.{vec_capacity};
 ghost use Rattle.sd_topo.specs.Topologies.{network};
 ghost use Rattle.sd_sched.specs.Events.{device_of};
 ghost use Rattle.sd_sched.specs.declared.Event.TheVariants as events_of;
@@ -400,6 +402,21 @@ impl<N: Node> Fleet<N> {
             → StandsFor N.Node self.now setting run → result ≡ look_in (steps_of run) number }
     {
         self.fabric.flight(number)
+    }
+
+    /// Adds the flight of a number to a list that has room, where it is on its way.
+    // A flight is large: it is copied once.
+    #[inline(always)]
+    pub fn push_flight(&self, number: u64, list: &mut Vec<Flight>)
+        requires { length list.old.items < vec_capacity list.old }
+        ensures items { (setting : Setting) (run : List (NodeStep N))
+            → StandsFor N.Node self.now setting run
+            → list.new.items
+            ≡ list.old.items ++ option_to_list (result_ok (look_in (steps_of run) number)) }
+        ensures few { length list.new.items ≤ length list.old.items + 1 }
+        ensures capacity { vec_capacity list.old ≤ vec_capacity list.new }
+    {
+        self.fabric.push_flight(number, list);
     }
 
     /// Whether the device is up: it was made, and has not failed since.

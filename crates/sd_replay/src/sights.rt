@@ -1,7 +1,6 @@
 //! What the monitors see of an event in the fleet: the flights that it sent and that reach, and how
 //! devices stand after it.
 ghost use Rattle.std.specs.Prelude.{◌≡◌, ◌<◌, ◌≤◌, ◌+◌, ◌^◌, ◌∷◌, ◌++◌, ℕ, List, length, filter, option_to_list, IfSome};
-ghost use Rattle.std.specs.Result.{result_ok};
 ghost use Rattle.std.specs.Vec.{vec_capacity};
 ghost use Rattle.sd_sched.specs.declared.Event.{Event as AnyEvent};
 ghost use Rattle.sd_sched.specs.Events.{device_of};
@@ -15,7 +14,7 @@ ghost use Rattle.sd_replay.specs.Sights.{Tells};
 
 use sd_core::Node;
 use sd_fleet::{Fleet, Sent};
-use sd_msg::{Flight, TakeFault};
+use sd_msg::Flight;
 use sd_sched::Event;
 use sd_watch::parent_table::{ParentRow, ParentTable};
 
@@ -101,20 +100,6 @@ pub(crate) fn update_rows<N: Node>(
     }
 }
 
-/// Adds the flight that was found, if one was.
-// A flight is large: inlined, it is copied once.
-#[inline(always)]
-fn add_found(sent: &mut Vec<Flight>, found: Result<Flight, TakeFault>)
-    requires { length sent.old.items < vec_capacity sent.old }
-    ensures items { sent.new.items ≡ sent.old.items ++ option_to_list (result_ok found) }
-    ensures few { length sent.new.items ≤ length sent.old.items + 1 }
-    ensures capacity { vec_capacity sent.old ≤ vec_capacity sent.new }
-{
-    if let Ok(flight) = found {
-        sent.push_reserved(flight);
-    }
-}
-
 /// Collects the flights of these messages that reach, in place of those collected before, in room
 /// that was made. The latest event sent the messages.
 #[inline(always)]
@@ -130,6 +115,6 @@ pub(crate) fn collect<N: Node>(fleet: &Fleet<N>, messages: Sent, sent: &mut Vec<
 {
     sent.clear();
     for i in 0..messages.count {
-        add_found(sent, fleet.flight(messages.first + u64::from(i)));
+        fleet.push_flight(messages.first + u64::from(i), sent);
     }
 }

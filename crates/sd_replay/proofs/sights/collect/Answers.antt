@@ -11,15 +11,16 @@ pub loop-i-preserved : goal.loop-i-preserved
 loop-i-preserved g c =
     record {
       flights = λ setting run event outcome accepted tells.
-          one_collected setting accepted.next.step (steps_of run) outcome c.loop-i.i c.flight.result c.loop-i.sent.items c.add_found.new.sent.items
+          one_collected setting accepted.next.step (steps_of run) outcome c.loop-i.i
+          (look_in (accepted.next.step ∷ steps_of run) (c.args.messages.first + c.from.result)) c.loop-i.sent.items c.push_flight.new.list.items
           accepted.stands.fabric.accepted accepted.comes
           (omega (arith, c.loop-i-test.true, c.loop-i.auto.i-end, tells.count))
-          (c.flight.ensures setting (accepted.next ∷ run) accepted.stands
-          ∙ ap (λ (n : ℕ). look_in (accepted.next.step ∷ steps_of run) (c.args.messages.first + n)) c.from.ensures
+          (ap (λ (n : ℕ). look_in (accepted.next.step ∷ steps_of run) (c.args.messages.first + n)) c.from.ensures
           ∙ ap (λ (n : ℕ). look_in (accepted.next.step ∷ steps_of run) (n + c.loop-i.i)) (sym tells.first))
-          (c.loop-i.invariant.flights setting run event outcome accepted tells) c.add_found.ensures.items;
-      few = omega (arith, c.add_found.ensures.few, c.loop-i.invariant.few);
-      capacity = omega (arith, c.add_found.ensures.capacity, c.loop-i.invariant.capacity);
+          (c.loop-i.invariant.flights setting run event outcome accepted tells)
+          (c.push_flight.ensures.items setting (accepted.next ∷ run) accepted.stands);
+      few = omega (arith, c.push_flight.ensures.few, c.loop-i.invariant.few);
+      capacity = omega (arith, c.push_flight.ensures.capacity, c.loop-i.invariant.capacity);
     }
 
 pub returns-clause-flights : goal.returns-clause-flights
