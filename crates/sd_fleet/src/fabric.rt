@@ -78,6 +78,13 @@ impl Fabric {
         self.topology.devices()
     }
 
+    /// How many links there are.
+    pub fn links(&self) -> u32
+        ensures { result ≡ length self.now.net.links }
+    {
+        self.topology.links()
+    }
+
     /// The world of its devices and links.
     pub fn world(&self) -> &World
         ensures world { result.now ≡ self.now.membership.world }

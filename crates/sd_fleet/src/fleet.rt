@@ -1,5 +1,5 @@
 //! The fleet: which events are refused, and what each accepted event comes to.
-ghost use Rattle.std.specs.Prelude.{◌≡◌, ◌≤◌, ◌<◌, ◌^◌, ℕ, List, [], length, replicate, false, ◌+◌, ◌++◌, option_to_list, IsTrue, Some, None, Err, IfOk, IfErr, IfSome, OnOk};
+ghost use Rattle.std.specs.Prelude.{◌≡◌, ◌≤◌, ◌<◌, ◌^◌, ℕ, List, [], length, replicate, false, ◌+◌, ◌++◌, option_to_list, option_map, IsTrue, Some, None, Err, IfOk, IfErr, IfSome, OnOk};
 ghost use Rattle.std.specs.Result.{result_ok};
 ghost use Rattle.std.specs.Vec.{vec_capacity};
 ghost use Rattle.sd_topo.specs.Topologies.{network};
@@ -14,7 +14,7 @@ ghost use Rattle.sd_fleet.specs.History.flights.Flights.{look_in};
 ghost use Rattle.sd_fleet.specs.FleetState.membership.Plans.{AreSound};
 ghost use Rattle.sd_fleet.specs.Causes.{refusal_in};
 ghost use Rattle.sd_fleet.specs.Doing.{act_in};
-ghost use Rattle.sd_fleet.specs.Nodes.{Acts};
+ghost use Rattle.sd_fleet.specs.Nodes.{node_at, Acts};
 ghost use Rattle.sd_fleet.specs.Room.{ends_in, most_sent_of, most_sent_in};
 ghost use Rattle.sd_fleet.specs.Sound.{IsSound};
 ghost use Rattle.sd_fleet.specs.Stepping.{OnlyRoomGrew, outcome_resting};
@@ -27,6 +27,7 @@ use crate::keeps::{emit_at, hear_at, is_acting_at, is_settled_at};
 use crate::nodes::{CallContext, ask_at, call_at, place, rests_at};
 use crate::{ApplyFault, Call, Fabric, Outcome, Reply, Sent};
 use sd_core::Node;
+use sd_fleet_state::world::World;
 use sd_msg::{Flight, TakeFault};
 use sd_num::NoMemory;
 use sd_plan::Plan;
@@ -207,6 +208,32 @@ impl<N: Node> Fleet<N> {
         ensures { result ≡ length self.now.fabric.net.devices }
     {
         self.fabric.devices()
+    }
+
+    /// How many links there are.
+    pub fn links(&self) -> u32
+        ensures { result ≡ length self.now.fabric.net.links }
+    {
+        self.fabric.links()
+    }
+
+    /// The world of its devices and links.
+    pub fn world(&self) -> &World
+        ensures world { result.now ≡ self.now.fabric.membership.world }
+        ensures sound { IsSound self.now.fabric }
+    {
+        self.fabric.world()
+    }
+
+    /// The node of a device, since it was last made.
+    pub fn node(&self, d: u32) -> Option<&N>
+        requires { d < length self.now.fabric.net.devices }
+        ensures { option_map (λ n. n.now) result ≡ node_at self.now.nodes.items d }
+    {
+        match &self.nodes[d as usize] {
+            Some(node) => Some(node),
+            None => None,
+        }
     }
 
     /// The first cause for which an event is refused, if there is one. It is never `Memory`.
