@@ -12,6 +12,6 @@ sight_by e outcome sent =
     record { event = e; taken = outcome.taken; sent = sent; activated = outcome.activated; acted = outcome.acted; closed = outcome.closed }
 
 -- the messages are those of the outcome
-pub record Tells (messages : Sent) (outcome : Outcome) : Type 0 where
+pub record AreSentBy (messages : Sent) (outcome : Outcome) : Type 0 where
   pub first : outcome.first_sent ≡ messages.first
   pub count : outcome.sent ≡ messages.count

@@ -10,7 +10,7 @@ ghost use Rattle.sd_fleet.specs.Standing.{IsAccepted};
 ghost use Rattle.sd_fleet.specs.declared.Outcome.{Outcome as AnyOutcome};
 ghost use Rattle.sd_premise.specs.FleetState.membership.Plans.{AreSound};
 ghost use Rattle.sd_replay.specs.lines.Findings.{IsOf, found_lines};
-ghost use Rattle.sd_replay.specs.Sights.{Tells};
+ghost use Rattle.sd_replay.specs.Sights.{AreSentBy};
 ghost use Rattle.sd_replay.specs.Troubles.{found_with};
 
 use crate::alarms::{NO_ALARMS, alarms_of};
@@ -127,7 +127,7 @@ impl Monitors {
         ensures flights { (setting : Setting) (run : List (NodeStep N)) (event : AnyEvent)
             (outcome : AnyOutcome)
             (accepted : IsAccepted N.Node fleet.now setting run event outcome)
-            → Tells messages outcome
+            → AreSentBy messages outcome
             → self.new.sent.items ≡ filter (λ f. f.reaches) accepted.next.step.sent }
         ensures room { length self.new.sent.items ≤ sent_room self.new }
         ensures stands { (setting : Setting) (steps : List Step) → HasSeen self.old setting steps

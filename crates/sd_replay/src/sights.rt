@@ -10,7 +10,7 @@ ghost use Rattle.sd_history.specs.Nodes.{NodeStep, steps_of};
 ghost use Rattle.sd_fleet.specs.Standing.{StandsFor, IsAccepted};
 ghost use Rattle.sd_fleet.specs.declared.Outcome.{Outcome as AnyOutcome};
 ghost use Rattle.sd_replay.specs.Standing.{parent_row_in, IsSet, IsParentTable, IsStepOf};
-ghost use Rattle.sd_replay.specs.Sights.{Tells};
+ghost use Rattle.sd_replay.specs.Sights.{AreSentBy};
 
 use sd_core::Node;
 use sd_fleet::{Fleet, Sent};
@@ -108,7 +108,7 @@ pub(crate) fn collect<N: Node>(fleet: &Fleet<N>, messages: Sent, sent: &mut Vec<
     requires numbers { messages.first + messages.count < 2 ^ 64 }
     ensures flights { (setting : Setting) (run : List (NodeStep N)) (event : AnyEvent)
         (outcome : AnyOutcome) (accepted : IsAccepted N.Node fleet.now setting run event outcome)
-        → Tells messages outcome
+        → AreSentBy messages outcome
         → sent.new.items ≡ filter (λ f. f.reaches) accepted.next.step.sent }
     ensures few { length sent.new.items ≤ messages.count }
     ensures capacity { vec_capacity sent.old ≤ vec_capacity sent.new }
