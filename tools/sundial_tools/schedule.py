@@ -66,10 +66,11 @@ def parse_event(line: str, source: Optional[str] = None, number: Optional[int] =
     usual = USUAL.fullmatch(line)
     if usual is not None:
         word, ref, device, counter, message = usual.groups()
+        # (made as a tuple, since the call of the class takes twice the time)
         if message is not None and word == "recv":
-            return Event(word, int(ref), int(device), int(counter), None, None, int(message))
+            return tuple.__new__(Event, (word, int(ref), int(device), int(counter), None, None, int(message), None, None))
         if message is None and word != "recv":
-            return Event(word, int(ref), int(device), int(counter))
+            return tuple.__new__(Event, (word, int(ref), int(device), int(counter), None, None, None, None, None))
     words = line.split(" ")
     names = FIELDS.get(words[0])
     if names is None:

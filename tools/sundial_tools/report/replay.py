@@ -146,7 +146,7 @@ class ReplayReader:
             if self._watch is not None:
                 self._watch.before(event)
                 self._explain(number, event)
-            happened = self._fleet.happen(event)
+            happened = self._happen(event)
             if self._watch is not None:
                 self._watch.after(event, number, happened)
         except (KeyError, IndexError):
@@ -162,6 +162,19 @@ class ReplayReader:
             self._mark(happened, number, event.ref, text, None if closes else event.device)
         if event.word == "ask" or (self._next is not None and self._next[1].fields.get("line") == number):
             self._told(number, event, said)
+
+    def _happen(self, event: Event) -> str:
+        """What the event brings. (ticks, receipts and asks are nearly all events: they go to the fleet without its look-up)"""
+        word, device, counter = event.word, event.device, event.counter
+        if device is not None and counter is not None:
+            if word == "tick":
+                return self._fleet.tick(event.ref, device, counter)
+            if word == "recv":
+                return self._fleet.receive(event.ref, device, counter, event.message or 0)
+            if word == "ask":
+                self._fleet.passes(event.ref)
+                return ""
+        return self._fleet.happen(event)
 
     def _known(self, number: int, event: Event) -> None:
         for kind, value in ("device", event.device), (event.thing, event.number):

@@ -43,7 +43,8 @@ class Peaks:
             intervals.extend([None] * (place + 1 - len(intervals)))
         known = intervals[place]
         peak = before if before > after else after
-        intervals[place] = Interval(peak if known is None or peak > known.peak else known.peak, after)
+        # (made as a tuple, since the call of the class takes twice the time)
+        intervals[place] = tuple.__new__(Interval, (peak if known is None or peak > known.peak else known.peak, after))
 
     def _halve(self) -> None:
         self.step *= 2
