@@ -1,9 +1,11 @@
 /* One device of a fabric as a process on Linux, over UDP. An example and a rig, and no product.
  *
- *     host FILE
+ *     host [--realtime PRIORITY] FILE
  *
  * FILE has what the device is told: its duties, the addresses of its links, its clock, and where its log
- * goes (docs/LIVE.md). rig/rig makes such files. It runs until SIGTERM.
+ * goes (docs/LIVE.md). rig/rig makes such files. It runs until SIGTERM. With --realtime no process of a lower
+ * priority keeps it waiting (SCHED_FIFO, from 1 to 99), and its memory is locked. Where the system refuses
+ * that, it says so and ends with 1.
  *
  *   - Its counter is CLOCK_MONOTONIC_RAW less a base, off by a stated ppm. On one machine all have
  *     one oscillator, so the reference time is that clock, and each interval can be judged.
@@ -22,10 +24,12 @@
 #include <linux/errqueue.h>
 #include <linux/net_tstamp.h>
 #include <poll.h>
+#include <sched.h>
 #include <signal.h>
 #include <stdio.h>
 #include <stdlib.h>
 #include <string.h>
+#include <sys/mman.h>
 #include <sys/socket.h>
 #include <sys/un.h>
 #include <time.h>
@@ -383,10 +387,22 @@ static void read_line(char *line)
         stop("a line of the file is none");
 }
 
+/* Before the first message, so that no page is fetched and no other process runs when one comes. */
+static void take_priority(const char *word)
+{
+    struct sched_param wanted = {.sched_priority = atoi(word)};
+    if (sched_setscheduler(0, SCHED_FIFO, &wanted) != 0)
+        stop("the system refuses this real-time priority");
+    if (mlockall(MCL_CURRENT | MCL_FUTURE) != 0)
+        stop("the system refuses to lock the memory");
+}
+
 static void begin(void)
 {
-    while (sundial_clock_raw() < go && !ends) {
-        struct timespec rest = {0, 200000};
+    for (uint64_t now = sundial_clock_raw(); now < go && !ends; now = sundial_clock_raw()) {
+        /* (half of what is left: a timer of the kernel has another rate than this clock) */
+        uint64_t left = (go - now) / 2 + 1000;
+        struct timespec rest = {0, left < 100000000 ? (long)left : 100000000};
         nanosleep(&rest, NULL);
     }
     uint64_t raw = moment(sundial_clock_raw());
@@ -439,9 +455,10 @@ static void serve(void)
 int main(int count, char **words)
 {
     static char line[512];
-    FILE *file = count == 2 ? fopen(words[1], "r") : NULL;
+    const char *priority = count == 4 && strcmp(words[1], "--realtime") == 0 ? words[2] : NULL;
+    FILE *file = count == 2 || priority != NULL ? fopen(words[count - 1], "r") : NULL;
     if (file == NULL) {
-        fprintf(stderr, "host FILE\n");
+        fprintf(stderr, "host [--realtime PRIORITY] FILE\n");
         return 2;
     }
     errno = 0;
@@ -451,6 +468,8 @@ int main(int count, char **words)
     fclose(file);
     if (tick_every == 0 || recorder.to == NULL)
         stop("the file has no timer or no log");
+    if (priority != NULL)
+        take_priority(priority);
     signal(SIGTERM, end_soon);
     begin();
     serve();
