@@ -1,6 +1,6 @@
 -- What is listed for a device, by how it recovers.
 use Rattle.std.specs.Prelude.{◌≡◌, ℕ, ◌+◌, ◌<◌, ◌≤◌, true, false, List, [], ◌∷◌, ◌++◌, length, Option, Some, None}
-use Rattle.std.proofs.Common.{arith, ap, sym, ◌∙◌, subst, inl, inr}
+use Rattle.std.proofs.Common.{arith, ap, get_or, sym, ◌∙◌, subst, inl, inr}
 use Rattle.std.proofs.lemmas.Bool.{both_ways, cases_lt}
 use Rattle.std.proofs.lemmas.List.{get_or_append_left, get_or_push, length_push}
 use Rattle.sd_topo.specs.Network.{Network}
@@ -58,17 +58,21 @@ module _ (net : Network) (plan : Plan) (f : DomainId) (d : ℕ) where
         sum = bound.sum ∙ ap (λ (growth : ℕ). source net plan times.budget + root_halves net plan + reach.far + growth) bound.is_growth.grown;
       }
 
+-- one more element of a list, which has what each has at its place
+pub placed_more : {A : Type 0} (default : A) (P : ℕ → A → Type 0) (xs : List A) (x : A) (n : ℕ) → length xs ≡ n → ((k : ℕ) → k < n → P k (get_or xs k default))
+    → P n x → (k : ℕ) → k < n + 1 → P k (get_or (xs ++ x ∷ []) k default)
+placed_more default P xs x n size each new k below =
+    elim (cases_lt k n) [
+      | inl before ↦ (let there : k < length xs = omega (arith, size, before) in
+          subst (P k) (sym (get_or_append_left xs (x ∷ []) default k there)) (each k before))
+      | inr after ↦ (let last : n ≡ k = omega (arith, below, after) in
+          subst (P k) (sym (get_or_push xs x default k (size ∙ last))) (subst (λ (m : ℕ). P m x) last new))
+    ]
+
 -- one more bound
 pub listed_more : (P : ℕ → Option ℕ → Type 0) (xs : List (Option ℕ)) (x : Option ℕ) (n : ℕ) → length xs ≡ n → ((k : ℕ) → k < n → P k (bound_at xs k)) → P n x
     → (k : ℕ) → k < n + 1 → P k (bound_at (xs ++ x ∷ []) k)
 listed_more P xs x n size each new k below =
-    elim (cases_lt k n) [
-      | inl before ↦ (let there : k < length xs = omega (arith, size, before) in
-          let whole : k < length (xs ++ x ∷ []) = omega (arith, there, length_push xs x) in
-          subst (λ (bound : Option ℕ). P k bound)
-          (sym (bound_is (xs ++ x ∷ []) k whole ∙ get_or_append_left xs (x ∷ []) None k there ∙ sym (bound_is xs k there))) (each k before))
-      | inr after ↦ (let last : n ≡ k = omega (arith, below, after) in
-          let whole : k < length (xs ++ x ∷ []) = omega (arith, last, size, length_push xs x) in
-          subst (λ (bound : Option ℕ). P k bound) (sym (bound_is (xs ++ x ∷ []) k whole ∙ get_or_push xs x None k (size ∙ last)))
-          (subst (λ (m : ℕ). P m x) last new))
-    ]
+    let whole : k < length (xs ++ x ∷ []) = omega (arith, size, below, length_push xs x) in
+    subst (P k) (sym (bound_is (xs ++ x ∷ []) k whole))
+    (placed_more None P xs x n size (λ j before. subst (P j) (bound_is xs j (omega (arith, size, before))) (each j before)) new k below)

@@ -7,6 +7,7 @@ pub mod Bounding
 pub mod Printed
 pub mod Tight
 pub mod Tightening
+pub mod Calm
 pub mod ages
 pub mod recovery
 -- Handed on: what crates above name of those below.

@@ -1,5 +1,5 @@
-//! The drill: the greatest epsilon that each device can report when the things of one domain fail,
-//! and a tighter number that no report exceeds either.
+//! The drill: the greatest epsilon that each device can report when the things of one domain fail, a
+//! tighter number that no report exceeds either, and one while nothing has failed.
 #![tactic(auto)]
 
 ghost use Rattle.std.specs.Prelude.{◌≡◌, ◌^◌, ◌≤◌, IfOk};
@@ -12,6 +12,7 @@ ghost use Rattle.sd_topo.specs.Topologies.{network};
 
 pub mod ages;
 mod bounds;
+mod calm;
 mod drill;
 mod growths;
 pub mod recovery;
@@ -21,6 +22,7 @@ mod tight;
 mod times;
 
 pub use bounds::WorstList;
+pub use calm::calm_numbers;
 pub use drill::Drill;
 use sd_domain::DomainId;
 use sd_num::NoMemory;

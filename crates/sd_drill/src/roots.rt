@@ -20,7 +20,7 @@ fn half_of(topo: &Topology, d: u32, hop: Hop) -> u64
 }
 
 /// The sum of the halves along the walk of a device to the root.
-fn halves_to_root(planned: IndexedPlan<'_>, d: u32) -> u64
+pub(crate) fn halves_to_root(planned: IndexedPlan<'_>, d: u32) -> u64
     requires { d < length (network planned.topo.now).devices }
     ensures is { result ≡ halves (network planned.entry.topo.now) d
         (walk (network planned.entry.topo.now) planned.entry.plan.now d) }

@@ -43,7 +43,7 @@ fn settling(topo: &Topology, plan: &Plan) -> u128
 }
 
 /// What an acting root's own estimate has grown by, at one of the two roots.
-fn held(topo: &Topology, root: u32, budget: Budget) -> u128
+pub(crate) fn held(topo: &Topology, root: u32, budget: Budget) -> u128
     requires root { root < length (network topo.now).devices }
     requires budget { IsBudget budget }
     ensures is { result ≡ ages.ageing (rates_of (network topo.now) root) budget.hold }

@@ -11,6 +11,7 @@ use Rattle.sd_drill.specs.Plan.declared.Plan.{Plan}
 use Rattle.sd_drill.specs.Plan.Plans.{is_member, is_root}
 use Rattle.sd_drill.specs.Plan.Walks.{walk}
 use Rattle.sd_drill.proofs.Plan.Forest.{on_member}
+use Rattle.sd_drill.specs.Calm.{IsCalm}
 use Rattle.sd_drill.specs.ages.Ages.{ageing}
 use Rattle.sd_drill.specs.recovery.Walks.{halves}
 use Rattle.sd_drill.specs.declared.Budget.{Budget}
@@ -35,7 +36,7 @@ use Rattle.sd_proof_safety.proofs.whole.Silent.{are_silent}
 use Rattle.sd_proof_bound.specs.Bound.{failures}
 use Rattle.sd_proof_bound.specs.Recovering.{steps_under}
 use Rattle.sd_proof_bound.specs.Steady.{RecoversSteadily}
-use Rattle.sd_proof_bound.specs.Calm.{RunsCalmly, IsCalm, CalmHolds}
+use Rattle.sd_proof_bound.specs.Calm.{RunsCalmly, CalmHolds}
 use Rattle.sd_proof_bound.specs.timeouts.Settled.{IsUnderWay, IsWell}
 use Rattle.sd_proof_bound.specs.ages.Sums.{lag}
 use Rattle.sd_proof_bound.proofs.Composing.{asked, held_at, held_when, aged}

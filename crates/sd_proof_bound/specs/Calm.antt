@@ -1,13 +1,10 @@
--- The number of a healthy fabric: while nothing has failed, no report of a live device is above it. It speaks of the root's uncertainty, the halves of the
--- device's path, and how long a device with a whole path hears nothing.
-use Rattle.std.specs.Prelude.{◌≡◌, ℕ, ◌+◌, ◌≤◌, List, [], ◌∷◌, Some, IsTrue}
-use Rattle.sd_drill.specs.Topo.Network.{Network, rates_of}
+-- The calm number of a device: while nothing has failed, no report of the device is above it.
+use Rattle.std.specs.Prelude.{◌≡◌, ℕ, ◌≤◌, List, [], ◌∷◌, Some, IsTrue}
+use Rattle.sd_drill.specs.Topo.Network.{Network}
 use Rattle.sd_drill.specs.Topo.Limits.{IsNetwork}
 use Rattle.sd_drill.specs.Plan.declared.Plan.{Plan}
 use Rattle.sd_drill.specs.Plan.Plans.{Fits}
-use Rattle.sd_drill.specs.Plan.Walks.{walk}
-use Rattle.sd_drill.specs.ages.Ages.{IsOldest, ageing}
-use Rattle.sd_drill.specs.recovery.Walks.{halves}
+use Rattle.sd_drill.specs.Calm.{IsCalm}
 use Rattle.sd_drill.specs.declared.Budget.{Budget}
 use Rattle.sd_proof_safety.specs.Clock.declared.Report.{Report}
 use Rattle.sd_proof_safety.specs.Sched.declared.Event.{Event}
@@ -19,7 +16,6 @@ use Rattle.sd_proof_safety.specs.History.Lines.{asked_report}
 use Rattle.sd_proof_safety.specs.invariant.Guarded.{IsGuarded, all_but_start_hold}
 use Rattle.sd_proof_bound.specs.Bound.{no_stage, within_base, within_hold, failures}
 use Rattle.sd_proof_bound.specs.Recovering.{steps_under}
-use Rattle.sd_proof_bound.specs.ages.Sums.{lag}
 
 -- A history of any length under one guarded plan, in which nothing is staged and nothing has failed: all premises but start hold, clocks are set within
 -- the base, and acting roots hold their estimates no longer than the budget says.
@@ -33,13 +29,6 @@ pub record RunsCalmly (net : Network) (plan : Plan) (budget : Budget) (history :
   pub based : IsTrue (within_base budget (seen_of (steps_under net plan history)))
   pub held : IsTrue (within_hold budget (steps_under net plan history))
   pub unfailed : failures (seen_of (steps_under net plan history)) ≡ []
-
--- w is the calm number of device d
-pub record IsCalm (net : Network) (plan : Plan) (budget : Budget) (d w : ℕ) : Type 0 where
-  pub oldest : ℕ
-  pub is_oldest : IsOldest (rates_of net d) (lag net) oldest
-  pub sum : w
-      ≡ budget.base + ageing (rates_of net plan.root) budget.hold + halves net d (walk net plan d) + ageing (rates_of net d) oldest
 
 -- no report of a live device is above its calm number, as long as nothing has failed up to the report
 abbrev pub CalmHolds : Network → Plan → Budget → Type 0
