@@ -1,4 +1,4 @@
 pub mod Prefixes
-mod Ranges
+pub mod Ranges
 mod Names
-mod Membership
+pub mod Membership

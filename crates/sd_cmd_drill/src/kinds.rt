@@ -10,7 +10,7 @@ use sd_topo::Topology;
 
 /// The listed domains come first, then each device alone, then each link alone.
 #[derive(Clone, Copy)]
-pub(crate) enum Kind {
+pub enum Kind {
     Listed,
     Device,
     Link,
@@ -18,7 +18,7 @@ pub(crate) enum Kind {
 
 impl Kind {
     /// How many domains are of this kind.
-    pub(crate) fn count(self, topo: &Topology) -> u32
+    pub fn count(self, topo: &Topology) -> u32
         ensures { result ≡ words.count_of (network topo.now) self }
     {
         match self {
@@ -29,7 +29,7 @@ impl Kind {
     }
 
     /// The domain of this kind with a number.
-    pub(crate) fn domain(self, number: u32) -> DomainId
+    pub fn domain(self, number: u32) -> DomainId
         ensures is { result ≡ words.domain_at self number }
         ensures domain { (net : Network) → number < words.count_of net self → IsDomain net result }
     {

@@ -2,9 +2,9 @@
 #![tactic(auto)]
 
 mod endings;
-mod kinds;
-mod lines;
-mod members;
+pub mod kinds;
+pub mod lines;
+pub mod members;
 mod page;
 mod writing;
 

@@ -14,13 +14,13 @@ use sd_topo::Topology;
 
 /// What a domain is, and its name.
 #[derive(Clone, Copy)]
-pub(crate) struct Named<'a> {
-    pub(crate) kind: &'static str,
-    pub(crate) name: &'a str,
+pub struct Named<'a> {
+    pub kind: &'static str,
+    pub name: &'a str,
 }
 
 /// The name of a device, of at most 64 bytes.
-pub(crate) fn device_name(topo: &Topology, d: u32) -> &str
+pub fn device_name(topo: &Topology, d: u32) -> &str
     requires { d < length (network topo.now).devices }
     ensures is { result.now ≡ names.device_name (network topo.now) d }
     ensures short { length result.now ≤ 64 }
@@ -47,7 +47,7 @@ fn listed_name(topo: &Topology, k: u32) -> &str
 }
 
 /// How a domain is named.
-pub(crate) fn domain_named(topo: &Topology, domain: DomainId) -> Named<'_>
+pub fn domain_named(topo: &Topology, domain: DomainId) -> Named<'_>
     requires { IsDomain (network topo.now) domain }
     ensures is { text.domain_words (network topo.now) domain
         ≡ result.kind.now ∷ result.name.now ∷ [] }

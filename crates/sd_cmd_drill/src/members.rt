@@ -29,7 +29,7 @@ fn add_member(alloc: Global, members: &mut DeviceList, plan: &Plan, d: u32) -> R
 }
 
 /// The members of a plan, ascending.
-pub(crate) fn members_of(alloc: Global, planned: IndexedPlan<'_>) -> Result<DeviceList, NoMemory>
+pub fn members_of(alloc: Global, planned: IndexedPlan<'_>) -> Result<DeviceList, NoMemory>
     ensures { IfOk result (λ members. members
         ≡ plans.members (network planned.entry.topo.now) planned.entry.plan.now) }
 {
