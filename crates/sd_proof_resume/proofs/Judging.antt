@@ -2,7 +2,7 @@
 use Rattle.std.specs.Prelude.{◌≡◌, ℕ, zero, suc, ◌+◌, ◌≤◌, Bool, true, false, ◌&&◌, ◌||◌, not, List, [], ◌∷◌, ◌++◌, length, map, filter_map, nat_eq, nat_le, Option, Some, None, is_some, option_map, option_to_list, refl, if◌then◌else◌}
 use Rattle.std.specs.List.{list_any, list_all, cons_option}
 use Rattle.std.proofs.Common.{arith, sym, ◌∙◌, ap, subst}
-use Rattle.std.proofs.lemmas.Bool.{and_parts, and_from, leb-true, le-leb}
+use Rattle.std.proofs.lemmas.Bool.{eq-eqb, and_parts, and_from, leb-true, le-leb}
 use Rattle.std.proofs.lemmas.List.Folds.{list_all-append}
 use Rattle.sd_history.specs.Sched.Num.Lists.{map_or, same_number, find_map_or, leading, has}
 use Rattle.sd_history.specs.Core.Topo.Network.{Network, rates_of, device_numbers, link_numbers, joins}
@@ -17,17 +17,20 @@ use Rattle.sd_history.specs.Sched.declared.Event.{Event}
 use Rattle.sd_history.specs.Sched.declared.Event.TheVariants as event
 use Rattle.sd_history.specs.Sched.Events.{reference_of, device_of, counter_of, started, joined, given, ticked, is_stage, is_commit, is_seal}
 use Rattle.sd_history.specs.Things.{failure_of, mended}
-use Rattle.sd_history.specs.World.{Setting, setting_over, Seen, makes, fails, is_thing, is_up, link_has_failed, was_made, has_ever_failed, is_untouched, window, has_commit, in_force, staged, is_staged_member, plan_numbered, joined_in_window, has_entered}
+use Rattle.sd_history.specs.World.{Setting, setting_over, Seen, makes, fails, is_thing, is_up, latest_reference, latest_reading, link_has_failed, was_made, has_ever_failed, is_untouched, window, has_commit, in_force, staged, is_staged_member, plan_numbered, joined_in_window, has_entered}
+use Rattle.sd_history.specs.Refusals.{counter_falls, makes_some}
 use Rattle.sd_history.specs.Premises.{readings, reads_honestly, is_in_time, arrives_in_time, latest_tick, is_current_member, first_reference, ticks_in_time, failures_since_closing, fails_within_one, was_given, leaves_out_cleanly, leaves_out_failed, is_prepared, commits_orderly, has_seal, seals_orderly, has_mend, fails_orderly, begins_orderly}
 use Rattle.sd_proof_resume.specs.Shifts.{Shift, raised_flight, raised_event, raised_seen}
 use Rattle.sd_proof_resume.specs.Views.{LooksAlike}
 use Rattle.sd_proof_resume.specs.Law.{whole}
 use Rattle.sd_proof_resume.specs.Premised.{PremisesAgree}
+use Rattle.sd_proof_resume.specs.Cuts.{keeps_with}
 use Rattle.sd_proof_resume.proofs.Words.{EventWords, words_of, same_words}
 use Rattle.sd_proof_resume.proofs.Plans.{in_force_same, staged_same, staged_member_same, in_window_same, commit_same, joined_same}
 use Rattle.sd_proof_resume.proofs.Views.{told, reading_by, made_reads}
 use Rattle.sd_proof_resume.proofs.Acts.{all_same, any_same}
 use Rattle.sd_history.proofs.Known.{up_case}
+use Rattle.sd_history.proofs.Devices.{not_falling}
 
 and_on : (a b c d : Bool) → (a ≡ true → b ≡ true) → (c ≡ true → d ≡ true) → (a && c) ≡ true → (b && d) ≡ true
 and_on a b c d first second both = let parts : (a ≡ true) × (c ≡ true) = and_parts a c both in and_from b d (first parts.0) (second parts.1)
@@ -229,18 +232,47 @@ last_on true true false d d' on is = cc
 last_on true false c d d' on is = cc
 last_on false b c d d' on is = cc
 
+-- an event that names a device and does not make it makes none
+unmade_some : (e : Event) (d : ℕ) → same_number (device_of e) d ≡ true → makes d e ≡ false → makes_some e ≡ false
+unmade_some (event.Start reference m counter clock eps) d named unmade = never (nat_eq m d) named unmade
+  where
+    never : (b : Bool) → b ≡ true → (b || false) ≡ false → true ≡ false
+    never true is apart = apart
+    never false is apart = cc
+unmade_some (event.Join reference m counter clock eps) d named unmade = sym named ∙ unmade
+unmade_some (event.Tick reference device counter) d named unmade = refl
+unmade_some (event.Recv reference device counter message) d named unmade = refl
+unmade_some (event.Lose reference message) d named unmade = refl
+unmade_some (event.FailDevice reference device) d named unmade = refl
+unmade_some (event.FailLink reference link) d named unmade = refl
+unmade_some (event.Fix reference device counter clock eps) d named unmade = refl
+unmade_some (event.Ask reference device counter) d named unmade = refl
+unmade_some (event.Stage reference) d named unmade = refl
+unmade_some (event.Give reference device) d named unmade = refl
+unmade_some (event.Commit reference device counter) d named unmade = refl
+unmade_some (event.Seal reference device) d named unmade = refl
+unmade_some (event.MendDevice reference device) d named unmade = refl
+unmade_some (event.MendLink reference link) d named unmade = refl
+unmade_some (event.End reference) d named unmade = refl
+
 later_tick : (reference one other q : ℕ) → one ≤ other → nat_le reference (one + q) ≡ true → nat_le reference (other + q) ≡ true
 later_tick reference one other q le due = let h : reference ≤ one + q = leb-true reference (one + q) due in le-leb reference (other + q) (omega (arith, le, h))
 
 module _ (shift : Shift) (net : Network) (front plans : List Plan) (behind : shift.plans ≡ length front) (one other : List Seen) (h : LooksAlike shift one other)
     (agree : PremisesAgree (whole net front plans) (setting_over net plans) one other) (s : Seen) (no_start : started s.event ≡ None)
-    (there : (d c : ℕ) → device_of s.event ≡ Some d → counter_of s.event ≡ Some c → makes d s.event ≡ false → is_up other d ≡ true) where
+    (there : (d c : ℕ) → device_of s.event ≡ Some d → counter_of s.event ≡ Some c → makes d s.event ≡ false → is_up other d ≡ true)
+    (goes : latest_reference other ≤ reference_of s.event) (falls : counter_falls other s.event ≡ false) where
   words : words_of (raised_event shift s.event) ≡ words_of s.event
   words = same_words shift s.event
 
   -- a device that is up with this event and was not made by it was up before
   was_up : (d : ℕ) → is_up (s ∷ other) d ≡ true → makes d s.event ≡ false → is_up other d ≡ true
   was_up d up unmade = up_case (makes d s.event) (fails (thing.Device d) s.event) (is_up other d) up unmade
+
+  -- its counter does not fall
+  rises : (d c : ℕ) → same_number (device_of s.event) d ≡ true → counter_of s.event ≡ Some c → makes d s.event ≡ false → latest_reading other d ≤ c
+  rises d c named reads unmade =
+      not_falling (makes_some s.event) (device_of s.event) (counter_of s.event) (latest_reading other) falls (unmade_some s.event d named unmade) d c named reads
 
   reads_on : reads_honestly (whole net front plans) (raised_seen shift s) one ≡ true → reads_honestly (setting_over net plans) s other ≡ true
   reads_on is = go (device_of s.event) (counter_of s.event) refl refl (by_equal _ _ (ap (λ w. honest_by net w one) words) is)
@@ -249,7 +281,8 @@ module _ (shift : Shift) (net : Network) (front plans : List Plan) (behind : shi
           → (m || list_all (keeps_reading (rates_of net d) (reference_of s.event, c)) (readings one d)) ≡ true
           → (m || list_all (keeps_reading (rates_of net d) (reference_of s.event, c)) (readings other d)) ≡ true
       by d c true made named reads is' = refl
-      by d c false made named reads is' = agree.readings d (keeps_reading (rates_of net d) (reference_of s.event, c)) (there d c named reads made) is'
+      by d c false made named reads is' =
+          agree.readings d (reference_of s.event) c (there d c named reads made) goes (rises d c (ap (λ o. same_number o d) named ∙ eq-eqb d d refl) reads made) is'
 
       go : (o k : Option ℕ) → device_of s.event ≡ o → counter_of s.event ≡ k
           → map_or o true (λ d. map_or k true (λ c. makes d s.event || list_all (keeps_reading (rates_of net d) (reference_of s.event, c)) (readings one d))) ≡ true
@@ -345,9 +378,11 @@ module _ (shift : Shift) (net : Network) (front plans : List Plan) (behind : shi
 
   -- what is kept
 
-  readings_on : (d : ℕ) (test : ℕ × ℕ → Bool) → is_up (s ∷ other) d ≡ true → list_all test (readings (raised_seen shift s ∷ one) d) ≡ true
-      → list_all test (readings (s ∷ other) d) ≡ true
-  readings_on d test up all =
+  -- what all readings pass, where those of before do
+  readings_kept : (d : ℕ) (test : ℕ × ℕ → Bool)
+      → (makes d s.event ≡ false → list_all test (readings one d) ≡ true → list_all test (readings other d) ≡ true)
+      → list_all test (readings (raised_seen shift s ∷ one) d) ≡ true → list_all test (readings (s ∷ other) d) ≡ true
+  readings_kept d test before all =
       go (same_number (device_of s.event) d) (makes d s.event) refl refl (by_equal _ _ (ap (λ w. list_all test (readings_by w d (readings one d))) words) all)
     where
       both : (xs ys zs : List (ℕ × ℕ)) → (list_all test ys ≡ true → list_all test zs ≡ true) → list_all test (xs ++ ys) ≡ true → list_all test (xs ++ zs) ≡ true
@@ -366,8 +401,25 @@ module _ (shift : Shift) (net : Network) (front plans : List Plan) (behind : shi
           → list_all test (if b then (if m then here_by (words_of s.event) else here_by (words_of s.event) ++ readings one d) else readings one d) ≡ true
           → list_all test (if b then (if m then here_by (words_of s.event) else here_by (words_of s.event) ++ readings other d) else readings other d) ≡ true
       go true true named made is = is
-      go true false named made is = both (here_by (words_of s.event)) (readings one d) (readings other d) (agree.readings d test (was_up d up made)) is
-      go false m named made is = agree.readings d test (was_up d up (unmade (makes d s.event) refl named)) is
+      go true false named made is = both (here_by (words_of s.event)) (readings one d) (readings other d) (before made) is
+      go false m named made is = before (unmade (makes d s.event) refl named) is
+
+  readings_on : (d reference counter : ℕ) → is_up (s ∷ other) d ≡ true → latest_reference (s ∷ other) ≤ reference
+      → latest_reading (s ∷ other) d ≤ counter → keeps_with (setting_over net plans) (raised_seen shift s ∷ one) d reference counter ≡ true
+      → keeps_with (setting_over net plans) (s ∷ other) d reference counter ≡ true
+  readings_on d reference counter up later further all =
+      readings_kept d (keeps_reading (rates_of net d) (reference, counter))
+      (λ unmade. agree.readings d reference counter (was_up d up unmade) (on (latest_reference other) (reference_of s.event) reference goes later)
+      (before unmade (same_number (device_of s.event) d) (counter_of s.event) refl refl further)) all
+    where
+      on : (a b c : ℕ) → a ≤ b → b ≤ c → a ≤ c
+      on a b c first second = omega (arith, first, second)
+
+      before : makes d s.event ≡ false → (b : Bool) (o : Option ℕ) → same_number (device_of s.event) d ≡ b → counter_of s.event ≡ o
+          → told (if b then o else None) (latest_reading other d) ≤ counter → latest_reading other d ≤ counter
+      before unmade true (Some c) named reads within = on (latest_reading other d) c counter (rises d c named reads unmade) within
+      before unmade true None named reads within = within
+      before unmade false o named reads within = within
 
   ticks_kept : (d : ℕ) → is_up (s ∷ other) d ≡ true → latest_tick (raised_seen shift s ∷ one) d ≤ latest_tick (s ∷ other) d
   ticks_kept d up =

@@ -25,7 +25,7 @@ use Rattle.sd_history.proofs.Filters.{kept_among}
 use Rattle.sd_history.proofs.Contained.{admitted_time_goes_on}
 use Rattle.sd_history.proofs.Admitted.{rule_holds}
 use Rattle.sd_history.proofs.Given.{some_is}
-use Rattle.sd_history.proofs.Devices.{device, admitted_devices_run, admitted_devices_have_history}
+use Rattle.sd_history.proofs.Devices.{device, admitted_devices_run, admitted_devices_have_history, admitted_goes_forward}
 use Rattle.sd_proof_resume.specs.Shifts.{Shift, raised_event, raised_seen}
 use Rattle.sd_proof_resume.specs.Agreement.{MayFollow}
 use Rattle.sd_proof_resume.specs.Law.{whole, NamesSome, alarms_and_report, HistoriesAgree, AllMayFollow, SaysAlike}
@@ -243,7 +243,8 @@ module _ (shift : Shift) (net : Network) (front plans : List Plan) where
       ((next_step (setting_over net plans) steps_other e).seen ∷ seen_of steps_other)) (sym now.seen)
       (premises_agree_after shift net front plans on.agree.behind (seen_of steps_one) (seen_of steps_other) looks before
       (next_step (setting_over net plans) steps_other e).seen may.2.start
-      (λ d c named reads unmade. up_at_reading (seen_of steps_other) e d c rule named reads unmade))
+      (λ d c named reads unmade. up_at_reading (seen_of steps_other) e d c rule named reads unmade)
+      (admitted_time_goes_on (setting_over net plans) steps_other e is.1) (admitted_goes_forward (setting_over net plans) steps_other e is.1))
 
   -- And of lost rounds.
   pub loses_in_both : (one other : List Event) → HistoriesAgree shift net front plans one other

@@ -77,7 +77,7 @@ term_by shift zero before round same = absurd (none before same)
     none before same = omega (arith, same)
 term_by shift (suc term) before round same = ap (λ t. stamp (t + shift.term) round) (sym same)
 
-raised_term : (shift : Shift) (term round : ℕ) → (raised_round shift term round).term ≡ term + shift.term
+pub raised_term : (shift : Shift) (term round : ℕ) → (raised_round shift term round).term ≡ term + shift.term
 raised_term shift zero round = omega arith
 raised_term shift (suc term) round = refl
 

@@ -20,6 +20,7 @@ use Rattle.sd_history.specs.Clock.declared.Estimate.{Estimate}
 use Rattle.sd_history.specs.Msg.declared.Flight.{Flight}
 use Rattle.sd_history.specs.Sched.declared.Event.{Event}
 use Rattle.sd_history.specs.Core.Topo.declared.Thing.{Thing}
+use Rattle.sd_history.specs.Sched.Honesty.{keeps_reading}
 use Rattle.sd_history.specs.World.{Setting, Seen, is_up, has_failed, latest_reading, is_untouched, latest_reference, window, epoch_in_force}
 use Rattle.sd_history.specs.Steps.{Step, seen_of, events_of, answers_in, flights, flight_count}
 use Rattle.sd_history.specs.Refusals.{refusal, is_spent, after_end}
@@ -397,7 +398,8 @@ honest : IsHonestOpening one_plan seen seen_other
 honest =
     record {
       holds = holds;
-      readings = λ d test up. readings_of d (known opening_events opening_happens d up) test;
+      readings = λ d reference counter up later further. readings_of d (known opening_events opening_happens d up)
+          (keeps_reading (rates_of triangle d) (reference, counter));
       ticks = λ d up. ticks_of d (known opening_events opening_happens d up);
       members = refl;
       untouched = λ d is. fresh_is d ∙ sym (fresh_is_other d) ∙ is;

@@ -1,13 +1,14 @@
 -- Where one history may be cut and another begins: what has to be compared there.
 use Rattle.std.specs.Prelude.{◌≡◌, ℕ, ◌≤◌, Bool, true, not, List, length, Some}
-use Rattle.sd_history.specs.Core.Topo.Network.{Network}
+use Rattle.sd_history.specs.Core.Topo.Network.{Network, rates_of}
 use Rattle.sd_history.specs.Core.Plan.declared.Plan.{Plan}
 use Rattle.sd_history.specs.Core.declared.registers.Registers.{Registers}
 use Rattle.sd_history.specs.Core.contracts.device.DeviceNode.TheImpl.{ghosts}
 use Rattle.std.specs.List.{list_all}
 use Rattle.sd_history.specs.Core.Plan.Plans.{members}
 use Rattle.sd_history.specs.Msg.declared.Flight.{Flight}
-use Rattle.sd_history.specs.World.{Setting, Seen, setting_over, is_up, is_untouched, plan_numbered, latest_reading}
+use Rattle.sd_history.specs.Sched.Honesty.{keeps_reading}
+use Rattle.sd_history.specs.World.{Setting, Seen, setting_over, is_up, is_untouched, plan_numbered, latest_reference, latest_reading}
 use Rattle.sd_history.specs.Steps.{Step, seen_of, flight_count, flight_numbered}
 use Rattle.sd_history.specs.Refusals.{is_spent}
 use Rattle.sd_history.specs.Premises.{all_hold, readings, latest_tick, failures_since_closing}
@@ -32,11 +33,17 @@ pub record IsOpening (shift : Shift) (net : Network) (front plans : List Plan) (
 abbrev pub NoneOnItsWay : ℕ → List Step → Type 0
 NoneOnItsWay last steps = (n : ℕ) (f : Flight) → n ≤ last → flight_numbered steps n ≡ Some f → is_spent steps 0 f ≡ true
 
--- No premise of the second is broken. Of a device that is up it has no reading that the first has not, and its latest tick is no earlier; it has made
--- or failed each member of its first plan and each device that the first has; and the same failed since the latest closing.
+-- a reading at this reference and this counter keeps the rates with each one of the device's present life
+abbrev pub keeps_with : Setting → List Seen → (d reference counter : ℕ) → Bool
+keeps_with setting seen d reference counter = list_all (keeps_reading (rates_of setting.net d) (reference, counter)) (readings seen d)
+
+-- No premise of the second is broken. Of a device that is up, a later reading that keeps the rates with those of the first keeps them with its own, and its
+-- latest tick is no earlier; it has made or failed each member of its first plan and each device that the first has; and the same failed since the
+-- latest closing.
 pub record IsHonestOpening (part : Setting) (one other : List Seen) : Type 0 where
   pub holds : all_hold part other ≡ true
-  pub readings : (d : ℕ) (test : ℕ × ℕ → Bool) → is_up other d ≡ true → list_all test (readings one d) ≡ true → list_all test (readings other d) ≡ true
+  pub readings : (d reference counter : ℕ) → is_up other d ≡ true → latest_reference other ≤ reference → latest_reading other d ≤ counter
+      → keeps_with part one d reference counter ≡ true → keeps_with part other d reference counter ≡ true
   pub ticks : (d : ℕ) → is_up other d ≡ true → latest_tick one d ≤ latest_tick other d
   pub members : list_all (λ d. not (is_untouched other d)) (members part.net (plan_numbered part 1)) ≡ true
   pub untouched : (d : ℕ) → is_untouched other d ≡ true → is_untouched one d ≡ true
