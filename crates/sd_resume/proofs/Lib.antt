@@ -1,0 +1,8 @@
+-- The laws, in reading order.
+pub mod Known
+pub mod Raising
+pub mod Normal
+pub mod Alike
+pub mod Apart
+pub mod Sending
+pub mod Opening

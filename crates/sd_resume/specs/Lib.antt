@@ -1,0 +1,8 @@
+-- The definitions, in reading order.
+pub mod Numbers
+pub mod Duties
+pub mod Devices
+pub mod Worlds
+pub mod Fleets
+pub mod Messages
+pub mod Differences
