@@ -4,6 +4,8 @@
 
 mod domain;
 mod plantext;
+#[cfg(test)]
+mod same;
 mod sched;
 mod solo;
 mod topotext;

@@ -1,50 +1,28 @@
 //! Refusals in their order.
-use sd_sched::Event;
-use sd_solo::{Solo, SoloFault};
+use crate::same::assert_same;
+use sd_solo::{Solo, SoloFault, read_solo_line};
 
 #[test]
 fn refuses_in_order(rt: HostRuntime) {
-    let start = Event::Start {
-        reference: 5,
-        device: 0,
-        counter: 5,
-        clock: 5,
-        eps: 0,
-    };
-    let ask = Event::Ask {
-        reference: 7,
-        device: 0,
-        counter: 7,
-    };
-    let end = Event::End { reference: 9 };
-    let early = Event::Fix {
-        reference: 4,
-        device: 0,
-        counter: 6,
-        clock: 0,
-        eps: 0,
-    };
-    let back = Event::Ask {
-        reference: 7,
-        device: 0,
-        counter: 4,
-    };
-    let other = Event::Ask {
-        reference: 4,
-        device: 1,
-        counter: 4,
-    };
     let mut device = Solo::new();
-    assert_eq!(rt; device.apply(&ask), Err(SoloFault::NotStarted));
-    assert_eq!(rt; device.apply(&start), Ok(None));
-    assert_eq!(rt; device.apply(&start), Err(SoloFault::StartedTwice));
-    assert_eq!(rt; device.apply(&early), Err(SoloFault::TimeFalls));
-    assert_eq!(rt; device.apply(&back), Err(SoloFault::CounterFalls));
-    assert_eq!(rt; device.apply(&other), Err(SoloFault::UnknownDevice));
-    assert_eq!(rt; device.apply(&end), Ok(None));
-    assert_eq!(rt; device.apply(&end), Err(SoloFault::AfterEnd));
-    assert_eq!(rt;
+    for (line, answer) in [
+        ("ask 7 0 7", Err(SoloFault::NotStarted)),
+        ("start 5 0 5 5 0", Ok(None)),
+        ("start 5 0 5 5 0", Err(SoloFault::StartedTwice)),
+        ("fix 4 0 6 0 0", Err(SoloFault::TimeFalls)),
+        ("ask 7 0 4", Err(SoloFault::CounterFalls)),
+        ("ask 4 1 4", Err(SoloFault::UnknownDevice)),
+        ("end 9", Ok(None)),
+        ("end 9", Err(SoloFault::AfterEnd)),
+    ] {
+        match read_solo_line(line.as_bytes()) {
+            Ok(event) => assert_eq!(rt; device.apply(&event), answer, "{line}"),
+            Err(_) => panic!(rt; "{line} is not read"),
+        }
+    }
+    assert_same(
+        &rt,
         (device.events(), device.reports(), device.ended()),
-        (2, 0, true)
+        (2, 0, true),
     );
 }

@@ -5,6 +5,7 @@ ghost use Rattle.sd_plantext.specs.Plan.Examples as examples;
 ghost use Rattle.sd_plantext.specs.Plan.Examples.{IsFabric};
 ghost use Rattle.sd_plantext.specs.Plan.Plans.{Fits};
 
+use crate::same::assert_same;
 use sd_plantext::{PlanFault, plan_text, read_plan};
 use sd_test_examples::num::NoMemory;
 use sd_test_examples::plan::{Plan, PlanRow};
@@ -52,10 +53,10 @@ fn least_text(alloc: Global, topo: &Topology, plan: &Plan) -> Result<Vec<u8>, No
 
 /// What is read is the fabric's plan with the least waits.
 fn assert_least(rt: &impl Abort, again: &Plan, rows: &[Option<PlanRow>]) {
-    assert_eq!(rt; again.root, 0);
-    assert_eq!(rt; again.backup_root, 1);
-    assert_eq!(rt; again.wait, 3_561_917_200);
-    assert_eq!(rt; again.rows.as_slice(), rows);
+    assert_same(rt, again.root, 0);
+    assert_same(rt, again.backup_root, 1);
+    assert_same(rt, again.wait, 3_561_917_200);
+    assert_same(rt, again.rows.as_slice(), rows);
 }
 
 /// A plan that is read has these rows, and is printed as the same text.
@@ -68,17 +69,26 @@ fn assert_reads_back(
     let again = read(rt.alloc(), topo, text)?;
     assert_least(rt, &again, rows);
     let text_again = printed(rt.alloc(), topo, &again)?;
-    assert_eq!(rt; text_again.as_slice(), text);
+    assert_same(rt, text_again.as_slice(), text);
     Ok(())
+}
+
+/// The plan with the least waits is printed over the fabric, and read back.
+fn assert_printed(rt: &(impl Abort + AllocGlobal), topo: &Topology) -> Result<(), Fail>
+    requires { IsFabric (network topo.now) }
+{
+    let plan = least_plan(rt.alloc())?;
+    let text = least_text(rt.alloc(), topo, &plan)?;
+    assert_same(rt, text.as_slice(), FABRIC_GREEDY.as_bytes());
+    assert_reads_back(rt, topo, text.as_slice(), plan.rows.as_slice())
 }
 
 #[test]
 fn fabric_is_printed_and_read(rt: HostRuntime) -> Result<(), Fail> {
     let topo = fabric(rt.alloc())?;
-    let plan = least_plan(rt.alloc())?;
-    let text = least_text(rt.alloc(), &topo, &plan)?;
-    assert_eq!(rt; text.as_slice(), FABRIC_GREEDY.as_bytes());
-    assert_reads_back(&rt, &topo, text.as_slice(), plan.rows.as_slice())
+    let asserted = assert_printed(&rt, &topo);
+    drop(topo);
+    asserted
 }
 
 /// A plan that leaves out a leaf and its links, with a row that has no backup, in another order.
@@ -96,14 +106,22 @@ fn assert_in_order(
     source: &str,
 ) -> Result<(), Fail> {
     let plan = read(rt.alloc(), topo, source.as_bytes())?;
-    let text = printed(rt.alloc(), topo, &plan)?;
-    assert_eq!(rt; text.as_slice(), IN_ORDER.as_bytes());
+    let text = printed(rt.alloc(), topo, &plan);
+    drop(plan);
+    assert_same(rt, text?.as_slice(), IN_ORDER.as_bytes());
     Ok(())
+}
+
+/// The plan is printed in its order, whether or not its text was in it.
+fn assert_orders(rt: &(impl Abort + AllocGlobal), topo: &Topology) -> Result<(), Fail> {
+    assert_in_order(rt, topo, SHUFFLED)?;
+    assert_in_order(rt, topo, IN_ORDER)
 }
 
 #[test]
 fn absent_names_and_a_lone_row_are_printed(rt: HostRuntime) -> Result<(), Fail> {
     let topo = topology_of(rt.alloc(), FABRIC)?;
-    assert_in_order(&rt, &topo, SHUFFLED)?;
-    assert_in_order(&rt, &topo, IN_ORDER)
+    let asserted = assert_orders(&rt, &topo);
+    drop(topo);
+    asserted
 }

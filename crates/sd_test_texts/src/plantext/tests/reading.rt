@@ -1,4 +1,5 @@
 //! Texts with their faults, and good texts with what they say.
+use crate::same::assert_same;
 use sd_plantext::{PlanFault, PlanKey, PlanPlace, read_absent, read_plan};
 use sd_test_examples::plan::{Absent, Hop, Plan, PlanRow};
 use sd_test_examples::topo::Topology;
@@ -171,7 +172,7 @@ fn assert_reason(
     want: &str,
 ) -> Result<(), Fail> {
     let said = reason(rt.alloc(), topo, text)?;
-    assert_eq!(rt; said.as_str(), want);
+    assert_same(rt, said.as_str(), want);
     Ok(())
 }
 
@@ -196,7 +197,9 @@ fn assert_refused(rt: &(impl Abort + AllocGlobal), topo: &Topology) -> Result<()
 #[test]
 fn faults(rt: HostRuntime) -> Result<(), Fail> {
     let topo = topology_of(rt.alloc(), TRIANGLE)?;
-    assert_refused(&rt, &topo)
+    let refused = assert_refused(&rt, &topo);
+    drop(topo);
+    refused
 }
 
 /// 200 arrays in one another.
@@ -224,9 +227,11 @@ fn assert_no_plans(
 
 #[test]
 fn texts_that_are_no_plans(rt: HostRuntime) -> Result<(), Fail> {
-    let topo = topology_of(rt.alloc(), TRIANGLE)?;
     let deep = deep(rt.alloc())?;
-    assert_no_plans(&rt, &topo, deep.as_bytes())
+    let topo = topology_of(rt.alloc(), TRIANGLE)?;
+    let refused = assert_no_plans(&rt, &topo, deep.as_bytes());
+    drop(topo);
+    refused
 }
 
 /// A plan of the triangle, without x and the link bx.
@@ -236,23 +241,27 @@ const SMALLER: &str =
 /// The plan of a text of the triangle. It promises nothing, so that no proof looks into the text.
 fn plan_of(alloc: Global, text: &str) -> Result<Plan, Fail> {
     let topo = topology_of(alloc, TRIANGLE)?;
-    Ok(read_plan(alloc, &topo, text.as_bytes())?)
+    let plan = read_plan(alloc, &topo, text.as_bytes());
+    drop(topo);
+    Ok(plan?)
 }
 
 fn assert_plan(rt: &impl Abort, plan: &Plan) {
-    assert_eq!(rt; (plan.root, plan.backup_root), (0, 1));
-    assert_eq!(rt; plan.wait_first, 1_345_000_000);
-    assert_eq!(rt; plan.wait_second, 1_345_000_001);
-    assert_eq!(rt; plan.wait, 6_730_000_000);
+    assert_same(rt, (plan.root, plan.backup_root), (0, 1));
+    assert_same(
+        rt,
+        (plan.wait_first, plan.wait_second, plan.wait),
+        (1_345_000_000, 1_345_000_001, 6_730_000_000),
+    );
 }
 
 fn assert_rows(rt: &impl Abort, rows: &[Option<PlanRow>]) {
     let primary = Hop { parent: 0, link: 1 };
     let backup = Some(Hop { parent: 1, link: 2 });
     let row = Some(PlanRow { primary, backup });
-    assert_eq!(rt; rows.len(), 3);
-    assert_eq!(rt; rows.first(), Some(&None));
-    assert_eq!(rt; rows.last(), Some(&row));
+    assert_same(rt, rows.len(), 3);
+    assert_same(rt, rows.first(), Some(&None));
+    assert_same(rt, rows.last(), Some(&row));
 }
 
 #[test]
@@ -264,9 +273,9 @@ fn plans(rt: HostRuntime) -> Result<(), Fail> {
 }
 
 fn assert_lists(rt: &impl Abort, plan: &Plan) {
-    assert_eq!(rt; plan.absent.devices.as_slice(), [1, 2].as_slice());
-    assert_eq!(rt; plan.absent.links.as_slice(), [0, 1, 2].as_slice());
-    assert_eq!(rt; plan.rows.as_slice().get(2), Some(&None));
+    assert_same(rt, plan.absent.devices.as_slice(), [1, 2].as_slice());
+    assert_same(rt, plan.absent.links.as_slice(), [0, 1, 2].as_slice());
+    assert_same(rt, plan.rows.as_slice().get(2), Some(&None));
 }
 
 #[test]
@@ -284,19 +293,24 @@ fn absent_of(alloc: Global, topo: &Topology, text: &str) -> Result<Absent, PlanF
 fn assert_absent_faults(rt: &(impl Abort + AllocGlobal), topo: &Topology) {
     let place = |key| PlanPlace { key, entry: 0 };
     let refused = absent_of(rt.alloc(), topo, "0").err();
-    assert_eq!(rt; refused, Some(PlanFault::WrongKind(place(PlanKey::Absent))));
-    let refused = absent_of(rt.alloc(), topo, "{}").err();
-    assert_eq!(rt;
+    assert_same(
+        rt,
         refused,
-        Some(PlanFault::Missing(place(PlanKey::AbsentDevices)))
+        Some(PlanFault::WrongKind(place(PlanKey::Absent))),
+    );
+    let refused = absent_of(rt.alloc(), topo, "{}").err();
+    assert_same(
+        rt,
+        refused,
+        Some(PlanFault::Missing(place(PlanKey::AbsentDevices))),
     );
 }
 
 fn assert_absent(rt: &(impl Abort + AllocGlobal), topo: &Topology) -> Result<(), Fail> {
     let text = "{\"absent_links\":[\"bx\",\"rb\"],\"absent_devices\":[\"x\"]}";
     let absent = absent_of(rt.alloc(), topo, text)?;
-    assert_eq!(rt; absent.devices.as_slice(), [2].as_slice());
-    assert_eq!(rt; absent.links.as_slice(), [0, 2].as_slice());
+    assert_same(rt, absent.devices.as_slice(), [2].as_slice());
+    assert_same(rt, absent.links.as_slice(), [0, 2].as_slice());
     Ok(())
 }
 
@@ -304,12 +318,14 @@ fn assert_absent(rt: &(impl Abort + AllocGlobal), topo: &Topology) -> Result<(),
 fn what_is_left_out(rt: HostRuntime) -> Result<(), Fail> {
     let topo = topology_of(rt.alloc(), TRIANGLE)?;
     assert_absent_faults(&rt, &topo);
-    assert_absent(&rt, &topo)
+    let asserted = assert_absent(&rt, &topo);
+    drop(topo);
+    asserted
 }
 
 #[test]
 fn words(rt: HostRuntime) {
-    assert_eq!(rt; PlanKey::RowsBackupLink.word(), "rows.backup_link");
-    assert_eq!(rt; PlanKey::WaitSecond.word(), "wait_second");
-    assert_eq!(rt; PlanKey::Absent.word(), "absent");
+    assert_same(&rt, PlanKey::RowsBackupLink.word(), "rows.backup_link");
+    assert_same(&rt, PlanKey::WaitSecond.word(), "wait_second");
+    assert_same(&rt, PlanKey::Absent.word(), "absent");
 }

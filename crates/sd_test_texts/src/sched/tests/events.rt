@@ -1,9 +1,11 @@
 //! A line for each word and kind, and lines that are refused.
+use crate::same::assert_same;
 use sd_sched::{Event, LineFault, first_field, line_text, read_line};
+use std::process::Abort;
 use std::test::Fail;
 
 /// A line for each word and kind, with its event.
-const LINES: [(&str, Event); 16] = [
+static LINES: [(&str, Event); 16] = [
     (
         "start 1000000 0 0 1000000 500",
         Event::Start {
@@ -121,7 +123,7 @@ const LINES: [(&str, Event); 16] = [
 ];
 
 /// Lines that are refused, with their faults.
-const REFUSED: [(&[u8], LineFault); 24] = [
+static REFUSED: [(&[u8], LineFault); 24] = [
     (b"", LineFault::UnknownWord),
     (b" ", LineFault::UnknownWord),
     (b" end 5", LineFault::UnknownWord),
@@ -150,28 +152,42 @@ const REFUSED: [(&[u8], LineFault); 24] = [
 
 #[test]
 fn reads_each_word(rt: HostRuntime) {
-    for (line, event) in LINES {
-        assert_eq!(rt; read_line(line.as_bytes()), Ok(event), "{line}");
+    for (line, event) in &LINES {
+        assert_eq!(rt; read_line(line.as_bytes()), Ok(*event), "{line}");
+    }
+}
+
+/// A text is this line and a newline.
+fn assert_line(rt: &impl Abort, text: &[u8], line: &str) {
+    match text {
+        [front @ .., b'\n'] => assert_eq!(rt; front, line.as_bytes(), "{line}"),
+        _ => panic!(rt; "no newline after {line}"),
     }
 }
 
 #[test]
 fn prints_each_event(rt: HostRuntime) -> Result<(), Fail> {
-    for (line, event) in LINES {
-        let text = line_text(rt.alloc(), &event)?;
-        match text.as_slice() {
-            [front @ .., b'\n'] => assert_eq!(rt; front, line.as_bytes(), "{line}"),
-            _ => panic!(rt; "no newline after {line}"),
-        }
+    for (line, event) in &LINES {
+        let text = line_text(rt.alloc(), event)?;
+        assert_line(&rt, text.as_slice(), line);
     }
     Ok(())
 }
 
 #[test]
 fn refuses(rt: HostRuntime) {
-    for (line, fault) in REFUSED {
-        assert_eq!(rt; read_line(line), Err(fault));
+    for (line, fault) in &REFUSED {
+        assert_same(&rt, read_line(line), Err(*fault));
     }
+}
+
+/// An event has this reference, device and counter.
+fn assert_fields(rt: &impl Abort, event: &Event, fields: (u64, Option<u32>, Option<u64>)) {
+    assert_same(
+        rt,
+        (event.reference(), event.device(), event.counter()),
+        fields,
+    );
 }
 
 #[test]
@@ -182,20 +198,20 @@ fn tells_the_fields(rt: HostRuntime) {
         counter: 2,
         message: 1,
     };
-    assert_eq!(rt; received.reference(), 4);
-    assert_eq!(rt; received.device(), Some(3));
-    assert_eq!(rt; received.counter(), Some(2));
+    assert_fields(&rt, &received, (4, Some(3), Some(2)));
     let lost = Event::Lose {
         reference: 4,
         message: 1,
     };
-    assert_eq!(rt; lost.device(), None);
-    assert_eq!(rt; lost.counter(), None);
+    assert_fields(&rt, &lost, (4, None, None));
 }
+
+/// Lines with their first fields.
+static FIRST: [(&[u8], &[u8]); 3] = [(b"ask 1 2 3", b"ask"), (b"ask", b"ask"), (b" ask", b"")];
 
 #[test]
 fn takes_the_first_field(rt: HostRuntime) {
-    assert_eq!(rt; first_field(b"ask 1 2 3"), b"ask".as_slice());
-    assert_eq!(rt; first_field(b"ask"), b"ask".as_slice());
-    assert_eq!(rt; first_field(b" ask"), b"".as_slice());
+    for (line, first) in &FIRST {
+        assert_same(&rt, first_field(line), *first);
+    }
 }

@@ -1,4 +1,5 @@
 //! Texts with their faults, good texts of both versions, and the printed layout.
+use crate::same::assert_same;
 use sd_test_examples::topo::{Side, Topology};
 use sd_test_examples::topotext::{Key, Kind, read_topology, topology_text};
 use std::alloc::{AllocError, Global};
@@ -239,7 +240,7 @@ static REFUSED: [([&str; 6], &str); 35] = [
 /// A text is refused for this reason.
 fn assert_reason(rt: &(impl Abort + AllocGlobal), bytes: &[u8], want: &str) -> Result<(), Fail> {
     let said = reason(rt.alloc(), bytes)?;
-    assert_eq!(rt; said.as_str(), want);
+    assert_same(rt, said.as_str(), want);
     Ok(())
 }
 
@@ -314,21 +315,24 @@ fn triangle(alloc: Global) -> Result<Topology, Fail> {
 /// A copy of the triangle.
 fn copied(alloc: Global) -> Result<Topology, Fail> {
     let topo = triangle(alloc)?;
-    Ok(topo.copy(alloc)?)
+    let copy = topo.copy(alloc);
+    drop(topo);
+    Ok(copy?)
 }
 
 fn assert_params(rt: &impl Abort, topo: &Topology) {
-    assert_eq!(rt; topo.version(), 2);
-    assert_eq!(rt; topo.params().tick, 90_000_000);
-    assert_eq!(rt; topo.roots(), [0, 1].as_slice());
+    assert_same(rt, (topo.version(), topo.params().tick), (2, 90_000_000));
+    assert_same(rt, topo.roots(), [0, 1].as_slice());
 }
 
 fn assert_devices(rt: &impl Abort, topo: &Topology) {
-    assert_eq!(rt; topo.devices(), 3);
-    assert_eq!(rt; topo.device_name(2), "x");
-    assert_eq!(rt; topo.side(2), Side::Backup);
-    assert_eq!(rt; topo.rates(2).ppm, 100);
-    assert_eq!(rt; topo.number_of("x"), Some(2));
+    assert!(rt; topo.devices() == 3);
+    assert_same(
+        rt,
+        (topo.device_name(2), topo.number_of("x")),
+        ("x", Some(2)),
+    );
+    assert_same(rt, (topo.side(2), topo.rates(2).ppm), (Side::Backup, 100));
 }
 
 #[test]
@@ -336,38 +340,46 @@ fn devices(rt: HostRuntime) -> Result<(), Fail> {
     let topo = copied(rt.alloc())?;
     assert_params(&rt, &topo);
     assert_devices(&rt, &topo);
+    drop(topo);
     Ok(())
 }
 
 fn assert_links(rt: &impl Abort, topo: &Topology) {
-    assert_eq!(rt; topo.links(), 2);
-    assert_eq!(rt; topo.link_name(1), "bx");
-    assert_eq!(rt; topo.link_number("bx"), Some(1));
-    let link = topo.link(1);
-    assert_eq!(rt; link.end_a, 1);
-    assert_eq!(rt; topo.delay(1, 1).max, 600_000);
-    assert_eq!(rt; topo.bounds(1, 1).mid, 450_000);
-    assert_eq!(rt; topo.greatest_delay(), 1_000_000);
+    assert!(rt; topo.links() == 2);
+    assert_same(rt, topo.greatest_delay(), 1_000_000);
+    assert_same(
+        rt,
+        (topo.link_name(1), topo.link_number("bx")),
+        ("bx", Some(1)),
+    );
+    assert!(rt; topo.link(1).end_a == 1);
+    assert_same(
+        rt,
+        (topo.delay(1, 1).max, topo.bounds(1, 1).mid),
+        (600_000, 450_000),
+    );
 }
 
 #[test]
 fn links(rt: HostRuntime) -> Result<(), Fail> {
     let topo = copied(rt.alloc())?;
     assert_links(&rt, &topo);
+    drop(topo);
     Ok(())
 }
 
 fn assert_domains(rt: &impl Abort, topo: &Topology) {
-    assert_eq!(rt; topo.domains(), 1);
-    assert_eq!(rt; topo.domain_name(0), "tray");
-    assert_eq!(rt; topo.domain_devices(0), [1, 2].as_slice());
-    assert_eq!(rt; topo.domain_links(0), [1].as_slice());
+    assert!(rt; topo.domains() == 1);
+    assert_same(rt, topo.domain_name(0), "tray");
+    assert_same(rt, topo.domain_devices(0), [1, 2].as_slice());
+    assert_same(rt, topo.domain_links(0), [1].as_slice());
 }
 
 #[test]
 fn domains(rt: HostRuntime) -> Result<(), Fail> {
     let topo = copied(rt.alloc())?;
     assert_domains(&rt, &topo);
+    drop(topo);
     Ok(())
 }
 
@@ -383,14 +395,15 @@ fn text_of(alloc: Global, topo: &Topology) -> Result<Vec<u8>, Fail> {
 #[test]
 fn printed(rt: HostRuntime) -> Result<(), Fail> {
     let topo = triangle(rt.alloc())?;
-    let text = text_of(rt.alloc(), &topo)?;
-    assert_eq!(rt; std::str::from_utf8(text.as_slice()), Ok(PRINTED));
+    let text = text_of(rt.alloc(), &topo);
+    drop(topo);
+    assert_same(&rt, std::str::from_utf8(text?.as_slice()), Ok(PRINTED));
     Ok(())
 }
 
 #[test]
 fn words(rt: HostRuntime) {
-    assert_eq!(rt; Key::LinkBackMin.word(), "link.back_min");
-    assert_eq!(rt; Key::Ppm.word(), "ppm");
-    assert_eq!(rt; Kind::Item.word(), "item");
+    assert_same(&rt, Key::LinkBackMin.word(), "link.back_min");
+    assert_same(&rt, Key::Ppm.word(), "ppm");
+    assert_same(&rt, Kind::Item.word(), "item");
 }
