@@ -6,7 +6,7 @@ import threading
 import unittest
 from unittest import mock
 
-from support import DATA, directory, needs_sundial, run, PROGRAM
+from support import DATA, PROGRAM, directory, needs_sundial, run, sundial
 
 from sundial_tools.network.main import main
 from sundial_tools.topology import parse_topology, read_topology, topology_text
@@ -113,9 +113,23 @@ class Program(unittest.TestCase):
             (path / "marked.toml").write_bytes(b"\xef\xbb\xbf" + (DATA / "triangle.toml").read_bytes())
             self.assertEqual(names(path / "marked.toml")[0], 0)
             deep = (DATA / "triangle.toml").read_text() + "\n[more]\nkey = "
-            for depth, status in (70, 0), (90, 1):
+            for depth, status in (80, 0), (81, 1):
                 (path / "deep.toml").write_text(deep + "[" * depth + "]" * depth + "\n")
                 self.assertEqual(names(path / "deep.toml")[0], status, depth)
+
+
+    def test_a_plan_is_nested_so_deep(self):
+        plan = (DATA / "triangle-1.json").read_text().rstrip()
+        self.assertTrue(plan.endswith("}"))
+        with directory() as path:
+            # (the object of the plan is one level)
+            for depth, is_read in (126, True), (127, False):
+                (path / "deep.json").write_text(f'{plan[:-1]},"more":{"[" * depth}{"]" * depth}}}\n')
+                said = sundial("check", DATA / "triangle.toml", path / "deep.json")[1]
+                self.assertEqual(said.startswith("accepted "), is_read, (depth, said))
+            for name, text in ("bom", "\ufeff" + plan), ("surrogate", plan[:-1] + ',"more":"\\ud800"}'):
+                (path / name).write_text(text + "\n", encoding="utf-8")
+                self.assertEqual(sundial("check", DATA / "triangle.toml", path / name)[1], "input plan 1 NotJson\n", name)
 
 
 if __name__ == "__main__":
