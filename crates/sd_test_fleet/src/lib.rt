@@ -7,4 +7,6 @@ mod load;
 mod made;
 #[cfg(test)]
 mod rows;
+#[cfg(test)]
+mod same;
 mod trial;

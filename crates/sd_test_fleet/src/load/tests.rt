@@ -9,6 +9,7 @@ use network::{plan_text, topology_text};
 use sd_test_fleet_kit::device::Device;
 use sd_test_fleet_kit::examples::fleet_over;
 use sd_test_fleet_kit::fleet::Fleet;
+use sd_test_fleet_kit::topo::Topology;
 use sd_test_fleet_kit::topotext::read_topology;
 use std::alloc::Global;
 use std::process::Abort;
@@ -18,12 +19,19 @@ use std::test::Fail;
 /// the backup root send to all leaves, and the first two leaves to the other spines.
 const ROUND: u64 = 4096 + 2 * 4088 + 2 * 7;
 
-/// A fleet before any event.
-fn fleet_of(alloc: Global) -> Result<Fleet<Device>, Fail> {
+/// The network.
+fn read_network(alloc: Global) -> Result<Topology, Fail> {
     let text = topology_text(alloc)?;
-    let topo = read_topology(alloc, text.as_bytes())?;
+    Ok(read_topology(alloc, text.as_bytes())?)
+}
+
+/// A fleet before any event. It promises nothing, so that no proof looks into its plan.
+fn new_fleet(alloc: Global) -> Result<Fleet<Device>, Fail> {
     let plan = plan_text(alloc)?;
-    Ok(fleet_over(alloc, &topo, &[plan.as_str()])?)
+    let topo = read_network(alloc)?;
+    let fleet = fleet_over(alloc, &topo, &[plan.as_str()]);
+    drop(topo);
+    Ok(fleet?)
 }
 
 /// All devices start, and then some rounds follow, of which each is as long as it ought to be.
@@ -43,23 +51,28 @@ fn drive(
     Ok(())
 }
 
+/// So many rounds of a new fleet.
+fn run(rt: &(impl AllocGlobal + Abort), rounds: u32) -> Result<(), Fail> {
+    let mut fleet = new_fleet(rt.alloc())?;
+    let driven = drive(rt, &mut fleet, rounds);
+    drop(fleet);
+    driven
+}
+
 /// What is made before any event, so that the time of the events alone can be told.
 #[test]
 fn all_devices_start(rt: HostRuntime) -> Result<(), Fail> {
-    let mut fleet = fleet_of(rt.alloc())?;
-    drive(&rt, &mut fleet, 0)
+    run(&rt, 0)
 }
 
 /// Some million events.
 #[test]
 fn eighty_rounds(rt: HostRuntime) -> Result<(), Fail> {
-    let mut fleet = fleet_of(rt.alloc())?;
-    drive(&rt, &mut fleet, 80)
+    run(&rt, 80)
 }
 
 /// Some ten million events.
 #[test]
 fn eight_hundred_rounds(rt: HostRuntime) -> Result<(), Fail> {
-    let mut fleet = fleet_of(rt.alloc())?;
-    drive(&rt, &mut fleet, 800)
+    run(&rt, 800)
 }

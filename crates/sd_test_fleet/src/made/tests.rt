@@ -23,15 +23,17 @@ const PLANS: [&str; 2] = [
     r#"{"version":1,"root":"s1","backup_root":"s2","wait_first":1112349470,"wait_second":1112349470,"wait":5562637408,"absent_devices":["s0"],"absent_links":[],"rows":[{"device":"s2","parent":"l0","link":"k0-2","backup":"l1","backup_link":"k1-2"},{"device":"l0","parent":"s1","link":"k0-1","backup":"s2","backup_link":"k0-2"},{"device":"l1","parent":"s1","link":"k1-1","backup":"s2","backup_link":"k1-2"},{"device":"l2","parent":"s1","link":"k2-1","backup":"s2","backup_link":"k2-2"}]}"#,
 ];
 
-/// A fleet accepts the events one by one, and makes so many reports.
+/// There are so many events, and a fleet accepts them one by one and makes so many reports.
 fn assert_accepts(
     rt: &(impl AllocGlobal + Abort),
     fleet: &mut Fleet<Device>,
     events: &[Event],
-    reports: u64,
+    wanted: (usize, u64),
 ) -> Result<(), Fail>
     requires { AreWithin events.now }
 {
+    let (count, reports) = wanted;
+    assert_eq!(rt; events.len(), count);
     let mut made = 0u64;
     for event in events {
         let outcome = fleet.apply(rt.alloc(), event)?;
@@ -52,21 +54,58 @@ fn assert_followed(
     requires sound { AreSound (network topo.now) plans.now }
 {
     let schedule = make_schedule(rt.alloc(), topo, plans, 2)?;
-    assert_eq!(rt; schedule.as_slice().len(), 1521);
     let mut fleet = Fleet::new(rt.alloc(), topo, plans)?;
-    assert_accepts(rt, &mut fleet, schedule.as_slice(), 20)
+    let accepted = assert_accepts(rt, &mut fleet, schedule.as_slice(), (1521, 20));
+    drop(fleet);
+    accepted
+}
+
+/// The same over a network, with the greedy plans.
+fn assert_planned(rt: &(impl AllocGlobal + Abort), topo: &Topology) -> Result<(), Fail> {
+    let plans = plans_of(rt.alloc(), topo, &PLANS)?;
+    let followed = assert_followed(rt, topo, plans.as_slice());
+    drop(plans);
+    followed
+}
+
+/// The network of a case. It promises nothing, so that no proof looks into its tables.
+fn made(alloc: Global, leaves: u32, spines: u32) -> Result<Topology, Fail>
+    requires some_leaves { 2 ≤ leaves }
+    requires few_leaves { leaves ≤ 256 }
+    requires some_spines { 3 ≤ spines }
+    requires few_spines { spines ≤ 32 }
+{
+    Ok(fabric_topology(alloc, leaves, spines)?)
 }
 
 #[test]
 fn a_fleet_accepts_the_schedule_that_is_listed(rt: HostRuntime) -> Result<(), Fail> {
-    let topo = fabric_topology(rt.alloc(), 3, 3)?;
-    let plans = plans_of(rt.alloc(), &topo, &PLANS)?;
-    assert_followed(&rt, &topo, plans.as_slice())
+    let topo = made(rt.alloc(), 3, 3)?;
+    let followed = assert_planned(&rt, &topo);
+    drop(topo);
+    followed
 }
 
-/// The text of a topology. It promises nothing, so that no proof looks into the text.
-fn text_of(alloc: Global, topo: &Topology) -> Result<Vec<u8>, Fail> {
-    Ok(topology_text(alloc, topo)?)
+/// The text of the network of a case. It promises nothing, as above.
+fn text_for(alloc: Global, leaves: u32, spines: u32) -> Result<Vec<u8>, Fail>
+    requires some_leaves { 2 ≤ leaves }
+    requires few_leaves { leaves ≤ 256 }
+    requires some_spines { 3 ≤ spines }
+    requires few_spines { spines ≤ 32 }
+{
+    Ok(fabric_text(alloc, leaves, spines)?)
+}
+
+/// The network of a text. It promises nothing, so that no proof looks into the text.
+fn read(alloc: Global, text: &[u8]) -> Result<Topology, Fail> {
+    Ok(read_topology(alloc, text)?)
+}
+
+/// The text of a topology, which is let go. It promises nothing, as above.
+fn printed(alloc: Global, topo: Topology) -> Result<Vec<u8>, Fail> {
+    let text = topology_text(alloc, &topo);
+    drop(topo);
+    Ok(text?)
 }
 
 /// The network of these sizes is printed as the one that is read from its text.
@@ -76,11 +115,9 @@ fn assert_read(rt: &(impl AllocGlobal + Abort), leaves: u32, spines: u32) -> Res
     requires some_spines { 3 ≤ spines }
     requires few_spines { spines ≤ 32 }
 {
-    let made = fabric_topology(rt.alloc(), leaves, spines)?;
-    let text = fabric_text(rt.alloc(), leaves, spines)?;
-    let read = read_topology(rt.alloc(), text.as_slice())?;
-    let made_text = text_of(rt.alloc(), &made)?;
-    let read_text = text_of(rt.alloc(), &read)?;
+    let made_text = printed(rt.alloc(), made(rt.alloc(), leaves, spines)?)?;
+    let text = text_for(rt.alloc(), leaves, spines)?;
+    let read_text = printed(rt.alloc(), read(rt.alloc(), text.as_slice())?)?;
     assert_eq!(rt; made_text.as_slice(), read_text.as_slice());
     Ok(())
 }

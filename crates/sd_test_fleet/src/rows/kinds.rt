@@ -1,13 +1,13 @@
 //! Fleets of other kinds of node: the fleet takes what they say.
 
 use super::bases::{RB, flight};
-use super::networks::ONE_PLAN;
+use super::networks::{ONE_PLAN, new_fleet};
 use super::nodes::{Mute, StillClock, still_message, still_report};
 use super::outcomes::{acting, quiet, reports, sends, takes};
 use super::playing::{Standing, follower, play, refuse, root, standing_of};
+use crate::same::assert_same;
 use sd_test_fleet_kit::clock::Report;
 use sd_test_fleet_kit::device::Device;
-use sd_test_fleet_kit::examples::fleet_of;
 use sd_test_fleet_kit::fleet::{ApplyFault, Fleet};
 use std::process::Abort;
 use std::test::Fail;
@@ -38,15 +38,17 @@ fn tick_and_report(
         acts: false,
     };
     for d in 0..3 {
-        assert_eq!(rt; standing_of(fleet, d), Some(alone));
+        assert_same(rt, standing_of(fleet, d), Some(alone));
     }
     Ok(())
 }
 
 #[test]
 fn clocks_that_stand_still_are_taken_at_their_word(rt: HostRuntime) -> Result<(), Fail> {
-    let mut fleet = fleet_of(rt.alloc(), &ONE_PLAN)?;
-    tick_and_report(&rt, &mut fleet)
+    let mut fleet = new_fleet(rt.alloc(), &ONE_PLAN)?;
+    let played = tick_and_report(&rt, &mut fleet);
+    drop(fleet);
+    played
 }
 
 /// The root ticks and nothing is sent; the others report and move as devices do.
@@ -69,14 +71,16 @@ fn stay_mute(rt: &(impl AllocGlobal + Abort), fleet: &mut Fleet<Mute<Device>>) -
         ("tick 1350000000 1 1350000000", quiet()),
     ];
     play(rt, fleet, &lines)?;
-    assert_eq!(rt; standing_of(fleet, 0), root());
-    assert_eq!(rt; standing_of(fleet, 1), follower(2));
-    assert_eq!(rt; standing_of(fleet, 2), follower(0));
+    assert_same(rt, standing_of(fleet, 0), root());
+    assert_same(rt, standing_of(fleet, 1), follower(2));
+    assert_same(rt, standing_of(fleet, 2), follower(0));
     Ok(())
 }
 
 #[test]
 fn no_message_goes_from_devices_that_never_send(rt: HostRuntime) -> Result<(), Fail> {
-    let mut fleet = fleet_of(rt.alloc(), &ONE_PLAN)?;
-    stay_mute(&rt, &mut fleet)
+    let mut fleet = new_fleet(rt.alloc(), &ONE_PLAN)?;
+    let played = stay_mute(&rt, &mut fleet);
+    drop(fleet);
+    played
 }

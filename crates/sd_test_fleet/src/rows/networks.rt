@@ -1,7 +1,16 @@
 //! The networks: the worked triangle, with one plan or with two.
 
 use sd_test_examples::{TRIANGLE, TRIANGLE_PLAN};
-use sd_test_fleet_kit::examples::Example;
+use sd_test_fleet_kit::device::Node;
+use sd_test_fleet_kit::examples::{Example, fleet_of};
+use sd_test_fleet_kit::fleet::Fleet;
+use std::alloc::Global;
+use std::test::Fail;
+
+/// A fleet of an example before any event. It promises nothing: what the fleet does is compared.
+pub(super) fn new_fleet<N: Node>(alloc: Global, example: &Example) -> Result<Fleet<N>, Fail> {
+    Ok(fleet_of(alloc, example)?)
+}
 
 /// Its links rb, rx and bx (0 to 2) join the devices r, b and x (0 to 2). There is one plan.
 pub(super) const ONE_PLAN: Example = Example {

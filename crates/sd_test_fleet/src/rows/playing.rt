@@ -1,5 +1,6 @@
 //! Lines that a fleet is driven by, each with what comes of it.
 
+use crate::same::assert_same_at;
 use sd_test_fleet_kit::device::Node;
 use sd_test_fleet_kit::fleet::{ApplyFault, Fleet, Outcome};
 use sd_test_fleet_kit::sched::read_line;
@@ -38,9 +39,9 @@ pub(super) fn happen<N: Node>(
 ) -> Result<(), Fail> {
     let event = read_line(line.as_bytes())?;
     let most = fleet.most_sent(&event);
-    assert_eq!(rt; fleet.refusal(&event), None, "{line}");
-    assert_eq!(rt; fleet.apply(rt.alloc(), &event), Ok(outcome), "{line}");
-    assert!(rt; outcome.sent as usize <= most, "{line}");
+    assert_same_at(rt, line, fleet.refusal(&event), None);
+    assert_same_at(rt, line, fleet.apply(rt.alloc(), &event), Ok(outcome));
+    assert_same_at(rt, line, outcome.sent as usize <= most, true);
     Ok(())
 }
 
@@ -52,8 +53,8 @@ pub(super) fn refuse<N: Node>(
     fault: ApplyFault,
 ) -> Result<(), Fail> {
     let event = read_line(line.as_bytes())?;
-    assert_eq!(rt; fleet.refusal(&event), Some(fault), "{line}");
-    assert_eq!(rt; fleet.apply(rt.alloc(), &event), Err(fault), "{line}");
+    assert_same_at(rt, line, fleet.refusal(&event), Some(fault));
+    assert_same_at(rt, line, fleet.apply(rt.alloc(), &event), Err(fault));
     Ok(())
 }
 

@@ -1,11 +1,11 @@
 //! Messages that are received, sent on, and received once alone.
 
 use super::bases::{RX, begin, first_message, flight, relay, settle};
-use super::networks::{ODD_SUM, ONE_PLAN};
+use super::networks::{ODD_SUM, ONE_PLAN, new_fleet};
 use super::outcomes::{ends, reports, sends};
 use super::playing::{follower, play, refuse, root, standing_of};
+use crate::same::assert_same;
 use sd_test_fleet_kit::device::Device;
-use sd_test_fleet_kit::examples::fleet_of;
 use sd_test_fleet_kit::fleet::{ApplyFault, Fleet, Outcome};
 use sd_test_fleet_kit::msg::{Flight, TakeFault};
 use std::process::Abort;
@@ -22,25 +22,27 @@ fn reach_all(rt: &(impl AllocGlobal + Abort), fleet: &mut Fleet<Device>) -> Resu
         ("end 121000000", ends()),
     ];
     play(rt, fleet, &lines)?;
-    assert_eq!(rt; standing_of(fleet, 0), root());
-    assert_eq!(rt; standing_of(fleet, 1), follower(0));
-    assert_eq!(rt; standing_of(fleet, 2), follower(0));
+    assert_same(rt, standing_of(fleet, 0), root());
+    assert_same(rt, standing_of(fleet, 1), follower(0));
+    assert_same(rt, standing_of(fleet, 2), follower(0));
     Ok(())
 }
 
 #[test]
 fn what_the_root_sends_reaches_all_and_goes_on_once(rt: HostRuntime) -> Result<(), Fail> {
-    let mut fleet = fleet_of(rt.alloc(), &ONE_PLAN)?;
-    reach_all(&rt, &mut fleet)
+    let mut fleet = new_fleet(rt.alloc(), &ONE_PLAN)?;
+    let played = reach_all(&rt, &mut fleet);
+    drop(fleet);
+    played
 }
 
 /// The second message comes once more.
 fn receive_twice(rt: &(impl AllocGlobal + Abort), fleet: &mut Fleet<Device>) -> Result<(), Fail> {
     begin(rt, fleet)?;
     let wanted = flight(2, RX, 110_000_000, first_message());
-    assert_eq!(rt; fleet.flight(2), Ok(wanted));
+    assert_same(rt, fleet.flight(2), Ok(wanted));
     relay(rt, fleet)?;
-    assert_eq!(rt; fleet.flight(2), Err(TakeFault::Spent));
+    assert_same(rt, fleet.flight(2), Err(TakeFault::Spent));
     refuse(
         rt,
         fleet,
@@ -51,8 +53,10 @@ fn receive_twice(rt: &(impl AllocGlobal + Abort), fleet: &mut Fleet<Device>) -> 
 
 #[test]
 fn a_message_is_received_once_and_is_spent_then(rt: HostRuntime) -> Result<(), Fail> {
-    let mut fleet = fleet_of(rt.alloc(), &ONE_PLAN)?;
-    receive_twice(&rt, &mut fleet)
+    let mut fleet = new_fleet(rt.alloc(), &ONE_PLAN)?;
+    let played = receive_twice(&rt, &mut fleet);
+    drop(fleet);
+    played
 }
 
 /// A message comes over the link whose delays add up to an odd number.
@@ -83,6 +87,8 @@ fn receive_over_odd_sum(
 
 #[test]
 fn an_odd_sum_of_delays_is_halved_upwards(rt: HostRuntime) -> Result<(), Fail> {
-    let mut fleet = fleet_of(rt.alloc(), &ODD_SUM)?;
-    receive_over_odd_sum(&rt, &mut fleet)
+    let mut fleet = new_fleet(rt.alloc(), &ODD_SUM)?;
+    let played = receive_over_odd_sum(&rt, &mut fleet);
+    drop(fleet);
+    played
 }

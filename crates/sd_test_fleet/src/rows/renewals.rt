@@ -1,11 +1,11 @@
 //! A second plan is brought in.
 
 use super::bases::{BX, RB, RX, XB, emission, flight, relayed, settle};
-use super::networks::{ONE_PLAN, OTHER_PLAN};
+use super::networks::{ONE_PLAN, OTHER_PLAN, new_fleet};
 use super::outcomes::{acting, ends, quiet, reports, sends, takes};
 use super::playing::{follower, play, refuse, root, standing_of};
+use crate::same::assert_same;
 use sd_test_fleet_kit::device::Device;
-use sd_test_fleet_kit::examples::fleet_of;
 use sd_test_fleet_kit::fleet::{ApplyFault, Fleet, Outcome};
 use sd_test_fleet_kit::msg::Message;
 use std::process::Abort;
@@ -22,8 +22,10 @@ fn stage_without_plan(
 
 #[test]
 fn nothing_is_staged_where_no_plan_is_left(rt: HostRuntime) -> Result<(), Fail> {
-    let mut fleet = fleet_of(rt.alloc(), &ONE_PLAN)?;
-    stage_without_plan(&rt, &mut fleet)
+    let mut fleet = new_fleet(rt.alloc(), &ONE_PLAN)?;
+    let played = stage_without_plan(&rt, &mut fleet);
+    drop(fleet);
+    played
 }
 
 /// The second message of r is the first of the second plan.
@@ -131,9 +133,9 @@ fn renew(rt: &(impl AllocGlobal + Abort), fleet: &mut Fleet<Device>) -> Result<(
     seal_all(rt, fleet)?;
     ignore_second(rt, fleet)?;
     play(rt, fleet, &[("end 216700000", ends())])?;
-    assert_eq!(rt; standing_of(fleet, 0), root());
-    assert_eq!(rt; standing_of(fleet, 1), follower(0));
-    assert_eq!(rt; standing_of(fleet, 2), follower(0));
+    assert_same(rt, standing_of(fleet, 0), root());
+    assert_same(rt, standing_of(fleet, 1), follower(0));
+    assert_same(rt, standing_of(fleet, 2), follower(0));
     Ok(())
 }
 
@@ -141,6 +143,8 @@ fn renew(rt: &(impl AllocGlobal + Abort), fleet: &mut Fleet<Device>) -> Result<(
 fn the_second_plan_is_entered_by_its_messages_and_closed_by_the_last_seal(
     rt: HostRuntime,
 ) -> Result<(), Fail> {
-    let mut fleet = fleet_of(rt.alloc(), &OTHER_PLAN)?;
-    renew(&rt, &mut fleet)
+    let mut fleet = new_fleet(rt.alloc(), &OTHER_PLAN)?;
+    let played = renew(&rt, &mut fleet);
+    drop(fleet);
+    played
 }

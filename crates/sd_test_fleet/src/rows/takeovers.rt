@@ -1,11 +1,11 @@
 //! The root fails, and the backup root takes over.
 
 use super::bases::settle;
-use super::networks::ONE_PLAN;
+use super::networks::{ONE_PLAN, new_fleet};
 use super::outcomes::{acting, ends, quiet, reports, sends};
 use super::playing::{down, follower, happen, root, standing_of};
+use crate::same::assert_same;
 use sd_test_fleet_kit::device::Device;
-use sd_test_fleet_kit::examples::fleet_of;
 use sd_test_fleet_kit::fleet::{Fleet, Outcome};
 use std::process::Abort;
 use std::test::Fail;
@@ -46,15 +46,15 @@ fn wait(
 fn take_over(rt: &(impl AllocGlobal + Abort), fleet: &mut Fleet<Device>) -> Result<(), Fail> {
     settle(rt, fleet)?;
     happen(rt, fleet, "fail 112000000 device 0", acting())?;
-    assert_eq!(rt; standing_of(fleet, 0), down());
+    assert_same(rt, standing_of(fleet, 0), down());
     wait(rt, fleet, 1, 16)?;
-    assert_eq!(rt; standing_of(fleet, 1), follower(0));
+    assert_same(rt, standing_of(fleet, 1), follower(0));
     tick_both(rt, fleet, 16, quiet())?;
-    assert_eq!(rt; standing_of(fleet, 1), follower(2));
+    assert_same(rt, standing_of(fleet, 1), follower(2));
     wait(rt, fleet, 17, 31)?;
-    assert_eq!(rt; standing_of(fleet, 1), follower(2));
+    assert_same(rt, standing_of(fleet, 1), follower(2));
     tick_both(rt, fleet, 31, sends(5, 1))?;
-    assert_eq!(rt; standing_of(fleet, 1), root());
+    assert_same(rt, standing_of(fleet, 1), root());
     let asked = Outcome {
         acted: true,
         ..reports(1, 2_850_000_000, 872_360)
@@ -65,6 +65,8 @@ fn take_over(rt: &(impl AllocGlobal + Abort), fleet: &mut Fleet<Device>) -> Resu
 
 #[test]
 fn the_backup_root_moves_and_then_takes_over(rt: HostRuntime) -> Result<(), Fail> {
-    let mut fleet = fleet_of(rt.alloc(), &ONE_PLAN)?;
-    take_over(&rt, &mut fleet)
+    let mut fleet = new_fleet(rt.alloc(), &ONE_PLAN)?;
+    let played = take_over(&rt, &mut fleet);
+    drop(fleet);
+    played
 }

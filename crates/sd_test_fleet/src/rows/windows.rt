@@ -1,12 +1,12 @@
 //! Joins, starts and failures while a plan is brought in.
 
 use super::bases::settle;
-use super::networks::SAME_PLAN;
+use super::networks::{SAME_PLAN, new_fleet};
 use super::outcomes::{acting, ends, quiet, reports};
 use super::playing::{Standing, down, follower, happen, play, refuse, root, standing_of};
 use super::renewals::{bring_in, enter_b};
+use crate::same::assert_same;
 use sd_test_fleet_kit::device::Device;
-use sd_test_fleet_kit::examples::fleet_of;
 use sd_test_fleet_kit::fleet::{ApplyFault, Fleet, Outcome};
 use std::process::Abort;
 use std::test::Fail;
@@ -28,7 +28,7 @@ fn join(rt: &(impl AllocGlobal + Abort), fleet: &mut Fleet<Device>) -> Result<()
         ("mend 112000000 device 2", quiet()),
     ];
     play(rt, fleet, &lines)?;
-    assert_eq!(rt; standing_of(fleet, 2), down());
+    assert_same(rt, standing_of(fleet, 2), down());
     let lines = [
         ("join 112000000 2 0 112000000 800000", quiet()),
         ("give 112000000 0", acting()),
@@ -45,14 +45,16 @@ fn join(rt: &(impl AllocGlobal + Abort), fleet: &mut Fleet<Device>) -> Result<()
         parent: None,
         acts: false,
     };
-    assert_eq!(rt; standing_of(fleet, 2), Some(joined));
+    assert_same(rt, standing_of(fleet, 2), Some(joined));
     Ok(())
 }
 
 #[test]
 fn a_mended_device_joins_in_the_window_and_has_no_duty_yet(rt: HostRuntime) -> Result<(), Fail> {
-    let mut fleet = fleet_of(rt.alloc(), &SAME_PLAN)?;
-    join(&rt, &mut fleet)
+    let mut fleet = new_fleet(rt.alloc(), &SAME_PLAN)?;
+    let played = join(&rt, &mut fleet);
+    drop(fleet);
+    played
 }
 
 /// x fails, and the others go on without it.
@@ -74,8 +76,10 @@ fn commit_without_x(
 
 #[test]
 fn a_commit_is_accepted_where_a_member_is_not_up(rt: HostRuntime) -> Result<(), Fail> {
-    let mut fleet = fleet_of(rt.alloc(), &SAME_PLAN)?;
-    commit_without_x(&rt, &mut fleet)
+    let mut fleet = new_fleet(rt.alloc(), &SAME_PLAN)?;
+    let played = commit_without_x(&rt, &mut fleet);
+    drop(fleet);
+    played
 }
 
 /// A link fails, is mended and fails.
@@ -93,8 +97,10 @@ fn fail_again(rt: &(impl AllocGlobal + Abort), fleet: &mut Fleet<Device>) -> Res
 
 #[test]
 fn a_link_that_was_mended_may_fail_again_in_the_window(rt: HostRuntime) -> Result<(), Fail> {
-    let mut fleet = fleet_of(rt.alloc(), &SAME_PLAN)?;
-    fail_again(&rt, &mut fleet)
+    let mut fleet = new_fleet(rt.alloc(), &SAME_PLAN)?;
+    let played = fail_again(&rt, &mut fleet);
+    drop(fleet);
+    played
 }
 
 /// x starts in the window.
@@ -107,15 +113,17 @@ fn start_late(rt: &(impl AllocGlobal + Abort), fleet: &mut Fleet<Device>) -> Res
         ("end 0", ends()),
     ];
     play(rt, fleet, &lines)?;
-    assert_eq!(rt; standing_of(fleet, 0), root());
-    assert_eq!(rt; standing_of(fleet, 2), follower(0));
+    assert_same(rt, standing_of(fleet, 0), root());
+    assert_same(rt, standing_of(fleet, 2), follower(0));
     Ok(())
 }
 
 #[test]
 fn a_device_may_start_after_a_stage(rt: HostRuntime) -> Result<(), Fail> {
-    let mut fleet = fleet_of(rt.alloc(), &SAME_PLAN)?;
-    start_late(&rt, &mut fleet)
+    let mut fleet = new_fleet(rt.alloc(), &SAME_PLAN)?;
+    let played = start_late(&rt, &mut fleet);
+    drop(fleet);
+    played
 }
 
 /// After the commit all devices fail.
@@ -135,8 +143,10 @@ fn fail_all(rt: &(impl AllocGlobal + Abort), fleet: &mut Fleet<Device>) -> Resul
 fn the_window_stays_open_where_all_members_failed_after_the_commit(
     rt: HostRuntime,
 ) -> Result<(), Fail> {
-    let mut fleet = fleet_of(rt.alloc(), &SAME_PLAN)?;
-    fail_all(&rt, &mut fleet)
+    let mut fleet = new_fleet(rt.alloc(), &SAME_PLAN)?;
+    let played = fail_all(&rt, &mut fleet);
+    drop(fleet);
+    played
 }
 
 /// All but x have settled, and x fails.
@@ -161,6 +171,8 @@ fn fail_unsealed(rt: &(impl AllocGlobal + Abort), fleet: &mut Fleet<Device>) -> 
 fn the_failure_of_the_last_device_that_is_not_sealed_closes_the_window(
     rt: HostRuntime,
 ) -> Result<(), Fail> {
-    let mut fleet = fleet_of(rt.alloc(), &SAME_PLAN)?;
-    fail_unsealed(&rt, &mut fleet)
+    let mut fleet = new_fleet(rt.alloc(), &SAME_PLAN)?;
+    let played = fail_unsealed(&rt, &mut fleet);
+    drop(fleet);
+    played
 }

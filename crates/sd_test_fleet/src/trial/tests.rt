@@ -1,5 +1,7 @@
-//! A fleet beside a plain slow program, on histories drawn by lot over four networks.
-ghost use Rattle.std.specs.Prelude.{◌≤◌, ◌<◌, ◌^◌, length};
+//! A fleet beside a plain slow program, on histories drawn by lot over four networks. At every other
+//! event a quick way is tried first.
+ghost use Rattle.std.specs.Prelude.{◌≤◌, ◌<◌, ◌^◌, length, IsTrue};
+ghost use Rattle.sd_test_fleet_kit.specs.Sched.Spelled.{is_within};
 ghost use Rattle.sd_test_fleet_kit.specs.Topo.Topologies.{network};
 ghost use Rattle.sd_test_fleet_kit.specs.FleetState.membership.Plans.{AreSound};
 
@@ -7,21 +9,25 @@ mod causes;
 mod drawn;
 mod outcomes;
 mod tally;
+mod ways;
 
+use crate::same::assert_same_at;
 use causes::refusal;
 use drawn::{draw, line_of};
 use outcomes::{happen, look};
 use sd_test_fleet_kit::device::Device;
 use sd_test_fleet_kit::examples::{Example, FABRIC, PAIR, SQUARE, TRIANGLE, plans_of};
-use sd_test_fleet_kit::fleet::Fleet;
+use sd_test_fleet_kit::fleet::{ApplyFault, Fleet, Outcome};
 use sd_test_fleet_kit::plain::{Net, Numbers, Plain};
 use sd_test_fleet_kit::plan::Plan;
-use sd_test_fleet_kit::sched::read_line;
+use sd_test_fleet_kit::sched::{Event, read_line};
 use sd_test_fleet_kit::topo::Topology;
 use sd_test_fleet_kit::topotext::read_topology;
+use std::alloc::Global;
 use std::process::Abort;
 use std::test::Fail;
 use tally::Tally;
+use ways::happen_quickly;
 
 /// So many events are drawn for each history.
 const LINES: u32 = 120;
@@ -53,64 +59,136 @@ fn finds_as(fleet: &Fleet<Device>, plain: &Plain<'_>) -> bool {
     true
 }
 
-/// What is compared, and how often each kind of thing came.
+/// What is compared.
 #[derive(Drop)]
 struct Trial<'a> {
     fleet: Fleet<Device>,
     plain: Plain<'a>,
-    tally: &'a mut Tally,
+    /// Whether a quick way was tried at the latest event.
+    is_quick: bool,
+}
+
+/// A line, and the word that it begins with.
+#[derive(Clone, Copy)]
+struct Line<'a> {
+    word: &'a str,
+    text: &'a str,
+}
+
+/// The event happens in the fleet, at every other event by a quick way where there is one.
+fn apply(
+    alloc: Global,
+    trial: &mut Trial<'_>,
+    tally: &mut Tally,
+    event: &Event,
+) -> Result<Result<Outcome, ApplyFault>, Fail>
+    requires { IsTrue (is_within event.now) }
+{
+    trial.is_quick = !trial.is_quick;
+    if trial.is_quick
+        && let Some(outcome) = happen_quickly(alloc, &mut trial.fleet, event)?
+    {
+        tally.accept_quickly(&outcome);
+        return Ok(Ok(outcome));
+    }
+    Ok(trial.fleet.apply(alloc, event))
+}
+
+/// An event that is not refused happens in the plain program, and comes to what it came to in the
+/// fleet, which sent no more messages than this.
+fn accept(
+    rt: &impl Abort,
+    plain: &mut Plain<'_>,
+    tally: &mut Tally,
+    (line, event): (Line<'_>, Event),
+    (came, most): (Result<Outcome, ApplyFault>, usize),
+) -> Result<(), Fail> {
+    if plain.sweeps(&event) {
+        tally.sweep();
+    }
+    let outcome = happen(plain, event)?;
+    assert_same_at(rt, line.text, came, Ok(outcome));
+    assert_same_at(rt, line.text, outcome.sent as usize <= most, true);
+    tally.accept(line.word, plain.newest_transition(), &outcome);
+    Ok(())
 }
 
 /// A line that happens in both, each of which says the same of it.
 fn compare(
     rt: &(impl AllocGlobal + Abort),
     trial: &mut Trial<'_>,
-    word: &str,
-    line: &str,
+    tally: &mut Tally,
+    line: Line<'_>,
 ) -> Result<(), Fail> {
-    let event = read_line(line.as_bytes())?;
+    let event = read_line(line.text.as_bytes())?;
     let refused = refusal(&trial.plain, &event);
     let most = trial.fleet.most_sent(&event);
-    assert_eq!(rt; trial.fleet.refusal(&event), refused, "{line}");
-    let came = trial.fleet.apply(rt.alloc(), &event);
-    if let Some(fault) = refused {
-        assert_eq!(rt; came, Err(fault), "{line}");
-        trial.tally.refuse(fault);
-        return Ok(());
+    assert_same_at(rt, line.text, trial.fleet.refusal(&event), refused);
+    let came = apply(rt.alloc(), trial, tally, &event)?;
+    match refused {
+        Some(fault) => {
+            assert_same_at(rt, line.text, came, Err(fault));
+            tally.refuse(fault);
+            Ok(())
+        }
+        None => accept(rt, &mut trial.plain, tally, (line, event), (came, most)),
     }
-    if trial.plain.sweeps(&event) {
-        trial.tally.sweep();
-    }
-    let outcome = happen(&mut trial.plain, event)?;
-    assert_eq!(rt; came, Ok(outcome), "{line}");
-    assert!(rt; outcome.sent as usize <= most, "{line}");
-    trial
-        .tally
-        .accept(word, trial.plain.newest_transition(), &outcome);
-    Ok(())
 }
 
-/// One history.
-fn run_history(
+/// After a line of a history the fleet says what the plain program says.
+fn assert_same(rt: &impl Abort, trial: &Trial<'_>, number: u64, line: &str) {
+    assert!(rt;
+        is_as(&trial.fleet, &trial.plain),
+        "history {number}: {line}"
+    );
+    assert!(rt;
+        finds_as(&trial.fleet, &trial.plain),
+        "history {number}: {line}"
+    );
+}
+
+/// The lines of one history.
+fn follow(
     rt: &(impl AllocGlobal + Abort),
     trial: &mut Trial<'_>,
+    tally: &mut Tally,
     number: u64,
 ) -> Result<(), Fail> {
     let mut numbers = Numbers { state: number };
     for _ in 0..LINES {
         let draft = draw(&mut numbers, &trial.plain);
-        let line = line_of(rt.alloc(), &mut numbers, &trial.plain, draft)?;
-        compare(rt, trial, draft.word, line.as_str())?;
-        assert!(rt;
-            is_as(&trial.fleet, &trial.plain),
-            "history {number}: {line}"
-        );
-        assert!(rt;
-            finds_as(&trial.fleet, &trial.plain),
-            "history {number}: {line}"
-        );
+        let text = line_of(rt.alloc(), &mut numbers, &trial.plain, draft)?;
+        let line = Line {
+            word: draft.word,
+            text: text.as_str(),
+        };
+        compare(rt, trial, tally, line)?;
+        assert_same(rt, trial, number, text.as_str());
     }
     Ok(())
+}
+
+/// One history over a network.
+fn run_history(
+    rt: &(impl AllocGlobal + Abort),
+    planned: (&Topology, &[Plan]),
+    net: &Net<'_>,
+    tally: &mut Tally,
+    number: u64,
+) -> Result<(), Fail>
+    requires some { 1 ≤ length planned.1.now }
+    requires count { length planned.1.now < 2 ^ 32 }
+    requires sound { AreSound (network planned.0.now) planned.1.now }
+{
+    let fleet = Fleet::new(rt.alloc(), planned.0, planned.1)?;
+    let mut trial = Trial {
+        fleet,
+        plain: Plain::new(rt.alloc(), net),
+        is_quick: false,
+    };
+    let followed = follow(rt, &mut trial, tally, number);
+    drop(trial);
+    followed
 }
 
 /// Some histories over a network.
@@ -126,14 +204,27 @@ fn run_histories(
 {
     let net = Net::of(rt.alloc(), topo, plans)?;
     for number in 0..HISTORIES {
-        let mut trial = Trial {
-            fleet: Fleet::new(rt.alloc(), topo, plans)?,
-            plain: Plain::new(rt.alloc(), &net),
-            tally: &mut *tally,
-        };
-        run_history(rt, &mut trial, number)?;
+        run_history(rt, (topo, plans), &net, tally, number)?;
     }
     Ok(())
+}
+
+/// Some histories over a network with the plans of some texts.
+fn run_planned(
+    rt: &(impl AllocGlobal + Abort),
+    topo: &Topology,
+    texts: &[&str],
+    tally: &mut Tally,
+) -> Result<(), Fail> {
+    let plans = plans_of(rt.alloc(), topo, texts)?;
+    let ran = run_histories(rt, topo, plans.as_slice(), tally);
+    drop(plans);
+    ran
+}
+
+/// The network of a text. It promises nothing, so that no proof looks into the text.
+fn network_of(alloc: Global, text: &str) -> Result<Topology, Fail> {
+    Ok(read_topology(alloc, text.as_bytes())?)
 }
 
 /// Some histories over an example.
@@ -142,9 +233,10 @@ fn run_example(
     example: &Example,
     tally: &mut Tally,
 ) -> Result<(), Fail> {
-    let topo = read_topology(rt.alloc(), example.topology.as_bytes())?;
-    let plans = plans_of(rt.alloc(), &topo, example.plans)?;
-    run_histories(rt, &topo, plans.as_slice(), tally)
+    let topo = network_of(rt.alloc(), example.topology)?;
+    let ran = run_planned(rt, &topo, example.plans, tally);
+    drop(topo);
+    ran
 }
 
 #[test]

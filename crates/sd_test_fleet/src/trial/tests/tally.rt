@@ -20,6 +20,9 @@ pub(super) struct Tally {
     swept: u32,
     /// Events with which a device entered the staged plan.
     activated: u32,
+    /// Events that went a quick way: ticks that send nothing, ticks that send, receipts by a device
+    /// with nobody below it, and with somebody.
+    quick: [u32; 4],
 }
 
 fn place_of_transition(transition: Transition) -> usize {
@@ -75,6 +78,7 @@ impl Tally {
             closed: 0,
             swept: 0,
             activated: 0,
+            quick: [0; 4],
         }
     }
 
@@ -91,6 +95,17 @@ impl Tally {
         self.activated = self.activated.saturating_add(u32::from(enters));
     }
 
+    /// An event that went a quick way came to this.
+    pub(super) fn accept_quickly(&mut self, outcome: &Outcome) {
+        let place = match (outcome.sent > 0, outcome.taken.is_some()) {
+            (false, false) => 0,
+            (true, false) => 1,
+            (false, true) => 2,
+            (true, true) => 3,
+        };
+        count(&mut self.quick, place);
+    }
+
     /// Some message is cut off by a failure.
     pub(super) fn sweep(&mut self) {
         self.swept = self.swept.saturating_add(1);
@@ -100,6 +115,7 @@ impl Tally {
         are_ample(&self.refused)
             && are_ample(&self.accepted)
             && are_ample(&self.transitions)
+            && are_ample(&self.quick)
             && are_ample(&[self.closed, self.swept, self.activated])
     }
 }
