@@ -161,6 +161,7 @@ mod tests {
     use super::*;
     use std::fs;
     use std::io::{ErrorKind, Read};
+    use std::process::Abort;
     use std::test::Fail;
 
     /// Which file the last fault was of, and its kind.
@@ -169,33 +170,80 @@ mod tests {
         Some((file, reason.kind()))
     }
 
+    /// A text is begun. What the shelf says is compared, so no more is promised.
+    fn begin<F: SystemFiles>(shelf: &mut FileShelf<F>, name: &str) -> Result<(), Failed>
+        ensures { OnOk result (IsTrue shelf.new.begun) }
+    {
+        shelf.begin(name)
+    }
+
+    /// A read of at most four bytes gives these.
+    fn assert_read<F: SystemFiles>(
+        rt: &impl Abort,
+        shelf: &mut FileShelf<F>,
+        wanted: Result<&[u8], Failed>,
+    )
+        requires { IsTrue shelf.old.begun }
+        ensures { IsTrue shelf.new.begun }
+    {
+        let mut buf = [0; 4];
+        match shelf.read(&mut buf) {
+            Ok(count) => assert_eq!(rt; Ok(&buf[..count]), wanted),
+            Err(Failed) => assert_eq!(rt; wanted, Err(Failed)),
+        }
+    }
+
+    /// So many calls have failed, the last of this file and for this reason.
+    fn assert_faults<F: SystemFiles>(
+        rt: &impl Abort,
+        shelf: &FileShelf<F>,
+        faults: u64,
+        last: Option<(u64, ErrorKind)>,
+    ) {
+        assert_eq!(rt; shelf.faults, faults);
+        assert_eq!(rt; seen(shelf), last);
+    }
+
+    /// A file is read to its end.
+    fn assert_reads_file<F: SystemFiles>(
+        rt: &impl Abort,
+        shelf: &mut FileShelf<F>,
+        name: &str,
+    ) -> Result<(), Fail> {
+        begin(shelf, name)?;
+        assert_read(rt, shelf, Ok(b"one ".as_slice()));
+        assert_read(rt, shelf, Ok(b"two".as_slice()));
+        assert_read(rt, shelf, Ok(b"".as_slice()));
+        assert_faults(rt, shelf, 0, None);
+        Ok(())
+    }
+
+    /// A folder is begun as a file is, and cannot be read.
+    fn assert_refuses_folder<F: SystemFiles>(
+        rt: &impl Abort,
+        shelf: &mut FileShelf<F>,
+        name: &str,
+    ) -> Result<(), Fail> {
+        begin(shelf, name)?;
+        assert_faults(rt, shelf, 1, Some((2, ErrorKind::NotFound)));
+        assert_read(rt, shelf, Err(Failed));
+        assert_faults(rt, shelf, 2, Some((3, ErrorKind::IsADirectory)));
+        Ok(())
+    }
+
     #[test]
     fn reads_a_file_and_counts_a_missing_one(rt: HostRuntime) -> Result<(), Fail> {
-        fs::write(&rt, "file_shelf_test.txt", "one two")?;
+        let name = "file_shelf_test.txt";
+        fs::write(&rt, name, "one two")?;
         let mut shelf = FileShelf::new(&rt);
-        let mut buf = [0; 4];
+        assert_reads_file(&rt, &mut shelf, name)?;
+        fs::remove_file(&rt, name)?;
+        assert_eq!(rt; begin(&mut shelf, name), Err(Failed));
 
-        shelf.begin("file_shelf_test.txt")?;
-        assert_eq!(rt; shelf.read(&mut buf)?, 4);
-        assert_eq!(rt; buf, *b"one ");
-        assert_eq!(rt; shelf.read(&mut buf)?, 3);
-        assert_eq!(rt; &buf[..3], b"two".as_slice());
-        assert_eq!(rt; shelf.read(&mut buf)?, 0);
-        fs::remove_file(&rt, "file_shelf_test.txt")?;
-
-        assert_eq!(rt; shelf.faults, 0);
-        assert!(rt; shelf.last_fault().is_none());
-        assert_eq!(rt; shelf.begin("file_shelf_test.txt"), Err(Failed));
-        assert_eq!(rt; shelf.faults, 1);
-        assert_eq!(rt; seen(&shelf), Some((2, ErrorKind::NotFound)));
-
-        fs::create_dir(&rt, "file_shelf_test")?;
-        shelf.begin("file_shelf_test")?;
-        assert_eq!(rt; seen(&shelf), Some((2, ErrorKind::NotFound)));
-        assert_eq!(rt; shelf.read(&mut buf), Err(Failed));
-        assert_eq!(rt; seen(&shelf), Some((3, ErrorKind::IsADirectory)));
-        fs::remove_dir(&rt, "file_shelf_test")?;
-        assert_eq!(rt; shelf.faults, 2);
+        let name = "file_shelf_test";
+        fs::create_dir(&rt, name)?;
+        assert_refuses_folder(&rt, &mut shelf, name)?;
+        fs::remove_dir(&rt, name)?;
         Ok(())
     }
 
@@ -234,13 +282,14 @@ mod tests {
     #[test]
     fn opens_again_and_keeps_the_last_reason(rt: HostRuntime) -> Result<(), Fail> {
         let mut shelf = FileShelf::new(Refusing { calls: 0 });
-        assert_eq!(rt; shelf.begin("a"), Err(Failed));
+        assert_eq!(rt; begin(&mut shelf, "a"), Err(Failed));
         assert_eq!(rt; seen(&shelf), Some((1, ErrorKind::NotFound)));
-        assert_eq!(rt; shelf.begin("a"), Err(Failed));
-        assert_eq!(rt; seen(&shelf), Some((2, ErrorKind::PermissionDenied)));
-        shelf.begin("b")?;
-        assert_eq!(rt; shelf.read(&mut [0; 4])?, 0);
-        assert_eq!(rt; seen(&shelf), Some((2, ErrorKind::PermissionDenied)));
+        assert_eq!(rt; begin(&mut shelf, "a"), Err(Failed));
+        let denied = Some((2, ErrorKind::PermissionDenied));
+        assert_eq!(rt; seen(&shelf), denied);
+        begin(&mut shelf, "b")?;
+        assert_read(&rt, &mut shelf, Ok(b"".as_slice()));
+        assert_eq!(rt; seen(&shelf), denied);
         Ok(())
     }
 }

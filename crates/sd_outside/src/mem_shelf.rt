@@ -143,27 +143,63 @@ impl Shelf for MemShelf {
 #[cfg(test)]
 mod tests {
     use super::*;
+    use std::alloc::Global;
+    use std::process::Abort;
     use std::test::Fail;
+
+    /// Two texts of one name, in pieces of two bytes, and the third call fails. It promises nothing:
+    /// what the shelf does is compared.
+    fn shelf_of_two(alloc: Global) -> Result<MemShelf, Fail> {
+        let mut files = Vec::new(alloc);
+        for text in [b"hello".as_slice(), b"no".as_slice()] {
+            let name = String::from_str(alloc, "a")?;
+            files.push((name, Vec::from_slice(alloc, text)?))?;
+        }
+        Ok(MemShelf::new(files, 2, Vec::from_slice(alloc, &[3])?))
+    }
+
+    fn begin(shelf: &mut MemShelf, name: &str) -> Result<(), Failed>
+        ensures { OnOk result (IsTrue shelf.new.begun) }
+    {
+        shelf.begin(name)
+    }
+
+    /// A read of at most so many bytes gives these.
+    fn assert_read(
+        rt: &impl Abort,
+        shelf: &mut MemShelf,
+        most: usize,
+        wanted: Result<&[u8], Failed>,
+    )
+        requires begun { IsTrue shelf.old.begun }
+        requires most { most ≤ 8 }
+        ensures { IsTrue shelf.new.begun }
+    {
+        let mut buf = [0; 8];
+        match shelf.read(&mut buf[..most]) {
+            Ok(count) => assert_eq!(rt; Ok(&buf[..count]), wanted),
+            Err(Failed) => assert_eq!(rt; wanted, Err(Failed)),
+        }
+    }
+
+    /// The pieces of a text that is begun. The third call fails.
+    fn assert_pieces(rt: &impl Abort, shelf: &mut MemShelf)
+        requires { IsTrue shelf.old.begun }
+    {
+        assert_read(rt, shelf, 8, Ok(b"he".as_slice()));
+        assert_read(rt, shelf, 8, Err(Failed));
+        assert_eq!(rt; shelf.left(), b"llo".as_slice());
+        assert_read(rt, shelf, 1, Ok(b"l".as_slice()));
+        assert_read(rt, shelf, 8, Ok(b"lo".as_slice()));
+        assert_read(rt, shelf, 8, Ok(b"".as_slice()));
+    }
 
     #[test]
     fn gives_pieces_and_fails_where_listed(rt: HostRuntime) -> Result<(), Fail> {
-        let mut files = Vec::new(rt.alloc());
-        for text in [b"hello".as_slice(), b"no".as_slice()] {
-            let name = String::from_str(rt.alloc(), "a")?;
-            files.push((name, Vec::from_slice(rt.alloc(), text)?))?;
-        }
-        let mut shelf = MemShelf::new(files, 2, Vec::from_slice(rt.alloc(), &[3])?);
-        let mut buf = [0; 8];
-
-        shelf.begin("a")?;
-        assert_eq!(rt; shelf.read(&mut buf)?, 2);
-        assert_eq!(rt; &buf[..2], b"he".as_slice());
-        assert_eq!(rt; shelf.read(&mut buf), Err(Failed));
-        assert_eq!(rt; shelf.left(), b"llo".as_slice());
-        assert_eq!(rt; shelf.read(&mut buf[..1])?, 1);
-        assert_eq!(rt; shelf.read(&mut buf)?, 2);
-        assert_eq!(rt; shelf.read(&mut buf)?, 0);
-        assert_eq!(rt; shelf.begin("b"), Err(Failed));
+        let mut shelf = shelf_of_two(rt.alloc())?;
+        begin(&mut shelf, "a")?;
+        assert_pieces(&rt, &mut shelf);
+        assert_eq!(rt; begin(&mut shelf, "b"), Err(Failed));
         assert_eq!(rt; shelf.faults, 2);
         Ok(())
     }

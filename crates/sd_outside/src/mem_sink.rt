@@ -127,19 +127,33 @@ impl Sink for MemSink {
 #[cfg(test)]
 mod tests {
     use super::*;
+    use std::process::Abort;
     use std::test::Fail;
+
+    /// A write is answered so, and these are all bytes that were kept.
+    fn assert_write(
+        rt: &impl Abort,
+        sink: &mut MemSink,
+        bytes: &[u8],
+        wanted: Result<(), Failed>,
+        kept: &[u8],
+    ) {
+        assert_eq!(rt; sink.write(bytes), wanted);
+        assert_eq!(rt; sink.bytes(), kept);
+    }
 
     #[test]
     fn keeps_fronts(rt: HostRuntime) -> Result<(), Fail> {
         let failing = Vec::from_slice(rt.alloc(), &[(2, 3), (2, 0), (3, 9)])?;
         let mut sink = MemSink::new(rt.alloc(), 10, failing)?;
-        sink.write(b"ab")?;
-        assert_eq!(rt; sink.write(b"cdefg"), Err(Failed));
-        assert_eq!(rt; sink.bytes(), b"abcde".as_slice());
-        assert_eq!(rt; sink.write(b"f"), Err(Failed));
-        assert_eq!(rt; sink.bytes(), b"abcdef".as_slice());
-        assert_eq!(rt; sink.write(b"ghijk"), Err(Failed));
-        assert_eq!(rt; sink.bytes(), b"abcdefghij".as_slice());
+        for (bytes, wanted, kept) in [
+            (b"ab".as_slice(), Ok(()), b"ab".as_slice()),
+            (b"cdefg".as_slice(), Err(Failed), b"abcde".as_slice()),
+            (b"f".as_slice(), Err(Failed), b"abcdef".as_slice()),
+            (b"ghijk".as_slice(), Err(Failed), b"abcdefghij".as_slice()),
+        ] {
+            assert_write(&rt, &mut sink, bytes, wanted, kept);
+        }
         assert_eq!(rt; sink.faults, 3);
         Ok(())
     }

@@ -90,7 +90,7 @@ impl<W: SystemWriter> Sink for StdSink<W> {
 mod tests {
     use super::*;
     use std::io::{Error, ErrorKind, Write};
-    use std::test::Fail;
+    use std::process::Abort;
 
     /// Takes two bytes a call. The first call is interrupted; the fourth and the sixth fail.
     #[derive(Drop)]
@@ -119,25 +119,35 @@ mod tests {
         }
     }
 
+    /// A write is answered so. Then so many have failed, the last for this reason.
+    fn assert_write(
+        rt: &impl Abort,
+        sink: &mut StdSink<Limping>,
+        bytes: &[u8],
+        wanted: Result<(), Failed>,
+        (faults, kind): (u64, Option<ErrorKind>),
+    ) {
+        assert_eq!(rt; sink.write(bytes), wanted);
+        assert_eq!(rt; sink.faults, faults);
+        assert_eq!(rt; sink.last_fault().map(|e| e.kind()), kind);
+    }
+
     #[test]
-    fn writes_on_and_counts_a_fault(rt: HostRuntime) -> Result<(), Fail> {
+    fn writes_on_and_counts_a_fault(rt: HostRuntime) {
         let mut sink = StdSink::new(Limping {
             calls: 0,
             taken: Vec::new(rt.alloc()),
         });
-        sink.write(b"abc")?;
-        assert!(rt; sink.last_fault().is_none());
-        assert_eq!(rt; sink.write(b"de"), Err(Failed));
-        assert_eq!(rt; sink.faults, 1);
-        let reason = sink.last_fault();
-        assert_eq!(rt; reason.map(|e| e.kind()), Some(ErrorKind::BrokenPipe));
-        sink.write(b"f")?;
+        let broken = Some(ErrorKind::BrokenPipe);
+        for (bytes, wanted, fault) in [
+            (b"abc".as_slice(), Ok(()), (0, None)),
+            (b"de".as_slice(), Err(Failed), (1, broken)),
+            (b"f".as_slice(), Ok(()), (1, broken)),
+        ] {
+            assert_write(&rt, &mut sink, bytes, wanted, fault);
+        }
         assert_eq!(rt; sink.writer.taken.as_slice(), b"abcf".as_slice());
-        assert_eq!(rt; sink.faults, 1);
-        assert_eq!(rt; sink.write(b"g"), Err(Failed));
-        let reason = sink.last_fault();
-        assert_eq!(rt; reason.map(|e| e.kind()), Some(ErrorKind::StorageFull));
-        assert_eq!(rt; sink.faults, 2);
-        Ok(())
+        let full = Some(ErrorKind::StorageFull);
+        assert_write(&rt, &mut sink, b"g", Err(Failed), (2, full));
     }
 }
