@@ -88,7 +88,9 @@ fn verdict_of(alloc: Global, topo: &Topology, plan: &Plan) -> Result<Verdict, No
 /// What the slow program says of a plan.
 fn slowly(alloc: Global, topo: &Topology, plan: &Plan) -> Result<Said, AllocError> {
     let plain = Plain::of(alloc, topo, plan)?;
-    plain.judged()
+    let judged = plain.judged();
+    drop(plain);
+    judged
 }
 
 /// The verdict, beside what the slow program says.
@@ -114,11 +116,20 @@ fn judge_plan(alloc: Global, topo: &Topology, plan: &Plan) -> Result<Judged, Fai
     Ok(beside(alloc, topo, &verdict, slow)?)
 }
 
+/// Has the checker and the slow program judge the plan of a case over its network.
+fn judge_over(alloc: Global, topo: &Topology, setup: &Setup) -> Result<Judged, Fail> {
+    let plan = plan_of(alloc, topo, setup)?;
+    let judged = judge_plan(alloc, topo, &plan);
+    drop(plan);
+    judged
+}
+
 /// Has the checker and the slow program judge the texts of a case.
 fn judge(alloc: Global, setup: &Setup) -> Result<Judged, Fail> {
     let topo = topology_of(alloc, setup)?;
-    let plan = plan_of(alloc, &topo, setup)?;
-    judge_plan(alloc, &topo, &plan)
+    let judged = judge_over(alloc, &topo, setup);
+    drop(topo);
+    judged
 }
 
 /// Both say the same of a case that is made by counting.

@@ -7,7 +7,7 @@ ghost use Rattle.sd_test_examples.specs.Topo.Topologies.{network};
 mod ages;
 mod slow;
 
-use crate::plain::{Domain, Plain, counted_case, has_domain, plan_of, topology_of};
+use crate::plain::{Domain, Plain, Setup, counted_case, has_domain, plan_of, topology_of};
 use sd_checker::{Verdict, check};
 use sd_drill::{Budget, WorstList, worst};
 use sd_test_examples::num::NoMemory;
@@ -96,7 +96,9 @@ fn assert_drilled(
     requires accepted { IsAccepted (network topo.now) plan.now }
 {
     let plain = Plain::of(rt.alloc(), topo, plan)?;
-    assert_domains(rt, (topo, plan), &plain, budget, tally)
+    let asserted = assert_domains(rt, (topo, plan), &plain, budget, tally);
+    drop(plain);
+    asserted
 }
 
 /// The same of a plan, where it is accepted.
@@ -118,6 +120,20 @@ fn assert_plan(
     }
 }
 
+/// The same of the plan of a case over its network.
+fn assert_over(
+    rt: &(impl Abort + AllocGlobal),
+    topo: &Topology,
+    setup: &Setup,
+    budget: Budget,
+    tally: &mut Tally,
+) -> Result<(), Fail> {
+    let plan = plan_of(rt.alloc(), topo, setup)?;
+    let asserted = assert_plan(rt, topo, &plan, budget, tally);
+    drop(plan);
+    asserted
+}
+
 /// The same of a case that is made by counting.
 fn assert_counted(
     rt: &(impl Abort + AllocGlobal),
@@ -126,12 +142,13 @@ fn assert_counted(
 ) -> Result<(), Fail> {
     let setup = counted_case(rt.alloc(), case)?;
     let topo = topology_of(rt.alloc(), &setup)?;
-    let plan = plan_of(rt.alloc(), &topo, &setup)?;
     let budget = Budget {
         base: 800_000,
         hold: u64::from(case) << 26,
     };
-    assert_plan(rt, &topo, &plan, budget, tally)
+    let asserted = assert_over(rt, &topo, &setup, budget, tally);
+    drop(topo);
+    asserted
 }
 
 #[test]

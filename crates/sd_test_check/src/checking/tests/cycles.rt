@@ -48,7 +48,10 @@ fn assert_cycles(rt: &(impl Abort + AllocGlobal), topo: &Topology, plan: &Plan) 
 
 #[test]
 fn loops_of_a_square(rt: HostRuntime) -> Result<(), Fail> {
-    let topo = square(rt.alloc())?;
     let plan = square_plan(rt.alloc())?;
-    assert_cycles(&rt, &topo, &plan)
+    let topo = square(rt.alloc())?;
+    let asserted = assert_cycles(&rt, &topo, &plan);
+    drop(topo);
+    drop(plan);
+    asserted
 }

@@ -7,7 +7,8 @@ ghost use Rattle.sd_test_examples.specs.Topo.Topologies.{network};
 
 use super::Tally;
 use crate::plain::{
-    CONDITIONS, Condition, Domain, Plain, Said, counted_case, has_domain, plan_of, topology_of,
+    CONDITIONS, Condition, Domain, Plain, Said, Setup, counted_case, has_domain, plan_of,
+    topology_of,
 };
 use sd_check_loop::loop_breach;
 use sd_check_reach::{domain_breach, reach_breach};
@@ -112,7 +113,9 @@ fn assert_domains(
     requires structured { structure.structure_breach (network topo.now) plan.now ≡ None }
 {
     let plain = Plain::of(rt.alloc(), topo, plan)?;
-    assert_domains_of(rt, (topo, plan), &plain, tally)
+    let asserted = assert_domains_of(rt, (topo, plan), &plain, tally);
+    drop(plain);
+    asserted
 }
 
 /// The same of a plan whose structure is right.
@@ -130,6 +133,19 @@ fn assert_plan(
     }
 }
 
+/// The same of the plan of a case over its network.
+fn assert_over(
+    rt: &(impl Abort + AllocGlobal),
+    topo: &Topology,
+    setup: &Setup,
+    tally: &mut Tally,
+) -> Result<(), Fail> {
+    let plan = plan_of(rt.alloc(), topo, setup)?;
+    let asserted = assert_plan(rt, topo, &plan, tally);
+    drop(plan);
+    asserted
+}
+
 /// The same of a case that is made by counting.
 fn assert_counted(
     rt: &(impl Abort + AllocGlobal),
@@ -138,8 +154,9 @@ fn assert_counted(
 ) -> Result<(), Fail> {
     let setup = counted_case(rt.alloc(), case)?;
     let topo = topology_of(rt.alloc(), &setup)?;
-    let plan = plan_of(rt.alloc(), &topo, &setup)?;
-    assert_plan(rt, &topo, &plan, tally)
+    let asserted = assert_over(rt, &topo, &setup, tally);
+    drop(topo);
+    asserted
 }
 
 /// Whether each condition was broken often enough.
