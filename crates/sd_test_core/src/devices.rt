@@ -6,6 +6,7 @@ mod plain;
 mod registers;
 mod still;
 
+use crate::same::assert_same;
 use callers::acts_after_ticks;
 use driven::{Driven, fitting};
 use numbers::Numbers;
@@ -86,60 +87,113 @@ fn sends(epoch: u32, term: u32, round: u64, clock: u128, eps: u128) -> Effect {
     })
 }
 
+/// A device that was given only such calls as it may be given.
+fn device(rt: &impl Abort, duty: Option<Duty>) -> Driven<Device> {
+    match Driven::new(&made(duty)) {
+        Some(driven) => driven,
+        None => panic!(rt; "it cannot be made"),
+    }
+}
+
+/// A call that may be made sends this.
+fn assert_called(rt: &impl Abort, driven: &mut Driven<Device>, call: &Call, effect: Effect) {
+    assert_eq!(rt; driven.call(call), Some(effect), "{call:?}");
+}
+
+/// Calls, each with what it sends, and the parent afterwards and whether the device acts.
+fn assert_turns(
+    rt: &impl Abort,
+    driven: &mut Driven<Device>,
+    turns: &[(Call, Effect, Option<u32>, bool)],
+) {
+    for (call, effect, parent, acts) in turns {
+        assert_called(rt, driven, call, *effect);
+        assert_eq!(rt;
+            (driven.node.parent(), driven.node.acts_as_root()),
+            (*parent, *acts),
+            "{call:?}"
+        );
+    }
+}
+
+/// It hears over its first link, and not over the other; then it hears nothing, and moves.
+fn hear_and_move(rt: &impl Abort, driven: &mut Driven<Device>) {
+    assert_turns(
+        rt,
+        driven,
+        &[
+            (
+                receive(0, message(1, 0, 1, 110), 120),
+                sends(1, 0, 1, 117, 53),
+                Some(0),
+                false,
+            ),
+            // the same stamp again, and the other link
+            (
+                receive(0, message(1, 0, 1, 110), 121),
+                Effect::Quiet,
+                Some(0),
+                false,
+            ),
+            (
+                receive(2, message(1, 0, 2, 110), 125),
+                Effect::Quiet,
+                Some(0),
+                false,
+            ),
+            (tick(419), Effect::Quiet, Some(0), false),
+            (tick(420), Effect::Quiet, Some(2), false),
+        ],
+    );
+}
+
+/// It hears over the other link alone; then it hears nothing, and takes over.
+fn take_over(rt: &impl Abort, driven: &mut Driven<Device>) {
+    assert_turns(
+        rt,
+        driven,
+        &[
+            (
+                receive(0, message(1, 0, 5, 500), 500),
+                Effect::Quiet,
+                Some(2),
+                false,
+            ),
+            (
+                receive(2, message(1, 0, 6, 520), 530),
+                sends(1, 0, 6, 527, 53),
+                Some(2),
+                false,
+            ),
+            (tick(729), Effect::Quiet, Some(2), false),
+            (tick(730), sends(1, 1, 1, 727, 1_054), None, true),
+            (tick(829), Effect::Quiet, None, true),
+            (tick(830), sends(1, 1, 2, 827, 1_054), None, true),
+        ],
+    );
+}
+
+/// It goes over to the next plan as its root.
+fn commit_as_root(rt: &impl Abort, driven: &mut Driven<Device>) {
+    let root = duty(2, Role::Root, None, None);
+    assert_turns(
+        rt,
+        driven,
+        &[
+            (Call::Give(root), Effect::Quiet, None, true),
+            (Call::Commit { counter: 850 }, Effect::Quiet, None, true),
+            (tick(930), sends(2, 1, 3, 927, 1_054), None, true),
+        ],
+    );
+}
+
 #[test]
 fn a_backup_root_hears_moves_takes_over_and_is_committed(rt: HostRuntime) {
     let standby = duty(1, Role::BackupRoot, edge(0, 0), edge(2, 2));
-    let root = duty(2, Role::Root, None, None);
-    let mut driven = match Driven::<Device>::new(&made(Some(standby))) {
-        Some(driven) => driven,
-        None => panic!(rt; "it cannot be made"),
-    };
-    for (call, effect, parent, acts) in [
-        (
-            receive(0, message(1, 0, 1, 110), 120),
-            sends(1, 0, 1, 117, 53),
-            Some(0),
-            false,
-        ),
-        // the same stamp again, and the other link
-        (
-            receive(0, message(1, 0, 1, 110), 121),
-            Effect::Quiet,
-            Some(0),
-            false,
-        ),
-        (
-            receive(2, message(1, 0, 2, 110), 125),
-            Effect::Quiet,
-            Some(0),
-            false,
-        ),
-        (tick(419), Effect::Quiet, Some(0), false),
-        (tick(420), Effect::Quiet, Some(2), false),
-        (
-            receive(0, message(1, 0, 5, 500), 500),
-            Effect::Quiet,
-            Some(2),
-            false,
-        ),
-        (
-            receive(2, message(1, 0, 6, 520), 530),
-            sends(1, 0, 6, 527, 53),
-            Some(2),
-            false,
-        ),
-        (tick(729), Effect::Quiet, Some(2), false),
-        (tick(730), sends(1, 1, 1, 727, 1_054), None, true),
-        (tick(829), Effect::Quiet, None, true),
-        (tick(830), sends(1, 1, 2, 827, 1_054), None, true),
-        (Call::Give(root), Effect::Quiet, None, true),
-        (Call::Commit { counter: 850 }, Effect::Quiet, None, true),
-        (tick(930), sends(2, 1, 3, 927, 1_054), None, true),
-    ] {
-        assert_eq!(rt; driven.call(&call), Some(effect), "{call:?}");
-        assert_eq!(rt; driven.node.parent(), parent, "{call:?}");
-        assert_eq!(rt; driven.node.acts_as_root(), acts, "{call:?}");
-    }
+    let mut driven = device(&rt, Some(standby));
+    hear_and_move(&rt, &mut driven);
+    take_over(&rt, &mut driven);
+    commit_as_root(&rt, &mut driven);
 }
 
 /// How a device stands to its plans.
@@ -162,172 +216,202 @@ impl Member {
     }
 }
 
-/// A call that may be made sends this.
-fn assert_called(rt: &impl Abort, driven: &mut Driven<Device>, call: &Call, effect: Effect) {
-    assert_eq!(rt; driven.call(call), Some(effect), "{call:?}");
+fn standing(parent: Option<u32>, epoch: u32, given: bool, sealed: bool) -> Member {
+    Member {
+        parent,
+        epoch,
+        given,
+        sealed,
+    }
+}
+
+/// Calls, each with what it sends, and how the device stands afterwards.
+fn assert_steps(rt: &impl Abort, driven: &mut Driven<Device>, steps: &[(Call, Effect, Member)]) {
+    for (call, effect, due) in steps {
+        assert_called(rt, driven, call, *effect);
+        assert_eq!(rt; Member::of(driven), *due, "{call:?}");
+    }
+}
+
+/// It hears nothing before it is given a duty.
+fn wait_for_duty(rt: &impl Abort, driven: &mut Driven<Device>) {
+    let planless = standing(None, 0, false, true);
+    let follower = duty(2, Role::Ordinary, edge(0, 1), edge(1, 2));
+    assert_steps(
+        rt,
+        driven,
+        &[
+            (tick(20), Effect::Quiet, planless),
+            (receive(1, message(2, 1, 1, 0), 30), Effect::Quiet, planless),
+            (
+                Call::Give(follower),
+                Effect::Quiet,
+                standing(None, 0, true, true),
+            ),
+        ],
+    );
+}
+
+/// It enters with a message of the plan over its first link.
+fn enter(rt: &impl Abort, driven: &mut Driven<Device>) {
+    let given = standing(None, 0, true, true);
+    let entered = standing(Some(0), 2, false, false);
+    assert_steps(
+        rt,
+        driven,
+        &[
+            // over the backup link, and of another epoch
+            (receive(2, message(2, 1, 1, 0), 40), Effect::Quiet, given),
+            (receive(1, message(1, 1, 1, 0), 41), Effect::Quiet, given),
+            (
+                receive(1, message(2, 1, 1, 5), 45),
+                sends(2, 1, 1, 12, 53),
+                entered,
+            ),
+            (
+                receive(1, message(2, 1, 2, 90), 100),
+                sends(2, 1, 2, 97, 53),
+                entered,
+            ),
+            // it may not move before it is sealed
+            (tick(2_000), Effect::Quiet, entered),
+        ],
+    );
+}
+
+/// It is sealed and moves.
+fn move_when_sealed(rt: &impl Abort, driven: &mut Driven<Device>) {
+    let moved = standing(Some(1), 2, false, true);
+    assert_steps(
+        rt,
+        driven,
+        &[
+            (Call::Seal, Effect::Quiet, standing(Some(0), 2, false, true)),
+            (tick(2_001), Effect::Quiet, moved),
+            (receive(1, message(2, 2, 1, 5), 2_003), Effect::Quiet, moved),
+            (
+                receive(2, message(2, 2, 1, 5), 2_004),
+                sends(2, 2, 1, 12, 53),
+                moved,
+            ),
+            // it is no backup root
+            (tick(9_000), Effect::Quiet, moved),
+        ],
+    );
+}
+
+/// It is committed as the root of the next plan.
+fn commit_newcomer(rt: &impl Abort, driven: &mut Driven<Device>) {
+    let root = duty(3, Role::Root, None, None);
+    let committed = standing(None, 3, false, false);
+    assert_steps(
+        rt,
+        driven,
+        &[
+            (
+                Call::Give(root),
+                Effect::Quiet,
+                standing(Some(1), 2, true, true),
+            ),
+            (Call::Commit { counter: 9_100 }, Effect::Quiet, committed),
+            (tick(9_199), Effect::Quiet, committed),
+            (tick(9_200), sends(3, 3, 1, 7_208, 1_055), committed),
+        ],
+    );
 }
 
 #[test]
 fn a_newcomer_enters_seals_moves_and_commits(rt: HostRuntime) {
-    let follower = duty(2, Role::Ordinary, edge(0, 1), edge(1, 2));
-    let root = duty(3, Role::Root, None, None);
-    let mut driven = match Driven::<Device>::new(&made(None)) {
-        Some(driven) => driven,
-        None => panic!(rt; "it cannot be made"),
-    };
-    for (call, effect, parent, epoch, given, sealed) in [
-        (tick(20), Effect::Quiet, None, 0, false, true),
-        (
-            receive(1, message(2, 1, 1, 0), 30),
-            Effect::Quiet,
-            None,
-            0,
-            false,
-            true,
-        ),
-        (Call::Give(follower), Effect::Quiet, None, 0, true, true),
-        // over the backup link, and of another epoch
-        (
-            receive(2, message(2, 1, 1, 0), 40),
-            Effect::Quiet,
-            None,
-            0,
-            true,
-            true,
-        ),
-        (
-            receive(1, message(1, 1, 1, 0), 41),
-            Effect::Quiet,
-            None,
-            0,
-            true,
-            true,
-        ),
-        (
-            receive(1, message(2, 1, 1, 5), 45),
-            sends(2, 1, 1, 12, 53),
-            Some(0),
-            2,
-            false,
-            false,
-        ),
-        (
-            receive(1, message(2, 1, 2, 90), 100),
-            sends(2, 1, 2, 97, 53),
-            Some(0),
-            2,
-            false,
-            false,
-        ),
-        // it may not move before it is sealed
-        (tick(2_000), Effect::Quiet, Some(0), 2, false, false),
-        (Call::Seal, Effect::Quiet, Some(0), 2, false, true),
-        (tick(2_001), Effect::Quiet, Some(1), 2, false, true),
-        (
-            receive(1, message(2, 2, 1, 5), 2_003),
-            Effect::Quiet,
-            Some(1),
-            2,
-            false,
-            true,
-        ),
-        (
-            receive(2, message(2, 2, 1, 5), 2_004),
-            sends(2, 2, 1, 12, 53),
-            Some(1),
-            2,
-            false,
-            true,
-        ),
-        // it is no backup root
-        (tick(9_000), Effect::Quiet, Some(1), 2, false, true),
-        (Call::Give(root), Effect::Quiet, Some(1), 2, true, true),
-        (
-            Call::Commit { counter: 9_100 },
-            Effect::Quiet,
-            None,
-            3,
-            false,
-            false,
-        ),
-        (tick(9_199), Effect::Quiet, None, 3, false, false),
-        (
-            tick(9_200),
-            sends(3, 3, 1, 7_208, 1_055),
-            None,
-            3,
-            false,
-            false,
-        ),
-    ] {
-        assert_called(&rt, &mut driven, &call, effect);
-        let due = Member {
-            parent,
-            epoch,
-            given,
-            sealed,
-        };
-        assert_eq!(rt; Member::of(&driven), due, "{call:?}");
-    }
+    let mut driven = device(&rt, None);
+    wait_for_duty(&rt, &mut driven);
+    enter(&rt, &mut driven);
+    move_when_sealed(&rt, &mut driven);
+    commit_newcomer(&rt, &mut driven);
+}
+
+/// What it reports at the counter that it was shown last.
+fn assert_reports(rt: &impl Abort, driven: &Driven<Device>, clock: u128, eps: u128) {
+    assert_same(rt, driven.report(), Report { clock, eps });
 }
 
 #[test]
 fn a_fix_sets_the_report(rt: HostRuntime) {
-    let mut driven = match Driven::<Device>::new(&made(None)) {
-        Some(driven) => driven,
-        None => panic!(rt; "it cannot be made"),
-    };
-    assert_eq!(rt;
-        driven.report(),
-        Report {
-            clock: 0,
-            eps: 1_500
-        }
-    );
+    let mut driven = device(&rt, None);
+    assert_reports(&rt, &driven, 0, 1_500);
     let fix = Call::Fix {
         counter: 10,
         clock: 4_000,
         eps: 9,
     };
-    assert_eq!(rt; driven.call(&fix), Some(Effect::Quiet));
-    assert_eq!(rt; driven.call(&tick(5_011)), Some(Effect::Quiet));
-    let wanted = Report {
-        clock: 9_001,
-        eps: 1_011,
+    assert_called(&rt, &mut driven, &fix, Effect::Quiet);
+    assert_called(&rt, &mut driven, &tick(5_011), Effect::Quiet);
+    assert_reports(&rt, &driven, 9_001, 1_011);
+}
+
+/// How many calls of a life, and how many lives.
+const CALLS: u32 = 100;
+
+const LIVES: u64 = 60;
+
+/// What lives do, a letter each.
+const LETTERS: [char; 8] = ['e', 'c', 'r', 'a', 'm', 't', 's', 'n'];
+
+/// The calls of a life, after each of which both say the same.
+fn assert_life(
+    rt: &impl Abort,
+    life: u64,
+    numbers: &mut Numbers,
+    driven: &mut Driven<Device>,
+    plain: &mut Plain,
+) -> Result<(), AllocError> {
+    for place in 0..CALLS {
+        let call = numbers.call(place, driven.counter, &*plain);
+        if let Some(effect) = driven.call(&call) {
+            let wanted = plain.call(call)?;
+            assert_eq!(rt; effect, wanted, "life {life}, call {place}: {call:?}");
+        }
+        assert!(rt;
+            is_as(driven, plain),
+            "life {life}, after call {place}: {call:?}"
+        );
+    }
+    Ok(())
+}
+
+/// Counts the lives that did something of each letter.
+fn count_letters(lives: &mut [u32; 8], plain: &Plain) {
+    for (count, letter) in lives.iter_mut().zip(LETTERS) {
+        if plain.has_done(letter) {
+            *count = count.saturating_add(1);
+        }
+    }
+}
+
+/// A life of a number.
+fn run_life(
+    rt: &(impl AllocGlobal + Abort),
+    lives: &mut [u32; 8],
+    life: u64,
+) -> Result<(), AllocError> {
+    let mut numbers = Numbers { state: life };
+    let making = numbers.making();
+    let mut plain = Plain::new(rt.alloc(), making);
+    let mut driven = match Driven::new(&making) {
+        Some(driven) => driven,
+        None => panic!(rt; "it cannot be made: {making:?}"),
     };
-    assert_eq!(rt; driven.report(), wanted);
+    assert_life(rt, life, &mut numbers, &mut driven, &mut plain)?;
+    count_letters(lives, &plain);
+    Ok(())
 }
 
 #[test]
 fn a_device_does_as_a_plain_program_that_keeps_all_calls(
     rt: HostRuntime,
 ) -> Result<(), AllocError> {
-    let letters = ['e', 'c', 'r', 'a', 'm', 't', 's', 'n'];
     let mut lives = [0u32; 8];
-    for life in 0..60u64 {
-        let mut numbers = Numbers { state: life };
-        let making = numbers.making();
-        let mut plain = Plain::new(rt.alloc(), making);
-        let mut driven = match Driven::<Device>::new(&making) {
-            Some(driven) => driven,
-            None => panic!(rt; "it cannot be made: {making:?}"),
-        };
-        for place in 0..100u32 {
-            let call = numbers.call(place, driven.counter, &plain);
-            if let Some(effect) = driven.call(&call) {
-                let wanted = plain.call(call)?;
-                assert_eq!(rt; effect, wanted, "life {life}, call {place}: {call:?}");
-            }
-            assert!(rt;
-                is_as(&driven, &plain),
-                "life {life}, after call {place}: {call:?}"
-            );
-        }
-        for (count, letter) in lives.iter_mut().zip(letters) {
-            if plain.has_done(letter) {
-                *count = count.saturating_add(1);
-            }
-        }
+    for life in 0..LIVES {
+        run_life(&rt, &mut lives, life)?;
     }
     assert!(rt;
         lives.iter().all(|count| *count >= 5),
@@ -363,9 +447,8 @@ fn another_type_can_be_a_node(rt: HostRuntime) {
     ] {
         assert_eq!(rt; driven.call(&call), Some(Effect::Quiet), "{call:?}");
     }
-    assert_eq!(rt; driven.node.parent(), None);
-    assert_eq!(rt; driven.node.epoch(), 0);
-    assert_eq!(rt; driven.report(), Report { clock: 0, eps: 7 });
+    assert_same(&rt, (driven.node.parent(), driven.node.epoch()), (None, 0));
+    assert_same(&rt, driven.report(), Report { clock: 0, eps: 7 });
 }
 
 #[test]

@@ -6,3 +6,5 @@
 mod devices;
 #[cfg(test)]
 mod messages;
+#[cfg(test)]
+mod same;

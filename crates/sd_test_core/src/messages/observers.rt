@@ -1,5 +1,6 @@
 //! Observers, through their trait.
 
+use crate::same::assert_same;
 use sd_clock::Report;
 use sd_msg::{KeptReports, NoObserver, Observer, SeenReport};
 use sd_num::NoMemory;
@@ -24,9 +25,10 @@ fn reports_are_kept_in_order(rt: HostRuntime) -> Result<(), NoMemory> {
         reference: 70,
         report: REPORT,
     };
-    assert_eq!(rt;
+    assert_same(
+        &rt,
         kept.reports(),
-        [seen, SeenReport { line: 6, ..seen }].as_slice()
+        [seen, SeenReport { line: 6, ..seen }].as_slice(),
     );
     Ok(())
 }

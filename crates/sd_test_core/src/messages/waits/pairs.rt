@@ -4,6 +4,7 @@ use sd_msg::Observer;
 use sd_num::NoMemory;
 use sd_wait::{WaitTally, Waits};
 use std::alloc::{AllocError, Global};
+use std::process::Abort;
 use std::test::Fail;
 
 /// A report that was told of.
@@ -137,35 +138,57 @@ fn lines_of(alloc: Global, waits: &mut Waits, told: Told) -> Result<Vec<u8>, NoM
     waits.lines(alloc, "name")
 }
 
+/// The next report is told to both, which answer the same lines.
+fn assert_report(
+    rt: &(impl AllocGlobal + Abort),
+    pairs: &mut AllPairs,
+    waits: &mut Waits,
+    told: Told,
+) -> Result<(), Fail> {
+    pairs.told.push(told)?;
+    let lines = lines_of(rt.alloc(), waits, told)?;
+    let wanted = pairs.lines(rt.alloc(), "name")?;
+    assert_eq!(rt; lines.as_slice(), wanted.as_bytes(), "{told:?}");
+    Ok(())
+}
+
+/// Fifty reports, and how many transactions there were then.
+fn assert_reports(
+    rt: &(impl AllocGlobal + Abort),
+    pairs: &mut AllPairs,
+    waits: &mut Waits,
+    seed: u64,
+) -> Result<(), Fail> {
+    let mut numbers = Numbers { state: seed };
+    let mut disorders = 0u64;
+    for count in 0..50u64 {
+        assert_report(rt, pairs, waits, numbers.report(count))?;
+        disorders = disorders.saturating_add(u64::from(pairs.disorder().is_some()));
+    }
+    let wanted = WaitTally {
+        begun: 50,
+        ended: pairs.ended(),
+        disorders,
+    };
+    assert_eq!(rt; waits.tally(), wanted, "seed {seed}");
+    Ok(())
+}
+
+/// The same, where both are made.
+fn run_seed(rt: &(impl AllocGlobal + Abort), seed: u64) -> Result<(), Fail> {
+    let mut pairs = AllPairs {
+        told: Vec::new(rt.alloc()),
+    };
+    let mut waits = Waits::new(rt.alloc());
+    let asserted = assert_reports(rt, &mut pairs, &mut waits, seed);
+    drop(waits);
+    asserted
+}
+
 #[test]
 fn generated_reports_are_answered_as_by_all_pairs(rt: HostRuntime) -> Result<(), Fail> {
     for seed in 0..40u64 {
-        let mut numbers = Numbers { state: seed };
-        let mut pairs = AllPairs {
-            told: Vec::new(rt.alloc()),
-        };
-        let mut waits = Waits::new(rt.alloc());
-        let mut disorders = 0u64;
-        for count in 0..50u64 {
-            let told = numbers.report(count);
-            pairs.told.push(told)?;
-            let lines = lines_of(rt.alloc(), &mut waits, told)?;
-            let wanted = pairs.lines(rt.alloc(), "name")?;
-            assert_eq!(rt;
-                lines.as_slice(),
-                wanted.as_bytes(),
-                "seed {seed}, {told:?}"
-            );
-            if pairs.disorder().is_some() {
-                disorders = disorders.saturating_add(1);
-            }
-        }
-        let wanted = WaitTally {
-            begun: 50,
-            ended: pairs.ended(),
-            disorders,
-        };
-        assert_eq!(rt; waits.tally(), wanted, "seed {seed}");
+        run_seed(&rt, seed)?;
     }
     Ok(())
 }
