@@ -1,5 +1,5 @@
 -- An opening agrees with the history that it opens: all that a definition of agreement has beside follows, since the opening has sent no message.
-use Rattle.std.specs.Prelude.{◌≡◌, ℕ, ◌+◌, ◌<◌, ◌≤◌, Bool, true, false, List, [], Option, Some, None, option_map, refl, if◌then◌else◌}
+use Rattle.std.specs.Prelude.{◌≡◌, ℕ, ◌+◌, ◌<◌, ◌≤◌, Bool, true, false, List, Option, Some, None, option_map, refl, if◌then◌else◌}
 use Rattle.std.proofs.Common.{arith, sym, ◌∙◌, ap}
 use Rattle.std.proofs.lemmas.Bool.Decides.{nat_tests}
 use Rattle.sd_history.specs.Core.Topo.Network.{Network}
@@ -11,7 +11,6 @@ use Rattle.sd_history.specs.Steps.{seen_of, events_of, answers_in, live_answers,
 use Rattle.sd_history.specs.Accepted.{AreSteps}
 use Rattle.sd_history.specs.Nodes.{answers_of, NodeStep, steps_of, node_in}
 use Rattle.sd_history.proofs.Accepting.{run_is_accepted}
-use Rattle.sd_history.proofs.Among.{first}
 use Rattle.sd_history.proofs.Admitted.{run_is_admitted}
 use Rattle.sd_history.proofs.Devices.{device}
 use Rattle.sd_history.proofs.flights.Leaving.{unused}

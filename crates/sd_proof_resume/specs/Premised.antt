@@ -1,5 +1,5 @@
 -- When each premise that the second of two histories breaks is broken in the first, and goes on so.
-use Rattle.std.specs.Prelude.{◌≡◌, ℕ, ◌≤◌, Bool, true, not, List}
+use Rattle.std.specs.Prelude.{◌≡◌, ℕ, ◌≤◌, true, not, List}
 use Rattle.std.specs.List.{list_all}
 use Rattle.sd_history.specs.Core.Plan.Plans.{members}
 use Rattle.sd_history.specs.World.{Setting, Seen, is_up, is_untouched, plan_numbered, latest_reference, latest_reading}

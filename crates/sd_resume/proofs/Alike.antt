@@ -1,7 +1,6 @@
 -- Devices that agree at a counter are alike from it on.
-use Rattle.std.specs.Prelude.{◌≡◌, ℕ, ◌≤◌, Bool, true, false, Option, Some, None, is_some, max, option_map, refl, if◌then◌else◌}
+use Rattle.std.specs.Prelude.{◌≡◌, ℕ, ◌≤◌, Bool, true, false, Option, Some, None, max, option_map, refl, if◌then◌else◌}
 use Rattle.std.proofs.Common.{arith, sym, ◌∙◌, ap, subst}
-use Rattle.sd_fleet.specs.History.Sched.Num.Lists.{map_or}
 use Rattle.sd_fleet.specs.History.Sched.Num.declared.Rates.{Rates}
 use Rattle.sd_core.specs.Clock.declared.Estimate.{Estimate}
 use Rattle.sd_core.specs.Clock.Estimates.{report_of}
@@ -10,13 +9,12 @@ use Rattle.sd_plan.specs.declared.Duty.{Duty}
 use Rattle.sd_core.specs.declared.registers.Registers.{Registers}
 use Rattle.sd_core.specs.declared.registers.Mode.{Mode}
 use Rattle.sd_core.specs.declared.registers.Mode.TheVariants.{Primary, Backup, Acting, Idle}
-use Rattle.sd_core.specs.Words.{wait_to_move}
-use Rattle.sd_core.specs.Rules.{is_acting_mode, is_backup_root, floor_in}
-use Rattle.sd_core.specs.Rebases.{waits_in, normal_at}
+use Rattle.sd_core.specs.Rules.{is_acting_mode}
+use Rattle.sd_core.specs.Rebases.{waits_in}
 use Rattle.sd_core.proofs.Clock.Advance.{advanced_reports}
-use Rattle.sd_proof_resume.specs.Shifts.{Shift, raised_duty, raised_registers}
+use Rattle.sd_proof_resume.specs.Shifts.{Shift, raised_duty}
 use Rattle.sd_proof_resume.specs.Likeness.{IsAlike, AreAlike}
-use Rattle.sd_resume.specs.Devices.{RegistersAgree, DevicesAgree, NodesAgree}
+use Rattle.sd_resume.specs.Devices.{DevicesAgree, NodesAgree}
 
 -- a silence makes both move or take over, or neither
 waits_same : (shift : Shift) (one other : Registers) → one.mode ≡ other.mode → one.duty ≡ option_map (raised_duty shift) other.duty

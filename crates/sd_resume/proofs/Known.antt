@@ -7,7 +7,7 @@ use Rattle.sd_topo.specs.declared.Thing.TheVariants.{Device, Link}
 use Rattle.sd_fleet.specs.History.Sched.Num.Lists.{map_or}
 use Rattle.sd_fleet.specs.History.Sched.declared.Event.{Event}
 use Rattle.sd_fleet.specs.History.Sched.declared.Event.TheVariants as event
-use Rattle.sd_fleet.specs.History.Sched.Events.{device_of, link_of}
+use Rattle.sd_fleet.specs.History.Sched.Events.{link_of}
 use Rattle.sd_fleet.specs.History.Things.{mended}
 use Rattle.sd_fleet.specs.History.World.{Setting, fails, is_thing, has_failed}
 use Rattle.sd_fleet.specs.History.Steps.{Step, seen_of}

@@ -9,29 +9,26 @@ use Rattle.sd_plan.specs.declared.Plan.{Plan}
 use Rattle.sd_msg.specs.declared.Flight.{Flight}
 use Rattle.sd_core.specs.declared.registers.Registers.{Registers}
 use Rattle.sd_core.specs.contracts.device.DeviceNode.TheImpl.{ghosts as device}
-use Rattle.sd_fleet_state.specs.world.Registers.{up_at, failed_at, reading_at, is_open}
+use Rattle.sd_fleet_state.specs.world.Registers.{is_open}
 use Rattle.sd_fleet_state.specs.world.Standing as worlds
-use Rattle.sd_fleet.specs.History.World.{Setting, Seen, setting_over, is_up, has_failed, latest_reading, window, window_is_open, epoch_in_force}
+use Rattle.sd_fleet.specs.History.World.{Setting, Seen, setting_over, is_up, has_failed, latest_reading, window, window_is_open}
 use Rattle.sd_fleet.specs.History.Steps.{Step, seen_of, events_of, flight_count, flight_numbered}
 use Rattle.sd_fleet.specs.History.Refusals.{is_spent}
 use Rattle.sd_fleet.specs.History.Nodes.{NodeStep, steps_of, node_in}
-use Rattle.sd_fleet.specs.History.Chronicle.{chronicle}
 use Rattle.sd_fleet.specs.Nodes.{node_at}
 use Rattle.sd_fleet.specs.Standing.{StandsFor}
 use Rattle.sd_fleet.proofs.History.Admitted.{run_is_admitted}
 use Rattle.sd_fleet.proofs.History.Devices.{admitted_devices_run, admitted_devices_have_history}
 use Rattle.sd_fleet.proofs.History.Known.{admitted_up_is_known}
 use Rattle.sd_proof_resume.specs.Shifts.{Shift, raised_seen}
-use Rattle.sd_proof_resume.specs.Likeness.{AreAlike}
 use Rattle.sd_proof_resume.specs.Views.{LooksAlike}
 use Rattle.sd_proof_resume.specs.Law.{whole}
-use Rattle.sd_proof_resume.specs.Cuts.{IsOpening}
 use Rattle.sd_resume.specs.declared.differences.Difference.{Difference}
 use Rattle.sd_resume.specs.declared.differences.Difference.TheVariants as difference
 use Rattle.sd_resume.specs.Devices.{NodesAgree, NodesDiffer}
 use Rattle.sd_resume.specs.Fleets.{DeviceFleet, world_of, devices_of, links_of, FleetsAgree, FleetsDiffer}
 use Rattle.sd_resume.specs.Messages.{MessagesAgree, MessagesDiffer}
-use Rattle.sd_resume.specs.Differences.{Differs, Opens, OfRuns}
+use Rattle.sd_resume.specs.Differences.{Differs, Opens}
 use Rattle.sd_resume.proofs.Known.{IsKnown, failed_is_known}
 use Rattle.sd_resume.proofs.Alike.{nodes_alike}
 use Rattle.sd_resume.proofs.Apart.{nodes_not_apart}

@@ -1,4 +1,4 @@
-use Rattle.std.proofs.Common.{below_more, arith}
+use Rattle.std.proofs.Common.{below_more}
 use Rattle.sd_resume.specs.Numbers.{shift_of}
 use Rattle.sd_resume.specs.Fleets.{DeviceAgrees}
 use Rattle.sd_resume.proofs.comparing.compare_all_devices.Goals as goal

@@ -1,4 +1,4 @@
-use Rattle.std.proofs.Common.{◌≡◌, ◌≤◌, ◌*◌, ◌^◌, ap, arith}
+use Rattle.std.proofs.Common.{◌≤◌, ◌*◌, ◌^◌, ap, arith}
 use Rattle.sd_fleet_state.specs.world.Registers.{Registers}
 use Rattle.sd_resume.proofs.messages.most_sent.Goals as goal
 
