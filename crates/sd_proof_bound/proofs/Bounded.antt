@@ -41,7 +41,7 @@ covered_below net plan budget f =
     (ages_hold net plan (stays_invariant (alone net plan)) (are_silent (alone net plan)))
 
 -- an age that the drill counts covers each silence
-worst_covers : (net : Network) (plan : Plan) (budget : Budget) (f : DomainId) (d w : ℕ) (worst : IsWorst net plan budget f d w)
+pub worst_covers : (net : Network) (plan : Plan) (budget : Budget) (f : DomainId) (d w : ℕ) (worst : IsWorst net plan budget f d w)
     → IsCovered net plan f d worst.far worst.oldest
 worst_covers net plan budget f d w worst =
     record {

@@ -44,6 +44,7 @@ use Rattle.sd_proof_bound.proofs.histories.Plain.{IsPlain, none_any}
 use Rattle.sd_proof_bound.proofs.histories.Lives.{past_was_made}
 use Rattle.sd_proof_bound.proofs.histories.Failures.{none_failed_before, none_failed_now, none_ever_failed}
 use Rattle.sd_proof_bound.proofs.histories.Standing.{Stands, fair, plain, stands}
+use Rattle.sd_proof_bound.proofs.timeouts.Settled.{first_way}
 use Rattle.sd_proof_bound.proofs.bases.Planned.{WellPlanned}
 use Rattle.sd_proof_bound.proofs.bases.Straight.{IsStraight}
 use Rattle.sd_proof_bound.proofs.bases.Sums.{Based, sent_by_root}
@@ -131,10 +132,10 @@ module _ (net : Network) (plan : Plan) (budget : Budget) (d : ℕ) (x : Event) (
       least : (n : ℕ) → n ≤ n
       least n = omega arith
 
-      way : IsUnderWay (alone net plan) (x ∷ h) (event.Ask r d c) begun
-      way = record { comes = comes_; unstaged = unstaged; started = least begun }
+      way : IsUnderWay (alone net plan) 1 (x ∷ h) (event.Ask r d c) begun
+      way = first_way (alone net plan) (x ∷ h) (event.Ask r d c) begun comes_ unstaged (least begun)
 
-      well_ : IsWell (alone net plan) (failed_now (chronicle (alone net plan) (x ∷ h))) d
+      well_ : IsWell (alone net plan) 1 (failed_now (chronicle (alone net plan) (x ∷ h))) d
       well_ =
           record {
             known = here.within;
@@ -143,7 +144,7 @@ module _ (net : Network) (plan : Plan) (budget : Budget) (d : ℕ) (x : Event) (
           }
 
       go : (begun < r) ⊎ (r ≤ begun) → r ≤ heard_at (chronicle (alone net plan) (x ∷ h)) d + lag net
-      go (inl late) = heard_whole (alone net plan) x h (event.Ask r d c) begun way late none_now d well_ other (are_silent (alone net plan)).whole
+      go (inl late) = heard_whole (alone net plan) 1 x h (event.Ask r d c) begun way late none_now d well_ other (are_silent (alone net plan)).whole
       go (inr le) = heard_at_first (alone net plan) x h (event.Ask r d c) comes_ d here.up le
 
   -- the root reports at most what it may send, and each other device what comes down its path

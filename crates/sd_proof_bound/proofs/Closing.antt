@@ -105,7 +105,7 @@ has_so setting history n d of =
     ∙ and_from (nat_eq (epoch_now of.past) n) (is_sealed of.past) (eq-eqb (epoch_now of.past) n of.epoch) of.settled
 
 -- a call that takes up no duty leaves the epoch, and who is sealed sealed
-epoch_same : (past : Past) (call : Call) → taken_up (transition_of past call) ≡ None → epoch_now (after past call) ≡ epoch_now past
+pub epoch_same : (past : Past) (call : Call) → taken_up (transition_of past call) ≡ None → epoch_now (after past call) ≡ epoch_now past
 epoch_same past call none = ap (λ o. map_or (map_or (option_map Some o) (duty_now past) (λ told. told)) 0 (λ u. u.epoch)) none
 
 still_sealed : (x : Did) (did : List Did) (b : Bool) → b ≡ false

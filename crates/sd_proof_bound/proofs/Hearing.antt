@@ -46,7 +46,7 @@ use Rattle.sd_proof_safety.proofs.messages.Chains.{chain_time}
 use Rattle.sd_proof_safety.proofs.messages.Latest.{trace_first, trace_emits}
 use Rattle.sd_proof_safety.proofs.messages.Tails.{tail_trans}
 use Rattle.sd_proof_safety.proofs.messages.Tracing.{accepted_traced}
-use Rattle.sd_proof_safety.proofs.moves.Starts.{IsUnstaged, first_era}
+use Rattle.sd_proof_safety.proofs.moves.Starts.{IsUnstaged, no_window, first_era}
 use Rattle.sd_proof_safety.proofs.silences.Phases.{Following, following}
 use Rattle.sd_proof_safety.proofs.silences.SoundWays.{top_of}
 use Rattle.sd_proof_safety.proofs.timers.CalmBeginning.{first_within}
@@ -62,7 +62,7 @@ use Rattle.sd_proof_bound.proofs.histories.Failures.{era_within}
 use Rattle.sd_proof_bound.proofs.histories.Plain.{none_any}
 use Rattle.sd_proof_bound.proofs.histories.Standing.{each_one}
 use Rattle.sd_proof_bound.proofs.timeouts.Unstaged.{unstaged_before, unjoined}
-use Rattle.sd_proof_bound.proofs.timeouts.Settled.{first_so, all_chronicle}
+use Rattle.sd_proof_bound.proofs.timeouts.Settled.{first_way, all_chronicle}
 use Rattle.sd_proof_bound.proofs.timeouts.Scenes.{scene, scene_at}
 use Rattle.sd_proof_bound.proofs.traces.Emitters.{well_emitter}
 use Rattle.sd_proof_bound.proofs.traces.Lengths.{Outcome, trace_short}
@@ -79,7 +79,7 @@ use Rattle.sd_proof_bound.specs.Steady.{IsSteadySince, AlwaysHearsAgain, AlwaysH
 -- Sums
 
 -- a round comes down in this time (the last part of the recovery)
-abbrev coming : Network → ℕ
+abbrev pub coming : Network → ℕ
 coming net = rounds_gap net + 2 * (depth net + 1) * delay net
 
 -- a round comes down, and had come so far, within a silence
@@ -106,51 +106,43 @@ no_time p calm t m limit w by le turned late = omega (arith, by, le, turned, lat
 
 -- Once nothing fails any more
 
-module _ (setting : Setting) (silent : AreSilent setting) (x : Event) (h : List Event) (e : Event) (calm : ℕ) (settled : IsSettled setting (x ∷ h) e calm)
+module _ (setting : Setting) (epoch : ℕ) (silent : AreSilent setting) (x : Event) (h : List Event) (e : Event) (calm : ℕ) (settled : IsSettled setting epoch (x ∷ h) e calm)
     (f : DomainId) (inside : list_all (holds setting.net f) (failed_now (chronicle setting (x ∷ h))) ≡ true) (long : ℕ) (short : long ≤ depth setting.net + 1)
-    (late : calm + turning setting.net (the_plan setting) + coming setting.net < reference_of e) where
+    (late : calm + turning setting.net (the_plan setting epoch) + coming setting.net < reference_of e) where
   abbrev steps : List Step
   steps = chronicle setting (x ∷ h)
 
   abbrev plan : Plan
-  plan = the_plan setting
+  plan = the_plan setting epoch
 
   abbrev limit : ℕ
-  limit = calm + turning setting.net (the_plan setting)
+  limit = calm + turning setting.net (the_plan setting epoch)
 
   abbrev Well : ℕ → Type 0
-  Well y = IsWell setting (failed_now (chronicle setting (x ∷ h))) y
+  Well y = IsWell setting epoch (failed_now (chronicle setting (x ∷ h))) y
 
-  past_limit : calm + turning setting.net (the_plan setting) < reference_of e
+  past_limit : calm + turning setting.net (the_plan setting epoch) < reference_of e
   past_limit = omega (arith, late)
 
   after_limit : (n : ℕ) → limit < n → calm < n
   after_limit n less = omega (arith, less)
 
-  fine : IsSound setting.net (the_plan setting)
+  fine : IsSound setting.net (the_plan setting epoch)
   fine =
-      subst (λ n. IsSound setting.net (plan_numbered setting n)) (first_so setting (x ∷ h) e calm settled.way) (sound setting x h e settled.comes)
+      subst (λ n. IsSound setting.net (plan_numbered setting n)) settled.way.now (sound setting x h e settled.comes)
 
-  turned : IsTurned setting.net (the_plan setting) calm (calm + turning setting.net (the_plan setting))
+  turned : IsTurned setting.net (the_plan setting epoch) calm (calm + turning setting.net (the_plan setting epoch))
   turned =
       let net = setting.net in
       let t = turned_by (losses net) (depth net) (delay net) (round_gap net) (tick_gap net) (first_low net plan) (first_up net plan) (second_low net plan)
       (second_up net plan) (wait_low net plan) (wait_up net plan) calm fine.timed in
       record { wait = t.0; first = t.1; takeover = t.2 }
 
-  -- what failed did so by then
-  by_then : (q : Moment) → IsIn q (chronicle setting (e ∷ x ∷ h)) → (y : Thing) → failure_of q.step.seen.event ≡ Some y → when q ≤ calm
-  by_then q here y failure = go (cases_lt calm (when q))
-    where
-      go : (calm < when q) ⊎ (when q ≤ calm) → when q ≤ calm
-      go (inr le) = le
-      go (inl less) = let never : None ≡ Some y = sym (settled.unfailed q here less) ∙ failure in cc
-
   takeover_soon : (q : Moment) → IsIn q (chronicle setting (e ∷ x ∷ h)) → calm < when q
-      → is_among (failed_now (chronicle setting (x ∷ h))) (thing.Device (the_plan setting).root) ≡ true
-      → acts_in q.earlier (the_plan setting).backup_root ≡ false → when q ≤ calm + turning setting.net (the_plan setting)
+      → is_among (failed_now (chronicle setting (x ∷ h))) (thing.Device (the_plan setting epoch).root) ≡ true
+      → acts_in q.earlier (the_plan setting epoch).backup_root ≡ false → when q ≤ calm + turning setting.net (the_plan setting epoch)
   takeover_soon q here q_late lost still =
-      let by = takes_over_by setting (x ∷ h) e calm settled silent.takeover by_then q here q_late lost still in
+      let by = takes_over_by setting epoch (x ∷ h) e calm settled silent.takeover q here q_late lost still in
       let le = turned.takeover in
       upto_ (when q) _ _ by le
     where
@@ -166,24 +158,24 @@ module _ (setting : Setting) (silent : AreSilent setting) (x : Event) (h : List 
     message : Message
     emits : Emits first source message
     carries : message.stamp ≡ stamp
-    epoch_is : message.epoch ≡ 1
+    epoch_is : message.epoch ≡ epoch
     acted : acts_in (upto first) source ≡ true
     acts : acts_in (chronicle setting (x ∷ h)) source ≡ true
 
-  sent : (stamp : Stamp) (first : Moment) (source m : ℕ) (p : Moment) (y : ℕ) → (trace : Trace setting stamp 1 first source m p y)
-      → IsIn p (chronicle setting (x ∷ h)) → limit < when p → reference_of e ≤ when p + coming setting.net → IsWithin setting f y long
+  sent : (stamp : Stamp) (first : Moment) (source m : ℕ) (p : Moment) (y : ℕ) → (trace : Trace setting stamp epoch first source m p y)
+      → IsIn p (chronicle setting (x ∷ h)) → limit < when p → reference_of e ≤ when p + coming setting.net → IsWithin setting epoch f y long
       → IsSent stamp first source
   sent stamp first source m p y trace here p_late by_now within =
-      let first_in : IsIn first (chronicle setting (x ∷ h)) = tail_trans (trace_first setting stamp 1 first source m p y trace) here in
-      let (message, emits, carries, epoch_is) = trace_emits setting stamp 1 first source m p y trace in
-      let well : Well source = well_emitter setting (x ∷ h) e calm settled first first_in came.0 source message emits in
+      let first_in : IsIn first (chronicle setting (x ∷ h)) = tail_trans (trace_first setting stamp epoch first source m p y trace) here in
+      let (message, emits, carries, epoch_is) = trace_emits setting stamp epoch first source m p y trace in
+      let well : Well source = well_emitter setting epoch (x ∷ h) e calm settled first first_in came.0 source message emits in
       let since : (q : Moment) → IsIn q (chronicle setting (e ∷ x ∷ h)) → IsBefore first q → acts_in q.earlier source ≡ true =
-      acts_after setting (x ∷ h) e calm settled first came.0 source message emits well in
+      acts_after setting epoch (x ∷ h) e calm settled first came.0 source message emits well in
       let n : Following first (top_of setting (x ∷ h) e) = following first (next_step setting steps e) steps first_in in
       record {
         later = came.0;
         recent = ago (reference_of e) (when p) (when first) (coming setting.net) (m * delay setting.net) (2 * (depth setting.net + 1) * delay setting.net)
-            (silence setting.net) by_now (chain_time setting stamp 1 first source m p y (trace_chain trace))
+            (silence setting.net) by_now (chain_time setting stamp epoch first source m p y (trace_chain trace))
             (mul-le-mul_right (delay setting.net) (few came.1)) (news_is_fresh setting.net);
         message = message;
         emits = emits;
@@ -193,13 +185,13 @@ module _ (setting : Setting) (silent : AreSilent setting) (x : Event) (h : List 
         acts = since (top_of setting (x ∷ h) e) whole first_in;
       }
     where
-      outcome : Outcome setting (x ∷ h) e calm settled first p m (long + (depth setting.net + 1))
-      outcome = trace_short setting (x ∷ h) e calm settled f inside trace (behind here) (after_limit (when p) p_late) long within
+      outcome : Outcome setting epoch (x ∷ h) e calm settled first p m (long + (depth setting.net + 1))
+      outcome = trace_short setting epoch (x ∷ h) e calm settled f inside trace (behind here) (after_limit (when p) p_late) long within
 
       few : m ≤ long + (depth setting.net + 1) → m ≤ 2 * (depth setting.net + 1)
       few le = omega (arith, le, short)
 
-      by : Outcome setting (x ∷ h) e calm settled first p m (long + (depth setting.net + 1)) → (calm < when first) × (m ≤ long + (depth setting.net + 1))
+      by : Outcome setting epoch (x ∷ h) e calm settled first p m (long + (depth setting.net + 1)) → (calm < when first) × (m ≤ long + (depth setting.net + 1))
       by (inl both) = both
       by (inr soon) =
           absurd (no_time (when p) calm (passing setting.net) ((long + (depth setting.net + 1) + 1) * delay setting.net) limit
@@ -209,8 +201,8 @@ module _ (setting : Setting) (silent : AreSilent setting) (x : Event) (h : List 
       came = by outcome
 
   -- so a device at which a round came then is served
-  told : {stamp : Stamp} {first : Moment} {source m : ℕ} {p : Moment} {y : ℕ} → (trace : Trace setting stamp 1 first source m p y)
-      → IsIn p (chronicle setting (x ∷ h)) → limit < when p → reference_of e ≤ when p + coming setting.net → IsWithin setting f y long
+  told : {stamp : Stamp} {first : Moment} {source m : ℕ} {p : Moment} {y : ℕ} → (trace : Trace setting stamp epoch first source m p y)
+      → IsIn p (chronicle setting (x ∷ h)) → limit < when p → reference_of e ≤ when p + coming setting.net → IsWithin setting epoch f y long
       → IsServed (chronicle setting (x ∷ h)) y calm (reference_of e - silence setting.net)
   told {stamp} {first} {source} (begins message emits carries epoch_is) here p_late by_now within =
       inl (sent stamp first source zero first source (begins message emits carries epoch_is) here p_late by_now within).acts
@@ -222,7 +214,7 @@ module _ (setting : Setting) (silent : AreSilent setting) (x : Event) (h : List 
         flight = hop.flight;
         accepts = hop.receipt;
         emission = first;
-        is_before = tail_trans (trace_first setting stamp 1 first source m from z trace) hop.before;
+        is_before = tail_trans (trace_first setting stamp epoch first source m from z trace) hop.before;
         root = source;
         message = s.message;
         emits = s.emits;
@@ -236,16 +228,16 @@ module _ (setting : Setting) (silent : AreSilent setting) (x : Event) (h : List 
 
   -- Each device that comes to hear again
 
-  module _ (d : ℕ) (well : IsWell setting (failed_now (chronicle setting (x ∷ h))) d) (fed : Fed setting.net (the_plan setting) f d)
-      (within : IsWithin setting f d long) where
+  module _ (d : ℕ) (well : IsWell setting epoch (failed_now (chronicle setting (x ∷ h))) d) (fed : Fed setting.net (the_plan setting epoch) f d)
+      (within : IsWithin setting epoch f d long) where
     abbrev Served : Type 0
     Served = IsServed (chronicle setting (x ∷ h)) d calm (reference_of e - silence setting.net)
 
     by_receipt : (p : Moment) → IsIn p (chronicle setting (x ∷ h)) → limit < when p → reference_of e ≤ when p + coming setting.net → HeardBy p d → Served
     by_receipt p here p_late by_now b =
-        let traced : Traced setting b.message.stamp 1 p d =
-        subst (λ n. Traced setting b.message.stamp n p d) (receipt_epoch setting x h e calm settled f inside p here (after_limit (when p) p_late) d well b)
-        (accepted_traced setting (chronicle setting (e ∷ x ∷ h)) (all_chronicle setting (x ∷ h) e calm settled)
+        let traced : Traced setting b.message.stamp epoch p d =
+        subst (λ n. Traced setting b.message.stamp n p d) (receipt_epoch setting epoch x h e calm settled f inside p here (after_limit (when p) p_late) d well b)
+        (accepted_traced setting (chronicle setting (e ∷ x ∷ h)) (all_chronicle setting epoch (x ∷ h) e calm settled)
         (premises_of setting (seen_of (chronicle setting (e ∷ x ∷ h))) settled.comes.clean.premises).delay p (behind here) d b.link b.message b.counter
         b.past b.edge b.there b.act b.over) in
         told traced.trace here p_late by_now within
@@ -255,17 +247,17 @@ module _ (setting : Setting) (silent : AreSilent setting) (x : Event) (h : List 
         let a : HeardAt steps d = heard_moment steps d limit less in
         let at = a.at in
         let p_late : limit < when a.moment = omega (arith, less, at) in
-        let sc : Scene setting (failed_now (chronicle setting (x ∷ h))) a.moment =
-        scene_at setting (x ∷ h) e calm settled a.moment (behind a.is_in) (after_limit (when a.moment) p_late) in
+        let sc : Scene setting epoch (failed_now (chronicle setting (x ∷ h))) a.moment =
+        scene_at setting epoch (x ∷ h) e calm settled a.moment (behind a.is_in) (after_limit (when a.moment) p_late) in
         let heard : does hears a.moment.earlier a.moment.step d ≡ true =
         chosen (makes d a.moment.step.seen.event) (does hears a.moment.earlier a.moment.step d) a.marks (sc.unmade d well) in
         by_receipt a.moment a.is_in p_late (subst (λ t. reference_of e ≤ t + coming setting.net) at by_now) (heard_by a.moment d heard)
 
-    by_chain : (c : Chain setting (failed_now (chronicle setting (x ∷ h))) (top_of setting (x ∷ h) e) limit d long) → (n : ℕ)
-        → Led setting (failed_now (chronicle setting (x ∷ h))) (top_of setting (x ∷ h) e) limit c.source d n → n ≤ long + (depth setting.net + 1) → Served
+    by_chain : (c : Chain setting epoch (failed_now (chronicle setting (x ∷ h))) (top_of setting (x ∷ h) e) limit d long) → (n : ℕ)
+        → Led setting epoch (failed_now (chronicle setting (x ∷ h))) (top_of setting (x ∷ h) e) limit c.source d n → n ≤ long + (depth setting.net + 1) → Served
     by_chain c zero at_source few = inl (c.acts (top_of setting (x ∷ h) e) whole past_limit)
     by_chain c (suc n) led few =
-        let by = fed_by setting x h e calm settled c.source c.well limit (from calm (turning setting.net (the_plan setting))) c.acts d n led
+        let by = fed_by setting epoch x h e calm settled c.source c.well limit (from calm (turning setting.net (the_plan setting epoch))) c.acts d n led
         (omega (arith, few, short)) in
         let most : (n + 1) * delay setting.net ≤ 2 * (depth setting.net + 1) * delay setting.net =
         mul-le-mul_right (delay setting.net) (omega (arith, few, short)) in
@@ -279,29 +271,27 @@ module _ (setting : Setting) (silent : AreSilent setting) (x : Event) (h : List 
         wider : (r a b m n : ℕ) → r ≤ a + b + m → m ≤ n → r ≤ a + (b + n)
         wider r a b m n one two = omega (arith, one, two)
 
-    served : Served
+    pub served : IsServed (chronicle setting (x ∷ h)) d calm (reference_of e - silence setting.net)
     served =
-        let c : Chain setting (failed_now (chronicle setting (x ∷ h))) (top_of setting (x ∷ h) e) limit d long =
-        fed_chain setting x h e calm settled f inside limit turned past_limit takeover_soon long d fed well within short in
+        let c : Chain setting epoch (failed_now (chronicle setting (x ∷ h))) (top_of setting (x ∷ h) e) limit d long =
+        fed_chain setting epoch x h e calm settled f inside limit turned past_limit takeover_soon long d fed well within short in
         by_chain c c.hops c.led c.short
 
 -- What a calm history gives
 
 -- what is said of each event is said of each that is seen
-all_seen : (setting : Setting) (test : Event → Bool) (history : List Event) → list_all test history ≡ true
+pub all_seen : (setting : Setting) (test : Event → Bool) (history : List Event) → list_all test history ≡ true
     → list_all (λ (s : Seen). test s.event) (seen_of (chronicle setting history)) ≡ true
 all_seen setting test [] all = refl
 all_seen setting test (e ∷ history) all =
     let parts = and_parts (test e) (list_all test history) all in
     and_from (test e) (list_all (λ (s : Seen). test s.event) (seen_of (chronicle setting history))) parts.0 (all_seen setting test history parts.1)
 
--- and so of the event of each moment
-at_moment : (test : Event → Bool) (steps : List Step) → list_all (λ (s : Seen). test s.event) (seen_of steps) ≡ true → (q : Moment) → IsIn q steps
-    → test q.step.seen.event ≡ true
+-- what is said of all that is seen is said of each moment
+pub at_moment : (test : Seen → Bool) (steps : List Step) → list_all test (seen_of steps) ≡ true → (q : Moment) → IsIn q steps → test q.step.seen ≡ true
 at_moment test [] all q here = elim here [ ]
-at_moment test (s ∷ steps) all q whole = (and_parts (test s.seen.event) (list_all (λ (y : Seen). test y.event) (seen_of steps)) all).0
-at_moment test (s ∷ steps) all q (behind t) =
-    at_moment test steps (and_parts (test s.seen.event) (list_all (λ (y : Seen). test y.event) (seen_of steps)) all).1 q t
+at_moment test (s ∷ steps) all q whole = (and_parts (test s.seen) (list_all test (seen_of steps)) all).0
+at_moment test (s ∷ steps) all q (behind t) = at_moment test steps (and_parts (test s.seen) (list_all test (seen_of steps)) all).1 q t
 
 -- the history began by then
 begun_by : (setting : Setting) (since : ℕ) (history : List Event) → AreTimed setting (chronicle setting history)
@@ -323,7 +313,7 @@ begun_by setting since (e ∷ y ∷ ys) timed_ some = by (nat_le (reference_of e
         omega (arith, first, le)
     by false is again some' = again some'
 
-none_fails : (o : Option Thing) (b : Bool) → (not (is_some o) || b) ≡ true → (b ≡ true → ⊥) → o ≡ None
+pub none_fails : (o : Option Thing) (b : Bool) → (not (is_some o) || b) ≡ true → (b ≡ true → ⊥) → o ≡ None
 none_fails None b is never = refl
 none_fails (Some y) b is never = absurd (never is)
 
@@ -406,17 +396,17 @@ module _ (net : Network) (plan : Plan) (f : DomainId) (since : ℕ) (e x : Event
       by : (m t c r : ℕ) → m + t + c < r → m < r
       by m t c r less = omega (arith, less)
 
-  way : IsUnderWay (alone net plan) (x ∷ h) e settled_at
-  way = record { comes = comes_; unstaged = unstaged; started = started_at }
+  way : IsUnderWay (alone net plan) 1 (x ∷ h) e settled_at
+  way = first_way (alone net plan) (x ∷ h) e settled_at comes_ unstaged started_at
 
-  settled : IsSettled (alone net plan) (x ∷ h) e settled_at
+  settled : IsSettled (alone net plan) 1 (x ∷ h) e settled_at
   settled =
       record {
         comes = comes_;
         way = way;
         unfailed = λ q here q_late.
             none_fails (failure_of q.step.seen.event) (nat_le (when q) since)
-            (at_moment (λ y. not (is_some (failure_of y)) || nat_le (reference_of y) since) (chronicle setting (e ∷ x ∷ h))
+            (at_moment (λ (s : Seen). not (is_some (failure_of s.event)) || nat_le (reference_of s.event) since) (chronicle setting (e ∷ x ∷ h))
             (all_seen setting (λ y. not (is_some (failure_of y)) || nat_le (reference_of y) since) (e ∷ x ∷ h) calm.unfailed) q here)
             (λ is. never since settled_at (when q) since_at q_late (leb-true (when q) since is));
       }
@@ -435,23 +425,24 @@ module _ (net : Network) (plan : Plan) (f : DomainId) (since : ℕ) (e x : Event
         × (is_member (plan_numbered (alone net plan) (era (chronicle (alone net plan) (x ∷ h)))) d ≡ true)
     live =
         counted_member (is_up (seen_of (chronicle setting (x ∷ h))) d) (is_member (plan_numbered setting (era (chronicle setting (x ∷ h)))) d)
-        (joined_in_window (seen_of (chronicle setting (x ∷ h))) d) counted (unjoined (seen_of (chronicle setting (x ∷ h))) d unstaged_then)
+        (joined_in_window (seen_of (chronicle setting (x ∷ h))) d) counted
+        (unjoined (seen_of (chronicle setting (x ∷ h))) d (no_window (seen_of (chronicle setting (x ∷ h))) unstaged_then))
 
-    well : IsWell (alone net plan) (failed_now (chronicle (alone net plan) (x ∷ h))) d
+    well : IsWell (alone net plan) 1 (failed_now (chronicle (alone net plan) (x ∷ h))) d
     well =
-        let member : is_member (the_plan (alone net plan)) d ≡ true =
+        let member : is_member (the_plan (alone net plan) 1) d ≡ true =
         subst (λ n. is_member (plan_numbered (alone net plan) n) d ≡ true) (first_era (alone net plan) (x ∷ h) unstaged_then) live.1 in
         record {
           known = admitted_up_is_known setting (x ∷ h) comes_.clean.is.0 d live.0;
           member = member;
-          self = (scene setting x h e settled_at way later_at).well d live.0 member;
+          self = (scene setting 1 x h e settled_at way later_at).well d live.0 member;
         }
 
-    hears_then : Fed net plan f d → (long : ℕ) → IsWithin (alone net plan) f d long → long ≤ depth net + 1
+    hears_then : Fed net plan f d → (long : ℕ) → IsWithin (alone net plan) 1 f d long → long ≤ depth net + 1
         → IsServed (chronicle (alone net plan) (x ∷ h)) d since (reference_of e - silence net)
     hears_then fed long within short =
         since_before (chronicle setting (x ∷ h)) d since settled_at (reference_of e - silence net) since_at
-        (served setting (are_silent setting) x h e settled_at settled f inside long short late_at d well fed within)
+        (served setting 1 (are_silent setting) x h e settled_at settled f inside long short late_at d well fed within)
 
 -- The theorems
 

@@ -1,5 +1,5 @@
--- How a device that comes to hear again is led from one that acts, in a run under one plan that is never renewed, once
--- nothing fails any more and devices had time to move.
+-- How a device that comes to hear again is led from one that acts, in a run under one plan, once nothing fails any more
+-- and devices had time to move.
 --
 -- # The result
 --

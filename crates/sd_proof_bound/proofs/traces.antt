@@ -1,4 +1,4 @@
--- Ways along which rounds come down once nothing fails any more, in a run under one plan that is never renewed.
+-- Ways along which rounds come down once nothing fails any more, in a run under one plan.
 --
 -- # The result
 --

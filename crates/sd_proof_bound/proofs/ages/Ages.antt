@@ -32,7 +32,7 @@ use Rattle.sd_proof_safety.specs.invariant.Silences.{AreSilent}
 use Rattle.sd_proof_safety.proofs.invariant.Prefix.{clean_before}
 use Rattle.sd_proof_safety.specs.messages.Moments.{Tail, whole, behind, Moment, when, IsIn}
 use Rattle.sd_proof_safety.proofs.messages.Tails.{tail_trans}
-use Rattle.sd_proof_safety.proofs.moves.Starts.{IsUnstaged, first_era}
+use Rattle.sd_proof_safety.proofs.moves.Starts.{IsUnstaged, no_window, first_era}
 use Rattle.sd_proof_safety.specs.timers.Times.{AreTimed, heard_in}
 use Rattle.sd_proof_safety.proofs.timers.NotEarly.{heard_is_reading}
 use Rattle.sd_proof_safety.proofs.timers.Histories.{timed}
@@ -198,8 +198,8 @@ ages_hold net plan stays silent budget f whole_ (x ∷ h) reference d counter re
     let live = counted_member (is_up (seen_of (chronicle (alone net plan) (x ∷ h))) d)
     (is_member (plan_numbered (alone net plan) (era (chronicle (alone net plan) (x ∷ h)))) d)
     (joined_in_window (seen_of (chronicle (alone net plan) (x ∷ h))) d) counted
-    (unjoined (seen_of (chronicle (alone net plan) (x ∷ h))) d unstaged_) in
-    let member : is_member (the_plan (alone net plan)) d ≡ true =
+    (unjoined (seen_of (chronicle (alone net plan) (x ∷ h))) d (no_window (seen_of (chronicle (alone net plan) (x ∷ h))) unstaged_)) in
+    let member : is_member (the_plan (alone net plan) 1) d ≡ true =
     subst (λ n. is_member (plan_numbered (alone net plan) n) d ≡ true) (first_era (alone net plan) (x ∷ h) unstaged_) live.1 in
     let outage : OneOutage (alone net plan) (event.Ask reference d counter ∷ x ∷ h) f =
     one_outage net plan f (event.Ask reference d counter ∷ x ∷ h) whole_ tail recovers.failed in

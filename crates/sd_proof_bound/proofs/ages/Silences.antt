@@ -1,5 +1,5 @@
 -- For how long a device that comes to hear again is silent at most, at any time: before the failures, while devices move, and once it is at the end of a chain.
-use Rattle.std.specs.Prelude.{◌≡◌, ℕ, zero, suc, ◌+◌, ◌*◌, ◌<◌, ◌≤◌, true, false, max, List, [], ◌∷◌, Option, Some, None, refl, ◌⊎◌}
+use Rattle.std.specs.Prelude.{◌≡◌, ℕ, zero, suc, ◌+◌, ◌*◌, ◌<◌, ◌≤◌, Bool, true, false, max, List, [], ◌∷◌, Option, Some, None, refl, ◌⊎◌}
 use Rattle.std.specs.List.{list_all}
 use Rattle.std.proofs.Common.{arith, sym, subst, inl, inr}
 use Rattle.std.proofs.Math.Nat.{mul-le-mul_right}
@@ -19,7 +19,7 @@ use Rattle.sd_proof_safety.specs.History.Steps.{Step, seen_of, acts_in}
 use Rattle.sd_proof_safety.specs.History.Chronicle.{chronicle}
 use Rattle.sd_proof_safety.proofs.History.Known.{admitted_up_is_known}
 use Rattle.sd_proof_safety.specs.invariant.Bounds.{IsTimedBy, depth, delay, losses, rounds_gap, tick_gap, first_up, second_up, wait_up, first_low, second_low, wait_low}
-use Rattle.sd_proof_safety.specs.invariant.Eras.{era, all_started, is_among, failed_now, heard_at}
+use Rattle.sd_proof_safety.specs.invariant.Eras.{all_started, is_among, failed_now, heard_at}
 use Rattle.sd_proof_safety.specs.invariant.Silences.{AreSilent}
 use Rattle.sd_proof_safety.specs.invariant.Coming.{IsNextEvent}
 use Rattle.sd_proof_safety.proofs.invariant.Facts.{IsSound}
@@ -27,12 +27,11 @@ use Rattle.sd_proof_safety.proofs.invariant.Sides.{not_both}
 use Rattle.sd_proof_safety.specs.messages.Moments.{whole, behind, Moment, when, IsIn}
 use Rattle.sd_proof_safety.proofs.moves.Starts.{IsUnstaged}
 use Rattle.sd_proof_safety.proofs.waits.Standing.{sound}
-use Rattle.sd_proof_safety.proofs.silences.Phases.{open_at}
 use Rattle.sd_proof_safety.proofs.silences.SoundWays.{top_of}
 use Rattle.sd_proof_bound.specs.timeouts.Settled.{the_plan, IsUnderWay, IsSettled, IsWell, Scene}
-use Rattle.sd_proof_bound.proofs.timeouts.Settled.{first_so}
+use Rattle.sd_proof_bound.proofs.timeouts.Settled.{era_is, first_way}
 use Rattle.sd_proof_bound.proofs.timeouts.Scenes.{scene}
-use Rattle.sd_proof_bound.proofs.timeouts.Unstaged.{era_one, failed_same, equal_eras}
+use Rattle.sd_proof_bound.proofs.timeouts.Unstaged.{failed_same, none_closed}
 use Rattle.sd_proof_bound.specs.traces.Led.{Led, at_source, IsWithin}
 use Rattle.sd_proof_bound.proofs.traces.Sounding.{fed_by}
 use Rattle.sd_proof_bound.specs.chains.Chains.{Chain, turning, IsTurned}
@@ -50,15 +49,12 @@ failed_more : (s : Step) (steps : List Step) (y : Thing) → s.seen.closed ≡ f
     → failed_now (s ∷ steps) ≡ y ∷ failed_now steps
 failed_more s steps y open_ failure = rw (open_, failure) refl
 
--- so what failed is in it
-all_inside : (setting : Setting) (f : DomainId) (steps : List Step) → era steps ≡ 1
+-- so what failed in the era is in it
+all_inside : (setting : Setting) (f : DomainId) (steps : List Step)
     → ((q : Moment) → IsIn q steps → (y : Thing) → failure_of q.step.seen.event ≡ Some y → holds setting.net f y ≡ true)
     → list_all (holds setting.net f) (failed_now steps) ≡ true
-all_inside setting f [] is each = refl
-all_inside setting f (s ∷ earlier) is each =
-    let before : era earlier ≡ 1 = era_one earlier (s ∷ earlier) (behind whole) is in
-    go (open_at s earlier (equal_eras (era (s ∷ earlier)) (era earlier) is before)) (failure_of s.seen.event) refl
-    (all_inside setting f earlier before (λ q here. each q (behind here)))
+all_inside setting f [] each = refl
+all_inside setting f (s ∷ earlier) each = by s.seen.closed refl (all_inside setting f earlier (λ q here. each q (behind here)))
   where
     go : s.seen.closed ≡ false → (o : Option Thing) → failure_of s.seen.event ≡ o → list_all (holds setting.net f) (failed_now earlier) ≡ true
         → list_all (holds setting.net f) (failed_now (s ∷ earlier)) ≡ true
@@ -67,6 +63,11 @@ all_inside setting f (s ∷ earlier) is each =
         subst (λ l. list_all (holds setting.net f) l ≡ true) (sym (failed_more s earlier y open_ failure))
         (and_from (holds setting.net f y) (list_all (holds setting.net f) (failed_now earlier))
         (each (record { step = s; earlier = earlier }) whole y failure) rest)
+
+    by : (c : Bool) → s.seen.closed ≡ c → list_all (holds setting.net f) (failed_now earlier) ≡ true
+        → list_all (holds setting.net f) (failed_now (s ∷ earlier)) ≡ true
+    by true closed rest = subst (λ l. list_all (holds setting.net f) l ≡ true) (sym (none_closed s earlier closed)) refl
+    by false open_ rest = go open_ (failure_of s.seen.event) refl rest
 
 -- Sums
 
@@ -93,7 +94,7 @@ turned_by k h d p q l1 f1 l2 f2 lw up calm timed =
         → calm + (2 * (h + 1) + 1) * d + (f1 + q) ≤ calm + max (f1 + f2 + 2 * q + (h + 1) * d) (up + q + (2 * (h + 1) + 1) * d)
     second_of long order = omega (arith, long, order)
 
-within_lag : (r h l t w : ℕ) → r ≤ h + l → r ≤ h + (l + t + w)
+pub within_lag : (r h l t w : ℕ) → r ≤ h + l → r ≤ h + (l + t + w)
 within_lag r h l t w le = omega (arith, le)
 
 within_turning : (r h c l t w : ℕ) → r ≤ c + t → c ≤ h + l → r ≤ h + (l + t + w)
@@ -102,11 +103,79 @@ within_turning r h c l t w one two = omega (arith, one, two)
 within_chain : (r h c l t a m n : ℕ) → r ≤ max (c + t) h + a + m → c ≤ h + l → m ≤ n → r ≤ h + (l + t + (a + n))
 within_chain r h c l t a m n one two three = omega (arith, one, two, three)
 
+-- Once nothing fails any more, in any era
+
+module _ (setting : Setting) (epoch : ℕ) (silent : AreSilent setting) (x : Event) (h : List Event) (e : Event) (calm : ℕ)
+    (settled : IsSettled setting epoch (x ∷ h) e calm) (f : DomainId) (inside : list_all (holds setting.net f) (failed_now (chronicle setting (x ∷ h))) ≡ true)
+    (d : ℕ) (well : IsWell setting epoch (failed_now (chronicle setting (x ∷ h))) d) (idle : acts_in (chronicle setting (x ∷ h)) d ≡ false)
+    (fed : Fed setting.net (the_plan setting epoch) f d) (long : ℕ) (within : IsWithin setting epoch f d long) (short : long ≤ depth setting.net + 1)
+    (heard_then : calm ≤ heard_at (chronicle setting (x ∷ h)) d + lag setting.net) where
+  abbrev steps' : List Step
+  steps' = chronicle setting (x ∷ h)
+
+  abbrev limit : ℕ
+  limit = calm + turning setting.net (the_plan setting epoch)
+
+  abbrev Heard : Type 0
+  Heard = reference_of e ≤ heard_at (chronicle setting (x ∷ h)) d + silence_at_most setting.net (the_plan setting epoch)
+
+  fine : IsSound setting.net (the_plan setting epoch)
+  fine = subst (λ n. IsSound setting.net (plan_numbered setting n)) (era_is setting epoch (x ∷ h) e calm settled) (sound setting x h e settled.comes)
+
+  turned : IsTurned setting.net (the_plan setting epoch) calm limit
+  turned =
+      let net = setting.net in
+      let plan = the_plan setting epoch in
+      let t = turned_by (losses net) (depth net) (delay net) (round_gap net) (tick_gap net) (first_low net plan) (first_up net plan) (second_low net plan)
+      (second_up net plan) (wait_low net plan) (wait_up net plan) calm fine.timed in
+      record { wait = t.0; first = t.1; takeover = t.2 }
+
+  takeover_soon : (q : Moment) → IsIn q (chronicle setting (e ∷ x ∷ h)) → calm < when q
+      → is_among (failed_now (chronicle setting (x ∷ h))) (thing.Device (the_plan setting epoch).root) ≡ true
+      → acts_in q.earlier (the_plan setting epoch).backup_root ≡ false → when q ≤ limit
+  takeover_soon q here q_late lost still =
+      let by = takes_over_by setting epoch (x ∷ h) e calm settled silent.takeover q here q_late lost still in
+      let le = turned.takeover in
+      upto_ (when q) _ limit by le
+    where
+      upto_ : (a b c : ℕ) → a ≤ b → b ≤ c → a ≤ c
+      upto_ a b c one two = omega (arith, one, two)
+
+  by_chain : limit < reference_of e → (c : Chain setting epoch (failed_now (chronicle setting (x ∷ h))) (top_of setting (x ∷ h) e) limit d long) → (n : ℕ)
+      → Led setting epoch (failed_now (chronicle setting (x ∷ h))) (top_of setting (x ∷ h) e) limit c.source d n → n ≤ long + (depth setting.net + 1) → Heard
+  by_chain past c zero at_source few = absurd (not_both (acts_in steps' d) (c.acts (top_of setting (x ∷ h) e) whole past) idle)
+  by_chain past c (suc n) led few =
+      let by = fed_by setting epoch x h e calm settled c.source c.well limit (from calm (turning setting.net (the_plan setting epoch))) c.acts d n led
+      (omega (arith, few, short)) in
+      let most : (n + 1) * delay setting.net ≤ 2 * (depth setting.net + 1) * delay setting.net =
+      mul-le-mul_right (delay setting.net) (omega (arith, few, short)) in
+      within_chain (reference_of e) (heard_at steps' d) calm (lag setting.net) (turning setting.net (the_plan setting epoch)) (rounds_gap setting.net)
+      ((n + 1) * delay setting.net) (2 * (depth setting.net + 1) * delay setting.net) by heard_then most
+    where
+      from : (a b : ℕ) → a ≤ a + b
+      from a b = omega arith
+
+  -- the silence of a device that had heard lately by then
+  pub after_failures : reference_of e ≤ heard_at (chronicle setting (x ∷ h)) d + silence_at_most setting.net (the_plan setting epoch)
+  after_failures = go (cases_lt limit (reference_of e))
+    where
+      go : (limit < reference_of e) ⊎ (reference_of e ≤ limit)
+          → reference_of e ≤ heard_at (chronicle setting (x ∷ h)) d + silence_at_most setting.net (the_plan setting epoch)
+      go (inr le) =
+          within_turning (reference_of e) (heard_at steps' d) calm (lag setting.net) (turning setting.net (the_plan setting epoch))
+          (rounds_gap setting.net + 2 * (depth setting.net + 1) * delay setting.net) le heard_then
+      go (inl past) =
+          let c : Chain setting epoch (failed_now (chronicle setting (x ∷ h))) (top_of setting (x ∷ h) e) limit d long =
+          fed_chain setting epoch x h e calm settled f inside limit turned past takeover_soon long d fed well within short in
+          by_chain past c c.hops c.led c.short
+
+-- In the first era
+
 module _ (setting : Setting) (silent : AreSilent setting) (x : Event) (h : List Event) (e : Event) (comes : IsNextEvent setting (x ∷ h) e)
     (unstaged : IsUnstaged (seen_of (chronicle setting (e ∷ x ∷ h)))) (f : DomainId) (reference : ℕ)
     (fails_in : FailsIn setting (e ∷ x ∷ h) f reference) (d : ℕ) (up : is_up (seen_of (chronicle setting (x ∷ h))) d ≡ true)
-    (member : is_member (the_plan setting) d ≡ true) (idle : acts_in (chronicle setting (x ∷ h)) d ≡ false)
-    (fed : Fed setting.net (the_plan setting) f d) (long : ℕ) (within : IsWithin setting f d long) (short : long ≤ depth setting.net + 1) where
+    (member : is_member (the_plan setting 1) d ≡ true) (idle : acts_in (chronicle setting (x ∷ h)) d ≡ false)
+    (fed : Fed setting.net (the_plan setting 1) f d) (long : ℕ) (within : IsWithin setting 1 f d long) (short : long ≤ depth setting.net + 1) where
   abbrev steps : List Step
   steps = chronicle setting (x ∷ h)
 
@@ -114,49 +183,46 @@ module _ (setting : Setting) (silent : AreSilent setting) (x : Event) (h : List 
   begun = all_started setting (chronicle setting (e ∷ x ∷ h))
 
   abbrev Soon : Type 0
-  Soon = reference_of e ≤ heard_at (chronicle setting (x ∷ h)) d + silence_at_most setting.net (the_plan setting)
+  Soon = reference_of e ≤ heard_at (chronicle setting (x ∷ h)) d + silence_at_most setting.net (the_plan setting 1)
 
   -- while members may start yet
   at_first : reference_of e ≤ begun → Soon
   at_first le =
-      within_lag (reference_of e) (heard_at steps d) (lag setting.net) (turning setting.net (the_plan setting))
+      within_lag (reference_of e) (heard_at steps d) (lag setting.net) (turning setting.net (the_plan setting 1))
       (rounds_gap setting.net + 2 * (depth setting.net + 1) * delay setting.net) (heard_at_first setting x h e comes d up le)
 
-  way_from : (calm : ℕ) → begun ≤ calm → IsUnderWay setting (x ∷ h) e calm
-  way_from calm le = record { comes = comes; unstaged = unstaged; started = le }
+  way_from : (calm : ℕ) → begun ≤ calm → IsUnderWay setting 1 (x ∷ h) e calm
+  way_from calm le = first_way setting (x ∷ h) e calm comes unstaged le
 
   least : (n : ℕ) → n ≤ n
   least n = omega arith
 
   module _ (late : begun < reference_of e) where
-    way : IsUnderWay setting (x ∷ h) e begun
+    way : IsUnderWay setting 1 (x ∷ h) e begun
     way = way_from begun (least begun)
 
-    sc : Scene setting (failed_now (chronicle setting (x ∷ h))) (top_of setting (x ∷ h) e)
-    sc = scene setting x h e begun way late
+    sc : Scene setting 1 (failed_now (chronicle setting (x ∷ h))) (top_of setting (x ∷ h) e)
+    sc = scene setting 1 x h e begun way late
 
-    well : IsWell setting (failed_now (chronicle setting (x ∷ h))) d
+    well : IsWell setting 1 (failed_now (chronicle setting (x ∷ h))) d
     well = record { known = admitted_up_is_known setting (x ∷ h) comes.clean.is.0 d up; member = member; self = sc.well d up member }
 
-    other : is_root (the_plan setting) d ≡ false
-    other = not_root setting x h e begun way late d well idle
+    other : is_root (the_plan setting 1) d ≡ false
+    other = not_root setting 1 x h e begun way late d well idle
 
     -- nothing failed so far
     before_failures : failed_now (chronicle setting (x ∷ h)) ≡ [] → Soon
     before_failures none =
-        within_lag (reference_of e) (heard_at steps d) (lag setting.net) (turning setting.net (the_plan setting))
+        within_lag (reference_of e) (heard_at steps d) (lag setting.net) (turning setting.net (the_plan setting 1))
         (rounds_gap setting.net + 2 * (depth setting.net + 1) * delay setting.net)
-        (heard_whole setting x h e begun way late none d well other silent.whole)
+        (heard_whole setting 1 x h e begun way late none d well other silent.whole)
 
     module _ (first : FirstFailed (chronicle setting (x ∷ h))) where
       abbrev calm : ℕ
       calm = max (when first.moment) (all_started setting (chronicle setting (e ∷ x ∷ h)))
 
-      abbrev limit : ℕ
-      limit = calm + turning setting.net (the_plan setting)
-
       heard_then : calm ≤ heard_at (chronicle setting (x ∷ h)) d + lag setting.net
-      heard_then = heard_by_failures setting x h e way late silent.whole d well other first
+      heard_then = heard_by_failures setting 1 x h e way late silent.whole d well other first
 
       -- all that failed failed with the first
       at_once : (q : Moment) → IsIn q (chronicle setting (e ∷ x ∷ h)) → (y : Thing) → failure_of q.step.seen.event ≡ Some y → when q ≤ calm
@@ -168,7 +234,7 @@ module _ (setting : Setting) (silent : AreSilent setting) (x : Event) (h : List 
           same : (a b r s : ℕ) → a ≡ r → b ≡ r → a ≤ max b s
           same a b r s one two = omega (arith, one, two)
 
-      settled : IsSettled setting (x ∷ h) e calm
+      settled : IsSettled setting 1 (x ∷ h) e calm
       settled =
           record {
             comes = comes;
@@ -185,68 +251,23 @@ module _ (setting : Setting) (silent : AreSilent setting) (x : Event) (h : List 
           by q here q_late (Some y) is = let le = at_once q here y is in absurd (omega (arith, le, q_late))
 
       inside : list_all (holds setting.net f) (failed_now (chronicle setting (x ∷ h))) ≡ true
-      inside = all_inside setting f steps (first_so setting (x ∷ h) e begun way) (λ q here y failure. (fails_in q (behind here) y failure).0)
+      inside = all_inside setting f steps (λ q here y failure. (fails_in q (behind here) y failure).0)
 
-      fine : IsSound setting.net (the_plan setting)
-      fine = subst (λ n. IsSound setting.net (plan_numbered setting n)) (first_so setting (x ∷ h) e begun way) (sound setting x h e comes)
-
-      turned : IsTurned setting.net (the_plan setting) calm limit
-      turned =
-          let net = setting.net in
-          let plan = the_plan setting in
-          let t = turned_by (losses net) (depth net) (delay net) (round_gap net) (tick_gap net) (first_low net plan) (first_up net plan) (second_low net plan)
-          (second_up net plan) (wait_low net plan) (wait_up net plan) calm fine.timed in
-          record { wait = t.0; first = t.1; takeover = t.2 }
-
-      takeover_soon : (q : Moment) → IsIn q (chronicle setting (e ∷ x ∷ h)) → calm < when q
-          → is_among (failed_now (chronicle setting (x ∷ h))) (thing.Device (the_plan setting).root) ≡ true
-          → acts_in q.earlier (the_plan setting).backup_root ≡ false → when q ≤ limit
-      takeover_soon q here q_late lost still =
-          let by = takes_over_by setting (x ∷ h) e calm settled silent.takeover at_once q here q_late lost still in
-          let le = turned.takeover in
-          upto_ (when q) _ limit by le
-        where
-          upto_ : (a b c : ℕ) → a ≤ b → b ≤ c → a ≤ c
-          upto_ a b c one two = omega (arith, one, two)
-
-      by_chain : limit < reference_of e → (c : Chain setting (failed_now (chronicle setting (x ∷ h))) (top_of setting (x ∷ h) e) limit d long) → (n : ℕ)
-          → Led setting (failed_now (chronicle setting (x ∷ h))) (top_of setting (x ∷ h) e) limit c.source d n → n ≤ long + (depth setting.net + 1) → Soon
-      by_chain past c zero at_source few = absurd (not_both (acts_in steps d) (c.acts (top_of setting (x ∷ h) e) whole past) idle)
-      by_chain past c (suc n) led few =
-          let by = fed_by setting x h e calm settled c.source c.well limit (from calm (turning setting.net (the_plan setting))) c.acts d n led
-          (omega (arith, few, short)) in
-          let most : (n + 1) * delay setting.net ≤ 2 * (depth setting.net + 1) * delay setting.net =
-          mul-le-mul_right (delay setting.net) (omega (arith, few, short)) in
-          within_chain (reference_of e) (heard_at steps d) calm (lag setting.net) (turning setting.net (the_plan setting)) (rounds_gap setting.net)
-          ((n + 1) * delay setting.net) (2 * (depth setting.net + 1) * delay setting.net) by heard_then most
-        where
-          from : (a b : ℕ) → a ≤ a + b
-          from a b = omega arith
-
-      after_failures : Soon
-      after_failures = go (cases_lt limit (reference_of e))
-        where
-          go : (limit < reference_of e) ⊎ (reference_of e ≤ limit) → Soon
-          go (inr le) =
-              within_turning (reference_of e) (heard_at steps d) calm (lag setting.net) (turning setting.net (the_plan setting))
-              (rounds_gap setting.net + 2 * (depth setting.net + 1) * delay setting.net) le heard_then
-          go (inl past) =
-              let c : Chain setting (failed_now (chronicle setting (x ∷ h))) (top_of setting (x ∷ h) e) limit d long =
-              fed_chain setting x h e calm settled f inside limit turned past takeover_soon long d fed well within short in
-              by_chain past c c.hops c.led c.short
+      then_ : Soon
+      then_ = after_failures setting 1 silent x h e calm settled f inside d well idle fed long within short heard_then
 
     once_started : Soon
-    once_started = go (failed_or_none steps (first_so setting (x ∷ h) e begun way))
+    once_started = go (failed_or_none steps)
       where
         go : (failed_now (chronicle setting (x ∷ h)) ≡ []) ⊎ FirstFailed (chronicle setting (x ∷ h)) → Soon
         go (inl none) = before_failures none
-        go (inr first) = after_failures first
+        go (inr first) = then_ first
 
   -- at any time
-  pub silent_at_most : reference_of e ≤ heard_at (chronicle setting (x ∷ h)) d + silence_at_most setting.net (the_plan setting)
+  pub silent_at_most : reference_of e ≤ heard_at (chronicle setting (x ∷ h)) d + silence_at_most setting.net (the_plan setting 1)
   silent_at_most = go (cases_lt begun (reference_of e))
     where
       go : (begun < reference_of e) ⊎ (reference_of e ≤ begun)
-          → reference_of e ≤ heard_at (chronicle setting (x ∷ h)) d + silence_at_most setting.net (the_plan setting)
+          → reference_of e ≤ heard_at (chronicle setting (x ∷ h)) d + silence_at_most setting.net (the_plan setting 1)
       go (inl late) = once_started late
       go (inr le) = at_first le

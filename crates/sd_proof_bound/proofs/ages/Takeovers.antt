@@ -2,7 +2,8 @@
 use Rattle.std.specs.Prelude.{◌≡◌, ℕ, ◌+◌, ◌*◌, ◌<◌, ◌≤◌, Bool, true, false, max, List, [], ◌∷◌, nat_eq, Option, Some, None, refl, if◌then◌else◌}
 use Rattle.std.specs.List.{list_any}
 use Rattle.std.specs.Option.{option_or}
-use Rattle.std.proofs.Common.{arith, sym, subst}
+use Rattle.std.proofs.Common.{arith, sym, ◌∙◌, subst}
+use Rattle.std.proofs.lemmas.Bool.{eqb-true}
 use Rattle.sd_drill.specs.Num.Lists.{map_or}
 use Rattle.sd_drill.specs.Topo.declared.Thing.{Thing}
 use Rattle.sd_drill.specs.Topo.declared.Thing.TheVariants as thing
@@ -20,7 +21,7 @@ use Rattle.sd_proof_safety.specs.messages.Moments.{Tail, whole, behind, Moment, 
 use Rattle.sd_proof_safety.proofs.messages.Tails.{tail_trans, rest_of}
 use Rattle.sd_proof_safety.proofs.waits.Standing.{backup_root_is_old}
 use Rattle.sd_proof_bound.specs.timeouts.Settled.{the_plan, IsSettled}
-use Rattle.sd_proof_bound.proofs.timeouts.Settled.{era_is, StageAt, stage_at}
+use Rattle.sd_proof_bound.proofs.timeouts.Settled.{era_is, failed_by, StageAt, stage_at}
 use Rattle.sd_proof_bound.proofs.timeouts.Scenes.{not_early}
 
 -- the reference of the first failure is that of an event which fails something
@@ -47,33 +48,33 @@ first_by calm things (s ∷ earlier) early =
     go false (Some r) before f is = before
     go false None before f is = by_fails f is
 
-late_by : (b : Bool) (r s calm : ℕ) → r ≤ calm → s ≤ calm → (if b then max r s else r) ≤ calm
-late_by true r s calm one two = omega (arith, one, two)
+late_by : (b : Bool) (r s calm : ℕ) → r ≤ calm → (b ≡ true → s ≤ calm) → (if b then max r s else r) ≤ calm
+late_by true r s calm one two = let le = two refl in omega (arith, one, le)
 late_by false r s calm one two = one
 
-module _ (setting : Setting) (x : Event) (h : List Event) (e : Event) (calm : ℕ) (settled : IsSettled setting (x ∷ h) e calm) (late_ : calm < reference_of e)
+module _ (setting : Setting) (epoch : ℕ) (x : Event) (h : List Event) (e : Event) (calm : ℕ) (settled : IsSettled setting epoch (x ∷ h) e calm) (late_ : calm < reference_of e)
     (takes : AtNext TakesOverSoon setting)
     (early : (q : Moment) → IsIn q (chronicle setting (x ∷ h)) → (y : Thing) → failure_of q.step.seen.event ≡ Some y → when q ≤ calm) where
   abbrev steps : List Step
   steps = chronicle setting (x ∷ h)
 
   -- at the event
-  taken_soon : is_among (failed_now (chronicle setting (x ∷ h))) (thing.Device (the_plan setting).root) ≡ true
-      → acts_in (chronicle setting (x ∷ h)) (the_plan setting).backup_root ≡ false
-      → reference_of e ≤ calm + (depth setting.net + 1) * delay setting.net + first_up setting.net (the_plan setting) + second_up setting.net
-      (the_plan setting) + 2 * tick_gap setting.net
+  taken_soon : is_among (failed_now (chronicle setting (x ∷ h))) (thing.Device (the_plan setting epoch).root) ≡ true
+      → acts_in (chronicle setting (x ∷ h)) (the_plan setting epoch).backup_root ≡ false
+      → reference_of e ≤ calm + (depth setting.net + 1) * delay setting.net + first_up setting.net (the_plan setting epoch) + second_up setting.net
+      (the_plan setting epoch) + 2 * tick_gap setting.net
   taken_soon lost idle =
-      let first : era steps ≡ 1 = era_is setting (x ∷ h) e calm settled in
+      let first : era steps ≡ epoch = era_is setting epoch (x ∷ h) e calm settled in
       let lost_ : root_failed setting steps ≡ true =
       subst (λ n. is_among (failed_now (chronicle setting (x ∷ h))) (thing.Device (plan_numbered setting n).root) ≡ true) (sym first) lost in
       let idle_ : acts_in steps (plan_now setting steps).backup_root ≡ false =
       subst (λ n. acts_in (chronicle setting (x ∷ h)) (plan_numbered setting n).backup_root ≡ false) (sym first) idle in
-      let old = backup_root_is_old setting x h e settled.comes lost_ idle_ (not_early setting x h e calm settled.way late_) in
+      let old = backup_root_is_old setting x h e settled.comes lost_ idle_ (not_early setting epoch x h e calm settled.way late_) in
       let by = takes (x ∷ h) e settled.comes lost_ old idle_ in
       let at : root_failed_at setting steps ≤ calm =
       late_by (nat_eq (era steps) 1) (map_or (first_failure (thing.Device (plan_now setting steps).root ∷ []) (seen_of steps)) 0 (λ r. r))
       (all_started setting steps) calm
-      (first_by calm (thing.Device (plan_now setting steps).root ∷ []) steps early) settled.way.started in
+      (first_by calm (thing.Device (plan_now setting steps).root ∷ []) steps early) (λ is. settled.way.started (sym first ∙ eqb-true (era steps) 1 is)) in
       subst (λ n. reference_of e ≤ calm + (depth setting.net + 1) * delay setting.net + first_up setting.net (plan_numbered setting n) + second_up setting.net
       (plan_numbered setting n) + 2 * tick_gap setting.net) first
       (sum (reference_of e) (root_failed_at setting steps) calm ((depth setting.net + 1) * delay setting.net) (first_up setting.net (plan_now setting steps))
@@ -83,19 +84,18 @@ module _ (setting : Setting) (x : Event) (h : List Event) (e : Event) (calm : �
       sum r f c k a b q one two = omega (arith, one, two)
 
 -- at each event that is later than the failures
-pub takes_over_by : (setting : Setting) (history : List Event) (e : Event) (calm : ℕ) → IsSettled setting history e calm → AtNext TakesOverSoon setting
-    → ((q : Moment) → IsIn q (chronicle setting (e ∷ history)) → (y : Thing) → failure_of q.step.seen.event ≡ Some y → when q ≤ calm)
+pub takes_over_by : (setting : Setting) (epoch : ℕ) (history : List Event) (e : Event) (calm : ℕ) → IsSettled setting epoch history e calm → AtNext TakesOverSoon setting
     → (q : Moment) → IsIn q (chronicle setting (e ∷ history)) → calm < when q
-    → is_among (failed_now (chronicle setting history)) (thing.Device (the_plan setting).root) ≡ true
-    → acts_in q.earlier (the_plan setting).backup_root ≡ false
-    → when q ≤ calm + (depth setting.net + 1) * delay setting.net + first_up setting.net (the_plan setting) + second_up setting.net
-    (the_plan setting) + 2 * tick_gap setting.net
-takes_over_by setting history e calm settled takes early q here late_ lost idle =
-    let st : StageAt setting calm (chronicle setting history) q = stage_at setting history e calm settled q here late_ in
+    → is_among (failed_now (chronicle setting history)) (thing.Device (the_plan setting epoch).root) ≡ true
+    → acts_in q.earlier (the_plan setting epoch).backup_root ≡ false
+    → when q ≤ calm + (depth setting.net + 1) * delay setting.net + first_up setting.net (the_plan setting epoch) + second_up setting.net
+    (the_plan setting epoch) + 2 * tick_gap setting.net
+takes_over_by setting epoch history e calm settled takes q here late_ lost idle =
+    let st : StageAt setting epoch calm (chronicle setting history) q = stage_at setting epoch history e calm settled q here late_ in
     let inside : Tail (chronicle setting (st.x ∷ st.h)) (chronicle setting (e ∷ history)) =
     subst (λ (p : Moment). Tail p.earlier (chronicle setting (e ∷ history))) st.is (rest_of here) in
-    subst (λ p. when p ≤ calm + (depth setting.net + 1) * delay setting.net + first_up setting.net (the_plan setting) + second_up setting.net
-    (the_plan setting) + 2 * tick_gap setting.net) (sym st.is)
-    (taken_soon setting st.x st.h st.e calm st.settled st.late takes (λ r r_in. early r (tail_trans r_in inside))
-    (subst (λ failed. is_among failed (thing.Device (the_plan setting).root) ≡ true) (sym st.failed) lost)
-    (subst (λ (p : Moment). acts_in p.earlier (the_plan setting).backup_root ≡ false) st.is idle))
+    subst (λ p. when p ≤ calm + (depth setting.net + 1) * delay setting.net + first_up setting.net (the_plan setting epoch) + second_up setting.net
+    (the_plan setting epoch) + 2 * tick_gap setting.net) (sym st.is)
+    (taken_soon setting epoch st.x st.h st.e calm st.settled st.late takes (λ r r_in. failed_by setting epoch history e calm settled r (tail_trans r_in inside))
+    (subst (λ failed. is_among failed (thing.Device (the_plan setting epoch).root) ≡ true) (sym st.failed) lost)
+    (subst (λ (p : Moment). acts_in p.earlier (the_plan setting epoch).backup_root ≡ false) st.is idle))

@@ -51,10 +51,10 @@ present net plan history plain_ d counted =
 
 -- Sums
 
-root_held : (x base a rh b : ℕ) → x ≤ base → x + a ≤ base + rh + a + b
+pub root_held : (x base a rh b : ℕ) → x ≤ base → x + a ≤ base + rh + a + b
 root_held x base a rh b le = omega (arith, le)
 
-backup_held : (x base a rh b : ℕ) → x ≤ base + a + rh → x + b ≤ base + rh + a + b
+pub backup_held : (x base a rh b : ℕ) → x ≤ base + a + rh → x + b ≤ base + rh + a + b
 backup_held x base a rh b le = omega (arith, le)
 
 pub bases_hold : (net : Network) (plan : Plan) → StaysInvariant (alone net plan) → BasesHold net plan

@@ -78,7 +78,7 @@ begun_cases past =
       nothing = λ call n. λ begins. cc;
     }
 
-begun : (past : Past) (call : Call) → is_emission (transition_of past call) ≡ true → IsBegun past call (transition_of past call)
+pub begun : (past : Past) (call : Call) → is_emission (transition_of past call) ≡ true → IsBegun past call (transition_of past call)
 begun past call begins = by_case past (Begins past) (begun_cases past) call begins
 
 -- what is sent is a round or a relay
@@ -88,7 +88,7 @@ by_sender past call transition P rounds relays (root_sends emission) = rounds em
 by_sender past _ transition P rounds relays (relay_sends l m c edge over) = relays edge over
 
 -- a relay carries the estimate as it was set, and a round the report at its counter
-relayed_eps : (past : Past) (call : Call) (transition : Transition) (edge : Edge) (m : Message) → accepted_over transition ≡ Some edge
+pub relayed_eps : (past : Past) (call : Call) (transition : Transition) (edge : Edge) (m : Message) → accepted_over transition ≡ Some edge
     → effect_of_latest past (record { call = call; transition = transition }) ≡ Send m → (estimate_now past).base ≡ m.eps
 relayed_eps past call (Entered duty e) edge m over same = ap (λ (n : Message). n.eps) (send_same same)
 relayed_eps past call (Accepted e) edge m over same = ap (λ (n : Message). n.eps) (send_same same)
@@ -99,7 +99,7 @@ relayed_eps past call TookOver edge m over same = cc
 relayed_eps past call Emitted edge m over same = cc
 relayed_eps past call Nothing edge m over same = cc
 
-emitted_eps : (past : Past) (c : ℕ) (transition : Transition) (m : Message) → is_emission transition ≡ true
+pub emitted_eps : (past : Past) (c : ℕ) (transition : Transition) (m : Message) → is_emission transition ≡ true
     → effect_of_latest past (record { call = calls.Tick c; transition = transition }) ≡ Send m → (report_at past c).eps ≡ m.eps
 emitted_eps past c TookOver m begins same = ap (λ (n : Message). n.eps) (send_same same)
 emitted_eps past c Emitted m begins same = ap (λ (n : Message). n.eps) (send_same same)

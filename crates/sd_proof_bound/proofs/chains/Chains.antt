@@ -47,23 +47,23 @@ use Rattle.sd_proof_bound.proofs.chains.Nexts.{IsNextFed, next_fed}
 heard_after : (w h a b limit : ℕ) → w ≤ h + b → limit < w → a + b ≤ limit → a < h
 heard_after w h a b limit by late le = omega (arith, by, late, le)
 
-module _ (setting : Setting) (x : Event) (h : List Event) (e : Event) (calm : ℕ) (settled : IsSettled setting (x ∷ h) e calm) (f : DomainId)
+module _ (setting : Setting) (epoch : ℕ) (x : Event) (h : List Event) (e : Event) (calm : ℕ) (settled : IsSettled setting epoch (x ∷ h) e calm) (f : DomainId)
     (inside : list_all (holds setting.net f) (failed_now (chronicle setting (x ∷ h))) ≡ true)
-    (limit : ℕ) (turned : IsTurned setting.net (the_plan setting) calm limit) (late : limit < reference_of e)
+    (limit : ℕ) (turned : IsTurned setting.net (the_plan setting epoch) calm limit) (late : limit < reference_of e)
     (soon : (q : Moment) → IsIn q (chronicle setting (e ∷ x ∷ h)) → calm < when q
-    → is_among (failed_now (chronicle setting (x ∷ h))) (thing.Device (the_plan setting).root) ≡ true
-    → acts_in q.earlier (the_plan setting).backup_root ≡ false → when q ≤ limit) where
+    → is_among (failed_now (chronicle setting (x ∷ h))) (thing.Device (the_plan setting epoch).root) ≡ true
+    → acts_in q.earlier (the_plan setting epoch).backup_root ≡ false → when q ≤ limit) where
   abbrev top : Moment
   top = top_of setting (x ∷ h) e
 
   abbrev plan : Plan
-  plan = the_plan setting
+  plan = the_plan setting epoch
 
   abbrev Reached : ℕ → ℕ → Type 0
-  Reached y k = Chain setting (failed_now (chronicle setting (x ∷ h))) (top_of setting (x ∷ h) e) limit y k
+  Reached y k = Chain setting epoch (failed_now (chronicle setting (x ∷ h))) (top_of setting (x ∷ h) e) limit y k
 
   abbrev Well : ℕ → Type 0
-  Well y = IsWell setting (failed_now (chronicle setting (x ∷ h))) y
+  Well y = IsWell setting epoch (failed_now (chronicle setting (x ∷ h))) y
 
   from : calm ≤ limit
   from = let le = turned.wait in omega (arith, le)
@@ -75,36 +75,36 @@ module _ (setting : Setting) (x : Event) (h : List Event) (e : Event) (calm : �
   calm_at : (q : Moment) → limit < when q → calm < when q
   calm_at q q_late = omega (arith, from, q_late)
 
-  scene_then : (q : Moment) → IsIn q (chronicle setting (e ∷ x ∷ h)) → limit < when q → Scene setting (failed_now (chronicle setting (x ∷ h))) q
-  scene_then q q_in q_late = scene_at setting (x ∷ h) e calm settled q q_in (calm_at q q_late)
+  scene_then : (q : Moment) → IsIn q (chronicle setting (e ∷ x ∷ h)) → limit < when q → Scene setting epoch (failed_now (chronicle setting (x ∷ h))) q
+  scene_then q q_in q_late = scene_at setting epoch (x ∷ h) e calm settled q q_in (calm_at q q_late)
 
-  first_scene : Scene setting (failed_now (chronicle setting (x ∷ h))) first.moment
+  first_scene : Scene setting epoch (failed_now (chronicle setting (x ∷ h))) first.moment
   first_scene = scene_then first.moment first.is_in first.late
 
-  fine : IsSound setting.net (the_plan setting)
-  fine = fine_at setting (x ∷ h) e calm settled first.moment first.is_in (calm_at first.moment first.late)
+  fine : IsSound setting.net (the_plan setting epoch)
+  fine = fine_at setting epoch (x ∷ h) e calm settled first.moment first.is_in (calm_at first.moment first.late)
 
   -- what is kept from event to event holds from then on where it held at first
   onwards : (P : List Step → Type 0) → ((r : Moment) → IsIn r (chronicle setting (x ∷ h)) → calm < when r → P r.earlier → P (upto r)) → P first.moment.earlier
       → (q : Moment) → IsIn q (chronicle setting (e ∷ x ∷ h)) → limit < when q → P q.earlier
   onwards P keeps holds_ q q_in q_late =
-      kept_since setting (x ∷ h) e calm settled P keeps first.moment first.is_in (calm_at first.moment first.late) holds_ q q_in
-      (from_first setting (x ∷ h) e calm settled limit first.moment first.is_in first.before q q_in q_late)
+      kept_since setting epoch (x ∷ h) e calm settled P keeps first.moment first.is_in (calm_at first.moment first.late) holds_ q q_in
+      (from_first setting epoch (x ∷ h) e calm settled limit first.moment first.is_in first.before q q_in q_late)
 
   moved_onwards : (y : ℕ) → Well y → moved first.moment.earlier y ≡ true → (q : Moment) → IsIn q (chronicle setting (e ∷ x ∷ h)) → limit < when q
       → moved q.earlier y ≡ true
   moved_onwards y well put =
-      onwards (λ l. moved l y ≡ true) (λ r r_in r_late is. (onward_at setting (x ∷ h) e calm settled r r_in r_late y well).moved_on is) put
+      onwards (λ l. moved l y ≡ true) (λ r r_in r_late is. (onward_at setting epoch (x ∷ h) e calm settled r r_in r_late y well).moved_on is) put
 
   acts_onwards : (y : ℕ) → Well y → acts_in first.moment.earlier y ≡ true → (q : Moment) → IsIn q (chronicle setting (e ∷ x ∷ h)) → limit < when q
       → acts_in q.earlier y ≡ true
   acts_onwards y well acts =
-      onwards (λ l. acts_in l y ≡ true) (λ r r_in r_late is. (onward_at setting (x ∷ h) e calm settled r r_in r_late y well).acts_on is) acts
+      onwards (λ l. acts_in l y ≡ true) (λ r r_in r_late is. (onward_at setting epoch (x ∷ h) e calm settled r r_in r_late y well).acts_on is) acts
 
-  unmoved_onwards : (y : ℕ) → Well y → IsOrdinary setting y → has_backup (the_plan setting) y ≡ false → moved first.moment.earlier y ≡ false → (q : Moment)
+  unmoved_onwards : (y : ℕ) → Well y → IsOrdinary setting epoch y → has_backup (the_plan setting epoch) y ≡ false → moved first.moment.earlier y ≡ false → (q : Moment)
       → IsIn q (chronicle setting (e ∷ x ∷ h)) → limit < when q → moved q.earlier y ≡ false
   unmoved_onwards y well ordinary none unmoved =
-      onwards (λ l. moved l y ≡ false) (λ r r_in r_late is. (onward_at setting (x ∷ h) e calm settled r r_in r_late y well).primary ordinary none ∙ is) unmoved
+      onwards (λ l. moved l y ≡ false) (λ r r_in r_late is. (onward_at setting epoch (x ∷ h) e calm settled r r_in r_late y well).primary ordinary none ∙ is) unmoved
 
   -- who acts is a chain of its own
   source_chain : (y k : ℕ) → Well y → ActsSince (top_of setting (x ∷ h) e) limit y → Reached y k
@@ -117,7 +117,7 @@ module _ (setting : Setting) (x : Event) (h : List Event) (e : Event) (calm : �
       (λ is. not_both (holds setting.net f thing_) (held setting.net f (failed_now (chronicle setting (x ∷ h))) thing_ inside is) none)
 
   -- the backup root
-  backup_root_chain : (y k : ℕ) → y ≡ (the_plan setting).backup_root → Well y → IsWithin setting f y k → k ≤ depth setting.net + 1 → Reached y k
+  backup_root_chain : (y k : ℕ) → y ≡ (the_plan setting epoch).backup_root → Well y → IsWithin setting epoch f y k → k ≤ depth setting.net + 1 → Reached y k
   backup_root_chain y k same well within few = by_acts (acts_in first.moment.earlier y) refl
     where
       well_b : Well plan.backup_root
@@ -126,7 +126,7 @@ module _ (setting : Setting) (x : Event) (h : List Event) (e : Event) (calm : �
       by_moved : acts_in first.moment.earlier y ≡ false → is_among (failed_now (chronicle setting (x ∷ h))) (thing.Device plan.root) ≡ false → (m : Bool)
           → moved first.moment.earlier y ≡ m → Reached y k
       by_moved idle kept false unmoved =
-          served setting x h e calm settled f inside limit from y k well within few first.moment first.is_in first.before
+          served setting epoch x h e calm settled f inside limit from y k well within few first.moment first.is_in first.before
           (heard_after (when first.moment) (heard_at first.moment.earlier y) (calm + passing setting.net)
           (first_up setting.net plan + tick_gap setting.net) limit
           (subst (λ z. when first.moment ≤ heard_at first.moment.earlier z + (first_up setting.net plan + tick_gap setting.net)) (sym same)
@@ -135,7 +135,7 @@ module _ (setting : Setting) (x : Event) (h : List Event) (e : Event) (calm : �
           first.late turned.first)
       by_moved idle kept true put =
           subst (λ z. Reached z k) (sym same)
-          (fallback_chain setting (failed_now (chronicle setting (x ∷ h))) (top_of setting (x ∷ h) e) limit fine scene_then late whole kept well_b
+          (fallback_chain setting epoch (failed_now (chronicle setting (x ∷ h))) (top_of setting (x ∷ h) e) limit fine scene_then late whole kept well_b
           (moved_onwards plan.backup_root well_b (subst (λ z. moved first.moment.earlier z ≡ true) same put)) k)
 
       by_root : acts_in first.moment.earlier y ≡ false → (b : Bool) → is_among (failed_now (chronicle setting (x ∷ h))) (thing.Device plan.root) ≡ b
@@ -152,21 +152,21 @@ module _ (setting : Setting) (x : Event) (h : List Event) (e : Event) (calm : �
 
   -- chains to where hops lead
   abbrev Again : ℕ → Type 0
-  Again k = (z j : ℕ) → k ≡ suc j → Fed setting.net (the_plan setting) f z → IsWell setting (failed_now (chronicle setting (x ∷ h))) z → IsWithin setting f z j
-      → Chain setting (failed_now (chronicle setting (x ∷ h))) (top_of setting (x ∷ h) e) limit z j
+  Again k = (z j : ℕ) → k ≡ suc j → Fed setting.net (the_plan setting epoch) f z → IsWell setting epoch (failed_now (chronicle setting (x ∷ h))) z → IsWithin setting epoch f z j
+      → Chain setting epoch (failed_now (chronicle setting (x ∷ h))) (top_of setting (x ∷ h) e) limit z j
 
   -- neither root nor backup root
-  module _ (y k : ℕ) (fed : Fed setting.net (the_plan setting) f y) (well : IsWell setting (failed_now (chronicle setting (x ∷ h))) y)
-      (within : IsWithin setting f y k) (few : k ≤ depth setting.net + 1) (ordinary : IsOrdinary setting y) (again : Again k) where
+  module _ (y k : ℕ) (fed : Fed setting.net (the_plan setting epoch) f y) (well : IsWell setting epoch (failed_now (chronicle setting (x ∷ h))) y)
+      (within : IsWithin setting epoch f y k) (few : k ≤ depth setting.net + 1) (ordinary : IsOrdinary setting epoch y) (again : Again k) where
     -- over its next hop
-    turned_chain : (put : Bool) (hop : Hop) → hop_on (the_plan setting) put y ≡ Some hop → (put ≡ true → is_hit setting.net (the_plan setting) f y ≡ true)
-        → (put ≡ false → backup_of (the_plan setting) y ≡ None)
+    turned_chain : (put : Bool) (hop : Hop) → hop_on (the_plan setting epoch) put y ≡ Some hop → (put ≡ true → is_hit setting.net (the_plan setting epoch) f y ≡ true)
+        → (put ≡ false → backup_of (the_plan setting epoch) y ≡ None)
         → ((q : Moment) → IsIn q (chronicle setting (e ∷ x ∷ h)) → limit < when q → moved q.earlier y ≡ put) → Reached y k
     turned_chain put hop is hit none stays =
         let n : IsNextFed setting.net plan f hop = next_fed setting.net plan fine f y well.known ordinary.0 ordinary.1 put hop is hit none fed in
         let p : IsPlanned setting.net plan y hop = planned_hop setting.net plan fine y well.known put hop is in
-        let s : Shorter setting f hop.parent k =
-        shorter setting f y k hop within (allowed setting.net plan f y put hop well.member ordinary.0 ordinary.1 is hit) in
+        let s : Shorter setting epoch f hop.parent k =
+        shorter setting epoch f y k hop within (allowed setting.net plan f y put hop well.member ordinary.0 ordinary.1 is hit) in
         let c : Reached hop.parent s.rest =
         again hop.parent s.rest s.is n.fed (record { known = p.within.0; member = p.member; self = spared (thing.Device hop.parent) n.parent }) s.within in
         record {
@@ -182,21 +182,21 @@ module _ (setting : Setting) (x : Event) (h : List Event) (e : Event) (calm : �
         longer : (n j : ℕ) → k ≡ suc j → n ≤ j + (depth setting.net + 1) → suc n ≤ k + (depth setting.net + 1)
         longer n j is' le = omega (arith, is', le)
 
-    on_backup_chain : moved first.moment.earlier y ≡ true → (o : Option Hop) → backup_of (the_plan setting) y ≡ o → Reached y k
+    on_backup_chain : moved first.moment.earlier y ≡ true → (o : Option Hop) → backup_of (the_plan setting epoch) y ≡ o → Reached y k
     on_backup_chain put None is =
-        let p : Place setting first.moment y = first_scene.place y well in
+        let p : Place setting epoch first.moment y = first_scene.place y well in
         absurd
         (not_both (has_backup plan y)
-        (moved_backed first.moment.earlier setting.net plan 1 y p.past p.there p.duty ordinary.0 ordinary.1 (sym p.moved_is ∙ put))
+        (moved_backed first.moment.earlier setting.net plan epoch y p.past p.there p.duty ordinary.0 ordinary.1 (sym p.moved_is ∙ put))
         (ap (λ o. map_or o false (λ (hop : Hop). true)) is))
     on_backup_chain put (Some hop) is =
         turned_chain true hop is
         (λ _. touched_is_hit setting.net f (failed_now (chronicle setting (x ∷ h))) (epath setting.net plan y) inside (first_scene.hit y well ordinary put))
         (λ never. cc) (moved_onwards y well put)
 
-    on_primary_chain : moved first.moment.earlier y ≡ false → (o : Option Hop) → backup_of (the_plan setting) y ≡ o → Reached y k
+    on_primary_chain : moved first.moment.earlier y ≡ false → (o : Option Hop) → backup_of (the_plan setting epoch) y ≡ o → Reached y k
     on_primary_chain unmoved (Some hop) is =
-        served setting x h e calm settled f inside limit from y k well within few first.moment first.is_in first.before
+        served setting epoch x h e calm settled f inside limit from y k well within few first.moment first.is_in first.before
         (heard_after (when first.moment) (heard_at first.moment.earlier y) (calm + passing setting.net) (wait_up setting.net plan + tick_gap setting.net) limit
         (first_scene.timeout y well ordinary (ap (λ o. map_or o false (λ (z : Hop). true)) is) unmoved) first.late turned.wait)
     on_primary_chain unmoved None is =
@@ -211,8 +211,8 @@ module _ (setting : Setting) (x : Event) (h : List Event) (e : Event) (calm : �
         by true put = on_backup_chain put (backup_of plan y) refl
         by false unmoved = on_primary_chain unmoved (backup_of plan y) refl
 
-  by_role : (y k : ℕ) → Fed setting.net (the_plan setting) f y → Well y → IsWithin setting f y k → k ≤ depth setting.net + 1 → Again k → (r b : Bool)
-      → is_root (the_plan setting) y ≡ r → is_backup_root (the_plan setting) y ≡ b → Reached y k
+  by_role : (y k : ℕ) → Fed setting.net (the_plan setting epoch) f y → Well y → IsWithin setting epoch f y k → k ≤ depth setting.net + 1 → Again k → (r b : Bool)
+      → is_root (the_plan setting epoch) y ≡ r → is_backup_root (the_plan setting epoch) y ≡ b → Reached y k
   by_role y k fed well within few again true b root backup =
       let same : plan.root ≡ y = eqb-true plan.root y root in
       let kept : is_among (failed_now (chronicle setting (x ∷ h))) (thing.Device plan.root) ≡ false =
@@ -230,14 +230,14 @@ module _ (setting : Setting) (x : Event) (h : List Event) (e : Event) (calm : �
   less : (k : ℕ) → suc k ≤ depth setting.net + 1 → k ≤ depth setting.net + 1
   less k le = omega (arith, le)
 
-  pub fed_chain : (k y : ℕ) → Fed setting.net (the_plan setting) f y → IsWell setting (failed_now (chronicle setting (x ∷ h))) y → IsWithin setting f y k
+  pub fed_chain : (k y : ℕ) → Fed setting.net (the_plan setting epoch) f y → IsWell setting epoch (failed_now (chronicle setting (x ∷ h))) y → IsWithin setting epoch f y k
       → k ≤ depth setting.net + 1
-      → Chain setting (failed_now (chronicle setting (x ∷ h))) (top_of setting (x ∷ h) e) limit y k
+      → Chain setting epoch (failed_now (chronicle setting (x ∷ h))) (top_of setting (x ∷ h) e) limit y k
   fed_chain zero y fed well within few =
       by_role y zero fed well within few (λ z j is fed_z well_z within_z. absurd (never j is)) (is_root plan y) (is_backup_root plan y) refl refl
   fed_chain (suc k) y fed well within few =
       by_role y (suc k) fed well within few
       (λ z j is fed_z well_z within_z.
       let same : k ≡ j = one_less k j is in
-      subst (λ n. Reached z n) same (fed_chain k z fed_z well_z (subst (λ n. IsWithin setting f z n) (sym same) within_z) (less k few)))
+      subst (λ n. Reached z n) same (fed_chain k z fed_z well_z (subst (λ n. IsWithin setting epoch f z n) (sym same) within_z) (less k few)))
       (is_root plan y) (is_backup_root plan y) refl refl

@@ -33,20 +33,20 @@ not_root_by : (net : Network) (plan : Plan) (y : ℕ) (hop : Hop) (hs : List Hop
 not_root_by net plan y hop hs true is = cc
 not_root_by net plan y hop hs false is = refl
 
-module _ (setting : Setting) (failed : List Thing) (top : Moment) (limit : ℕ) (fine : IsSound setting.net (the_plan setting)) where
+module _ (setting : Setting) (epoch : ℕ) (failed : List Thing) (top : Moment) (limit : ℕ) (fine : IsSound setting.net (the_plan setting epoch)) where
   abbrev plan : Plan
-  plan = the_plan setting
+  plan = the_plan setting epoch
 
   -- down a walk of which nothing failed and nobody moves
-  walk_led : (hs : List Hop) (z : ℕ) → walk setting.net (the_plan setting) z ≡ hs → z < length setting.net.devices → is_member (the_plan setting) z ≡ true
+  walk_led : (hs : List Hop) (z : ℕ) → walk setting.net (the_plan setting epoch) z ≡ hs → z < length setting.net.devices → is_member (the_plan setting epoch) z ≡ true
       → ((d : ℕ) → has (devices_of z hs) d ≡ true → is_among failed (thing.Device d) ≡ false)
       → ((l : ℕ) → has (links_of hs) l ≡ true → is_among failed (thing.Link l) ≡ false)
-      → ((d : ℕ) → has (devices_of z hs) d ≡ true → is_root (the_plan setting) d ≡ false → IsWell setting failed d → Remains top limit d false)
-      → Led setting failed top limit (the_plan setting).root z (length hs)
+      → ((d : ℕ) → has (devices_of z hs) d ≡ true → is_root (the_plan setting epoch) d ≡ false → IsWell setting epoch failed d → Remains top limit d false)
+      → Led setting epoch failed top limit (the_plan setting epoch).root z (length hs)
   walk_led [] z is known member devices links remains =
       let reach : is_root plan (end_of z (walk setting.net plan z)) ≡ true = implied (is_member plan z) _ (fine.rules.reaches z known) member in
       let root : is_root plan z ≡ true = subst (λ hs. is_root plan (end_of z hs) ≡ true) is reach in
-      subst (λ y. Led setting failed top limit (the_plan setting).root y 0) (eqb-true plan.root z root) at_source
+      subst (λ y. Led setting epoch failed top limit (the_plan setting epoch).root y 0) (eqb-true plan.root z root) at_source
   walk_led (hop ∷ hs) z is known member devices links remains =
       let forest : IsForest setting.net plan = forest_of setting.net plan fine.fits fine.guarded.structure in
       let other : is_root plan z ≡ false = not_root_by setting.net plan z hop hs (is_root plan z) is in
@@ -54,7 +54,7 @@ module _ (setting : Setting) (failed : List Thing) (top : Moment) (limit : ℕ) 
       let up : IsStep setting.net plan z first.0 = forest.up z first.0 known first.1 in
       let same = first_hop first.0 hop (walk setting.net plan first.0.parent) hs (sym up.walk ∙ is) in
       let primary : primary_of plan z ≡ Some hop = first.1 ∙ ap Some same.0 in
-      let well : IsWell setting failed z = record { known = known; member = member; self = devices z (or_left (nat_eq z z) _ (eq-eqb z z refl)) } in
+      let well : IsWell setting epoch failed z = record { known = known; member = member; self = devices z (or_left (nat_eq z z) _ (eq-eqb z z refl)) } in
       onward
       (walk_led hs hop.parent (ap (λ (k : Hop). walk setting.net plan k.parent) (sym same.0) ∙ same.1)
       (subst (λ (k : Hop). k.parent < length setting.net.devices) same.0 up.within) (subst (λ (k : Hop). is_member plan k.parent ≡ true) same.0 up.above)
@@ -65,38 +65,38 @@ module _ (setting : Setting) (failed : List Thing) (top : Moment) (limit : ℕ) 
       (remains z (or_left (nat_eq z z) _ (eq-eqb z z refl)) other well)
 
   module _ (scenes : (q : Moment) → IsIn q (upto top) → limit < when q
-      → Scene setting failed q) (before_top : limit < when top) (here : IsIn top (upto top))
-      (kept : is_among failed (thing.Device (the_plan setting).root) ≡ false)
-      (well : IsWell setting failed (the_plan setting).backup_root) (put : (q : Moment) → IsIn q (upto top) → limit < when q
-      → moved q.earlier (the_plan setting).backup_root ≡ true) where
+      → Scene setting epoch failed q) (before_top : limit < when top) (here : IsIn top (upto top))
+      (kept : is_among failed (thing.Device (the_plan setting epoch).root) ≡ false)
+      (well : IsWell setting epoch failed (the_plan setting epoch).backup_root) (put : (q : Moment) → IsIn q (upto top) → limit < when q
+      → moved q.earlier (the_plan setting epoch).backup_root ≡ true) where
     -- it does not act, since the root does
-    idle : (q : Moment) → IsIn q (upto top) → limit < when q → acts_in q.earlier (the_plan setting).backup_root ≡ false
+    idle : (q : Moment) → IsIn q (upto top) → limit < when q → acts_in q.earlier (the_plan setting epoch).backup_root ≡ false
     idle q q_in late = by (acts_in q.earlier plan.backup_root) refl
       where
         by : (b : Bool) → acts_in q.earlier plan.backup_root ≡ b → acts_in q.earlier plan.backup_root ≡ false
         by false is = is
         by true is = absurd (not_both (is_among failed (thing.Device plan.root)) ((scenes q q_in late).takeover is) kept)
 
-    stays : (hop : Hop) → backup_of (the_plan setting) (the_plan setting).backup_root ≡ Some hop → (d : ℕ)
-        → has (devices_of hop.parent (walk setting.net (the_plan setting) hop.parent)) d ≡ true → is_root (the_plan setting) d ≡ false → IsWell setting failed d
+    stays : (hop : Hop) → backup_of (the_plan setting epoch) (the_plan setting epoch).backup_root ≡ Some hop → (d : ℕ)
+        → has (devices_of hop.parent (walk setting.net (the_plan setting epoch) hop.parent)) d ≡ true → is_root (the_plan setting epoch) d ≡ false → IsWell setting epoch failed d
         → Remains top limit d false
     stays hop is d on root well_d q q_in late =
-        let sc : Scene setting failed q = scenes q q_in late in
+        let sc : Scene setting epoch failed q = scenes q q_in late in
         (sc.stays well (put q q_in late) (idle q q_in late) d (on_fallback setting.net plan hop d is on root) well_d, by (is_backup_root plan d) refl)
       where
         by : (b : Bool) → is_backup_root plan d ≡ b → acts_in q.earlier d ≡ false
         by true backup = subst (λ z. acts_in q.earlier z ≡ false) (eqb-true plan.backup_root d backup) (idle q q_in late)
         by false backup = (scenes q q_in late).ordinary d well_d (root, backup)
 
-    pub fallback_chain : (k : ℕ) → Chain setting failed top limit (the_plan setting).backup_root k
+    pub fallback_chain : (k : ℕ) → Chain setting epoch failed top limit (the_plan setting epoch).backup_root k
     fallback_chain k =
         let b = the_hop (backup_of plan plan.backup_root) (falls setting.net plan fine.guarded.structure fine.fits.backup_root) in
         let hop : Hop = b.0 in
         let p : IsPlanned setting.net plan plan.backup_root hop = planned_hop setting.net plan fine plan.backup_root fine.fits.backup_root true hop b.1 in
-        let sc : Scene setting failed top = scenes top here before_top in
+        let sc : Scene setting epoch failed top = scenes top here before_top in
         let sound_ = sc.fallback well (put top here before_top) in
         let hs : List Hop = walk setting.net plan hop.parent in
-        let led : Led setting failed top limit plan.root hop.parent (length hs) =
+        let led : Led setting epoch failed top limit plan.root hop.parent (length hs) =
         walk_led hs hop.parent refl p.within.0 p.member (λ d on. device_fine hop b.1 sound_.0 d on (is_root plan d) refl)
         (λ l on. sound_.1 l (link_of_fallback setting.net plan hop l b.1 (or_right (nat_eq l hop.link) (has (links_of hs) l) on))) (stays hop b.1) in
         record {

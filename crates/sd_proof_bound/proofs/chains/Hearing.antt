@@ -128,22 +128,22 @@ heard_by q d is = by q.step.act refl is
     by (Asks m counter) act h = cc
     by Passes act h = cc
 
-module _ (setting : Setting) (x : Event) (h : List Event) (e : Event) (calm : ℕ) (settled : IsSettled setting (x ∷ h) e calm) (f : DomainId)
+module _ (setting : Setting) (epoch : ℕ) (x : Event) (h : List Event) (e : Event) (calm : ℕ) (settled : IsSettled setting epoch (x ∷ h) e calm) (f : DomainId)
     (inside : list_all (holds setting.net f) (failed_now (chronicle setting (x ∷ h))) ≡ true) where
   abbrev steps : List Step
   steps = chronicle setting (x ∷ h)
 
   chronicle_ : IsChronicle setting (chronicle setting (e ∷ x ∷ h))
-  chronicle_ = all_chronicle setting (x ∷ h) e calm settled
+  chronicle_ = all_chronicle setting epoch (x ∷ h) e calm settled
 
   -- what a device heard is of the plan
-  pub receipt_epoch : (p : Moment) → IsIn p (chronicle setting (x ∷ h)) → calm < when p → (y : ℕ) → IsWell setting (failed_now (chronicle setting (x ∷ h))) y
-      → (b : HeardBy p y) → b.message.epoch ≡ 1
+  pub receipt_epoch : (p : Moment) → IsIn p (chronicle setting (x ∷ h)) → calm < when p → (y : ℕ) → IsWell setting epoch (failed_now (chronicle setting (x ∷ h))) y
+      → (b : HeardBy p y) → b.message.epoch ≡ epoch
   receipt_epoch p here late y well b =
       let n : Following p (top_of setting (x ∷ h) e) = following p (next_step setting steps e) steps here in
       let t : IsBefore p n.moment = subst (λ l. Tail (upto p) l) (sym n.earlier_is) whole in
       let goes : when p ≤ when n.moment = before_is_earlier setting p n.moment (tail_chronicle setting n.is_in chronicle_) t in
-      let place : Place setting n.moment y = (scene_at setting (x ∷ h) e calm settled n.moment n.is_in (omega (arith, late, goes))).place y well in
+      let place : Place setting epoch n.moment y = (scene_at setting epoch (x ∷ h) e calm settled n.moment n.is_in (omega (arith, late, goes))).place y well in
       let there : past_in (upto p) y ≡ Some (past_after b.past (Receive b.link b.message b.counter)) =
       past_after_call p y (Receive b.link b.message b.counter) b.past b.act b.there in
       let same : past_after b.past (Receive b.link b.message b.counter) ≡ place.past =
@@ -151,41 +151,41 @@ module _ (setting : Setting) (x : Event) (h : List Event) (e : Event) (calm : �
       sym (passes_on b.past b.link b.message b.counter b.edge b.over).1 ∙ ap epoch_now same
       ∙ ap (λ (o : Option Duty). map_or o 0 (λ (u : Duty). u.epoch)) place.duty
 
-  module _ (limit : ℕ) (from : calm ≤ limit) (y k : ℕ) (well : IsWell setting (failed_now (chronicle setting (x ∷ h))) y) (within : IsWithin setting f y k)
+  module _ (limit : ℕ) (from : calm ≤ limit) (y k : ℕ) (well : IsWell setting epoch (failed_now (chronicle setting (x ∷ h))) y) (within : IsWithin setting epoch f y k)
       (few : k ≤ depth setting.net + 1)
       (p : Moment) (here : IsIn p (chronicle setting (x ∷ h))) (late : calm + passing setting.net < when p) (by : when p ≤ limit) (b : HeardBy p y) where
     after_calm : calm < when p
     after_calm = omega (arith, late)
 
-    epoch : b.message.epoch ≡ 1
-    epoch = receipt_epoch p here after_calm y well b
+    of_epoch : b.message.epoch ≡ epoch
+    of_epoch = receipt_epoch p here after_calm y well b
 
-    traced : Traced setting b.message.stamp 1 p y
+    traced : Traced setting b.message.stamp epoch p y
     traced =
-        subst (λ n. Traced setting b.message.stamp n p y) epoch
+        subst (λ n. Traced setting b.message.stamp n p y) of_epoch
         (accepted_traced setting (chronicle setting (e ∷ x ∷ h)) chronicle_
         (premises_of setting (seen_of (chronicle setting (e ∷ x ∷ h))) settled.comes.clean.premises).delay p
         (behind here) y b.link b.message b.counter b.past b.edge b.there b.act b.over)
 
     -- it was emitted after the failures, and came over few hops
-    came_late : Outcome setting (x ∷ h) e calm settled traced.first p traced.hops (k + (depth setting.net + 1))
+    came_late : Outcome setting epoch (x ∷ h) e calm settled traced.first p traced.hops (k + (depth setting.net + 1))
         → (calm < when traced.first) × (traced.hops ≤ k + (depth setting.net + 1))
     came_late (inl both) = both
     came_late (inr soon) =
         let most : (k + (depth setting.net + 1) + 1) * delay setting.net ≤ passing setting.net = mul-le-mul_right (delay setting.net) (omega (arith, few)) in
         absurd (omega (arith, soon, late, most))
 
-    pub served_from : Chain setting (failed_now (chronicle setting (x ∷ h))) (top_of setting (x ∷ h) e) limit y k
+    pub served_from : Chain setting epoch (failed_now (chronicle setting (x ∷ h))) (top_of setting (x ∷ h) e) limit y k
     served_from =
-        let outcome = came_late (trace_short setting (x ∷ h) e calm settled f inside traced.trace (behind here) after_calm k within) in
-        let emitted = trace_emits setting b.message.stamp 1 traced.first traced.source traced.hops p y traced.trace in
-        let started : IsIn traced.first (upto p) = trace_first setting b.message.stamp 1 traced.first traced.source traced.hops p y traced.trace in
+        let outcome = came_late (trace_short setting epoch (x ∷ h) e calm settled f inside traced.trace (behind here) after_calm k within) in
+        let emitted = trace_emits setting b.message.stamp epoch traced.first traced.source traced.hops p y traced.trace in
+        let started : IsIn traced.first (upto p) = trace_first setting b.message.stamp epoch traced.first traced.source traced.hops p y traced.trace in
         let first_in : IsIn traced.first (chronicle setting (x ∷ h)) = tail_trans started here in
-        let source_well : IsWell setting (failed_now (chronicle setting (x ∷ h))) traced.source =
-        well_emitter setting (x ∷ h) e calm settled traced.first first_in outcome.0 traced.source emitted.0 emitted.1 in
-        let acting = acts_after setting (x ∷ h) e calm settled traced.first outcome.0 traced.source emitted.0 emitted.1 source_well in
+        let source_well : IsWell setting epoch (failed_now (chronicle setting (x ∷ h))) traced.source =
+        well_emitter setting epoch (x ∷ h) e calm settled traced.first first_in outcome.0 traced.source emitted.0 emitted.1 in
+        let acting = acts_after setting epoch (x ∷ h) e calm settled traced.first outcome.0 traced.source emitted.0 emitted.1 source_well in
         let stands : Stands traced.trace (top_of setting (x ∷ h) e) =
-        stands_for_good setting (x ∷ h) e calm settled b.message.stamp traced.first traced.source outcome.0 source_well acting traced.trace (few_hops outcome.1)
+        stands_for_good setting epoch (x ∷ h) e calm settled b.message.stamp traced.first traced.source outcome.0 source_well acting traced.trace (few_hops outcome.1)
         (top_of setting (x ∷ h) e) whole here in
         record {
           source = traced.source;
@@ -193,7 +193,7 @@ module _ (setting : Setting) (x : Event) (h : List Event) (e : Event) (calm : �
           acts = λ q q_in q_late. acting q q_in
               (tail_trans started (earlier_is_before setting (chronicle setting (e ∷ x ∷ h)) p q chronicle_ (behind here) q_in (omega (arith, by, q_late))));
           hops = traced.hops;
-          led = led_of setting (x ∷ h) e calm settled traced.trace outcome.0 (top_of setting (x ∷ h) e) whole here stands limit by;
+          led = led_of setting epoch (x ∷ h) e calm settled traced.trace outcome.0 (top_of setting (x ∷ h) e) whole here stands limit by;
           short = outcome.1;
         }
       where
@@ -201,10 +201,10 @@ module _ (setting : Setting) (x : Event) (h : List Event) (e : Event) (calm : �
         few_hops le = omega (arith, le, few)
 
   -- a device that heard late enough by an event is served from then on
-  pub served : (limit : ℕ) → calm ≤ limit → (y k : ℕ) → IsWell setting (failed_now (chronicle setting (x ∷ h))) y → IsWithin setting f y k
+  pub served : (limit : ℕ) → calm ≤ limit → (y k : ℕ) → IsWell setting epoch (failed_now (chronicle setting (x ∷ h))) y → IsWithin setting epoch f y k
       → k ≤ depth setting.net + 1
       → (q : Moment) → IsIn q (chronicle setting (e ∷ x ∷ h)) → latest_reference (seen_of q.earlier) ≤ limit → calm + passing setting.net < heard_at q.earlier y
-      → Chain setting (failed_now (chronicle setting (x ∷ h))) (top_of setting (x ∷ h) e) limit y k
+      → Chain setting epoch (failed_now (chronicle setting (x ∷ h))) (top_of setting (x ∷ h) e) limit y k
   served limit from y k well within few q q_in before_ late =
       let a : HeardAt q.earlier y = heard_moment q.earlier y (calm + passing setting.net) late in
       let is = a.at in
@@ -212,8 +212,8 @@ module _ (setting : Setting) (x : Event) (h : List Event) (e : Event) (calm : �
       let p_late : calm + passing setting.net < when a.moment = omega (arith, late, is) in
       let by : when a.moment ≤ latest_reference (seen_of q.earlier) =
       no_later setting a.moment q.earlier (tail_chronicle setting (rest_of q_in) chronicle_) a.is_in in
-      let sc : Scene setting (failed_now (chronicle setting (x ∷ h))) a.moment =
-      scene_at setting (x ∷ h) e calm settled a.moment (behind p_in) (omega (arith, p_late)) in
+      let sc : Scene setting epoch (failed_now (chronicle setting (x ∷ h))) a.moment =
+      scene_at setting epoch (x ∷ h) e calm settled a.moment (behind p_in) (omega (arith, p_late)) in
       let heard : does hears a.moment.earlier a.moment.step y ≡ true =
       chosen (makes y a.moment.step.seen.event) (does hears a.moment.earlier a.moment.step y) a.marks (sc.unmade y well) in
       served_from limit from y k well within few a.moment p_in p_late (omega (arith, by, before_)) (heard_by a.moment y heard)

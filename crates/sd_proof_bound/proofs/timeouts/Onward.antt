@@ -28,7 +28,7 @@ use Rattle.sd_proof_safety.proofs.invariant.Facts.{IsSound}
 use Rattle.sd_proof_safety.proofs.invariant.Sides.{not_both}
 use Rattle.sd_proof_safety.specs.messages.Moments.{whole, behind, Moment, when, IsIn}
 use Rattle.sd_proof_safety.proofs.messages.Receipts.{call_is}
-use Rattle.sd_proof_safety.proofs.messages.Tails.{step_time, history_chronicle}
+use Rattle.sd_proof_safety.proofs.messages.Tails.{step_time, history_chronicle, before_is_earlier}
 use Rattle.sd_proof_safety.specs.timers.Times.{AreTimed, heard_in, moved_in}
 use Rattle.sd_proof_safety.proofs.timers.NotEarly.{IsTick, move_waited, move_not_early, takeover_not_early}
 use Rattle.sd_proof_safety.proofs.timers.Turns.{IsMove, is_move, IsTakeover, is_takeover as takes_over}
@@ -109,10 +109,10 @@ later_than s l r h long low_ by = omega (arith, long, low_, by)
 later_than_both : (s l r h m : ℕ) → s < l → l ≤ r - max h m → r ≤ h + s → ⊥
 later_than_both s l r h m long low_ by = omega (arith, long, low_, by)
 
-two_numbers : (n : ℕ) → n ≡ 1 → n + 1 ≡ 1 → ⊥
-two_numbers n one two = omega (arith, one, two)
+two_numbers : (n k : ℕ) → n ≡ k → n + 1 ≡ k → ⊥
+two_numbers n k one two = omega (arith, one, two)
 
-module _ (setting : Setting) (x : Event) (h : List Event) (e next : Event) (calm : ℕ) (settled : IsSettled setting (e ∷ x ∷ h) next calm)
+module _ (setting : Setting) (epoch : ℕ) (x : Event) (h : List Event) (e next : Event) (calm : ℕ) (settled : IsSettled setting epoch (e ∷ x ∷ h) next calm)
     (late : calm < reference_of e) where
   abbrev steps : List Step
   steps = chronicle setting (x ∷ h)
@@ -121,7 +121,7 @@ module _ (setting : Setting) (x : Event) (h : List Event) (e next : Event) (calm
   after_ = chronicle setting (e ∷ x ∷ h)
 
   same_failed : failed_now (chronicle setting (e ∷ x ∷ h)) ≡ failed_now (chronicle setting (x ∷ h))
-  same_failed = failed_then setting (e ∷ x ∷ h) next calm settled (top_of setting (x ∷ h) e) (behind whole) late
+  same_failed = failed_then setting epoch (e ∷ x ∷ h) next calm settled (top_of setting (x ∷ h) e) (behind whole) late
 
   later_event : calm < reference_of next
   later_event =
@@ -133,16 +133,16 @@ module _ (setting : Setting) (x : Event) (h : List Event) (e next : Event) (calm
   timed_ : AreTimed setting (chronicle setting (e ∷ x ∷ h))
   timed_ = steps_timed setting e (x ∷ h) next settled.comes
 
-  fine : IsSound setting.net (the_plan setting)
-  fine = subst (λ n. IsSound setting.net (plan_numbered setting n)) (era_is setting (x ∷ h) e calm (settled_before setting x h e next calm settled))
-      (sound setting x h e (settled_before setting x h e next calm settled).comes)
+  fine : IsSound setting.net (the_plan setting epoch)
+  fine = subst (λ n. IsSound setting.net (plan_numbered setting n)) (era_is setting epoch (x ∷ h) e calm (settled_before setting epoch x h e next calm settled late))
+      (sound setting x h e (settled_before setting epoch x h e next calm settled late).comes)
 
-  module _ (y : ℕ) (well : IsWell setting (failed_now (chronicle setting (x ∷ h))) y) where
-    now_ : Place setting (top_of setting (x ∷ h) e) y
-    now_ = place_now setting x h e calm (settled_before setting x h e next calm settled).way late y well
+  module _ (y : ℕ) (well : IsWell setting epoch (failed_now (chronicle setting (x ∷ h))) y) where
+    now_ : Place setting epoch (top_of setting (x ∷ h) e) y
+    now_ = place_now setting epoch x h e calm (settled_before setting epoch x h e next calm settled late).way late y well
 
-    next_ : Place setting (top_of setting (e ∷ x ∷ h) next) y
-    next_ = place_now setting e (x ∷ h) next calm settled.way later_event y (subst (λ failed. IsWell setting failed y) (sym same_failed) well)
+    next_ : Place setting epoch (top_of setting (e ∷ x ∷ h) next) y
+    next_ = place_now setting epoch e (x ∷ h) next calm settled.way later_event y (subst (λ failed. IsWell setting epoch failed y) (sym same_failed) well)
 
     -- what the event called, where it called the device
     record IsCalled (past : Past) (call : Call) : Type 0 where
@@ -158,13 +158,13 @@ module _ (setting : Setting) (x : Event) (h : List Event) (e next : Event) (calm
     takes_none past call there then_ None is = is
     takes_none past call there then_ (Some u) is =
         let ahead : IsAhead setting steps y past u =
-        always_ahead setting (x ∷ h) settled.comes.fair (clean setting x h e (settled_before setting x h e next calm settled).comes)
-        (settled_before setting x h e next calm settled).comes.before y past now_.up there u (takes_given past call u is) in
-        let number : u.epoch ≡ 1 =
+        always_ahead setting (x ∷ h) settled.comes.fair (clean setting x h e (settled_before setting epoch x h e next calm settled late).comes)
+        (settled_before setting epoch x h e next calm settled late).comes.before y past now_.up there u (takes_given past call u is) in
+        let number : u.epoch ≡ epoch =
         ap (λ (o : Option Duty). map_or (map_or (option_map Some o) (duty_now past) (λ told. told)) 0 (λ (v : Duty). v.epoch)) (sym is)
         ∙ ap (λ (p : Past). map_or (duty_now p) 0 (λ (v : Duty). v.epoch)) (some_is (sym then_ ∙ next_.there))
         ∙ ap (λ (o : Option Duty). map_or o 0 (λ (v : Duty). v.epoch)) next_.duty in
-        absurd (two_numbers (era steps) (era_is setting (x ∷ h) e calm (settled_before setting x h e next calm settled)) (sym ahead.number ∙ number))
+        absurd (two_numbers (era steps) epoch (era_is setting epoch (x ∷ h) e calm (settled_before setting epoch x h e next calm settled late)) (sym ahead.number ∙ number))
 
     -- by what happened to the device
     by_went : (P : Past → Past → Type 0) → ((past : Past) → P past past) → ((past : Past) (call : Call) → IsCalled past call → P past (words.after past call))
@@ -172,7 +172,7 @@ module _ (setting : Setting) (x : Event) (h : List Event) (e next : Event) (calm
     by_went P same calls_ = go (went setting e (x ∷ h) y)
       where
         go : Went setting e (x ∷ h) y → P now_.past next_.past
-        go (made makes_) = absurd (not_both _ makes_ ((scene setting x h e calm (settled_before setting x h e next calm settled).way late).unmade y well))
+        go (made makes_) = absurd (not_both _ makes_ ((scene setting epoch x h e calm (settled_before setting epoch x h e next calm settled late).way late).unmade y well))
         go (alone unchanged did) =
             subst (λ p. P now_.past p) (some_is (sym now_.there ∙ sym unchanged ∙ next_.there)) (same now_.past)
         go (called past call act there then_) =
@@ -198,7 +198,7 @@ module _ (setting : Setting) (x : Event) (h : List Event) (e next : Event) (calm
         → IsTick setting (next_step setting (chronicle setting (x ∷ h)) e) (chronicle setting (x ∷ h)) y counter past
     tick_at past call counter c is = record { before = timed_.0; now = timed_.1; act = c.act ∙ ap (Calls y) is; there = c.there }
 
-    duty_at : (past : Past) → past_in (chronicle setting (x ∷ h)) y ≡ Some past → duty_now past ≡ Some (duty_of setting.net (the_plan setting) 1 y)
+    duty_at : (past : Past) → past_in (chronicle setting (x ∷ h)) y ≡ Some past → duty_now past ≡ Some (duty_of setting.net (the_plan setting epoch) epoch y)
     duty_at past there = ap duty_now (some_is (sym there ∙ now_.there)) ∙ now_.duty
 
     -- who moves had been silent for longer than W
@@ -211,10 +211,10 @@ module _ (setting : Setting) (x : Event) (h : List Event) (e next : Event) (calm
         move_not_early setting (next_step setting steps e) steps y m.counter past (rate_is_low setting.net y settled.comes.fair.network)
         (tick_at past call m.counter c m.tick) w.0 w.1 w.2 in
         let least : least_low setting.net w.1 ≤ low (rates_of setting.net y) w.1 = least_is_low setting.net y w.1 well.known in
-        let waits : wait_to_move (duty_of setting.net (the_plan setting) 1 y) ≡ Some w.1 =
+        let waits : wait_to_move (duty_of setting.net (the_plan setting epoch) epoch y) ≡ Some w.1 =
         ap wait_to_move (some_is (sym (duty_at past c.there) ∙ w.2.has)) ∙ w.2.waits in
         let long : silence setting.net < least_low setting.net w.1 =
-        wait_long setting.net (the_plan setting) fine 1 y w.1 (is_root (the_plan setting) y) (is_backup_root (the_plan setting) y) refl refl waits in
+        wait_long setting.net (the_plan setting epoch) fine epoch y w.1 (is_root (the_plan setting epoch) y) (is_backup_root (the_plan setting epoch) y) refl refl waits in
         later_than (silence setting.net) (low (rates_of setting.net y) w.1) (reference_of e) (heard_in steps y) (omega (arith, long, least)) low_
         (subst (λ t. reference_of e ≤ t + silence setting.net) (heard_is setting steps timed_.0 y) soon)
 
@@ -222,20 +222,20 @@ module _ (setting : Setting) (x : Event) (h : List Event) (e next : Event) (calm
         → transition_of past call ≡ TookOver → ⊥
     no_takeover soon past call c is =
         let t : IsTakeover past call = takes_over past call is in
-        let low_ : low (rates_of setting.net y) (the_plan setting).wait_second ≤ reference_of e - max (heard_in steps y) (moved_in steps y) =
+        let low_ : low (rates_of setting.net y) (the_plan setting epoch).wait_second ≤ reference_of e - max (heard_in steps y) (moved_in steps y) =
         takeover_not_early setting (next_step setting steps e) steps y t.counter past (rate_is_low setting.net y settled.comes.fair.network)
-        (tick_at past call t.counter c t.tick) (duty_of setting.net (the_plan setting) 1 y) (duty_at past c.there) t.takes in
-        let least : least_low setting.net (the_plan setting).wait_second ≤ low (rates_of setting.net y) (the_plan setting).wait_second =
-        least_is_low setting.net y (the_plan setting).wait_second well.known in
-        let long : silence setting.net < second_low setting.net (the_plan setting) = a4_second fine.timed in
-        later_than_both (silence setting.net) (low (rates_of setting.net y) (the_plan setting).wait_second) (reference_of e) (heard_in steps y)
+        (tick_at past call t.counter c t.tick) (duty_of setting.net (the_plan setting epoch) epoch y) (duty_at past c.there) t.takes in
+        let least : least_low setting.net (the_plan setting epoch).wait_second ≤ low (rates_of setting.net y) (the_plan setting epoch).wait_second =
+        least_is_low setting.net y (the_plan setting epoch).wait_second well.known in
+        let long : silence setting.net < second_low setting.net (the_plan setting epoch) = a4_second fine.timed in
+        later_than_both (silence setting.net) (low (rates_of setting.net y) (the_plan setting epoch).wait_second) (reference_of e) (heard_in steps y)
         (moved_in steps y) (omega (arith, long, least)) low_
         (subst (λ k. reference_of e ≤ k + silence setting.net) (heard_is setting steps timed_.0 y) soon)
 
     no_tick : (a b : Call) (l : ℕ) (m : Message) (n k : ℕ) → a ≡ Receive l m n → a ≡ Tick k → ⊥
     no_tick a b l m n k one two = let clash : Receive l m n ≡ Tick k = sym one ∙ two in cc
 
-    pub onward : IsOnward setting (top_of setting (x ∷ h) e) y
+    pub onward : IsOnward setting epoch (top_of setting (x ∷ h) e) y
     onward =
         record {
           moved_on = λ put.
@@ -257,24 +257,33 @@ module _ (setting : Setting) (x : Event) (h : List Event) (e next : Event) (calm
               moved_same (λ past call c is.
               let m : IsMove past call = is_move past call is in
               let w = move_waited past m.counter m.moves in
-              not_both (has_backup (the_plan setting) y)
-              (backed_by setting.net (the_plan setting) 1 y w.1 ordinary.0 ordinary.1
+              not_both (has_backup (the_plan setting epoch) y)
+              (backed_by setting.net (the_plan setting epoch) epoch y w.1 ordinary.0 ordinary.1
               (ap wait_to_move (some_is (sym (duty_at past c.there) ∙ w.2.has)) ∙ w.2.waits)).0 none);
         }
 
--- the events of a settled run in turn
-onward_in : (setting : Setting) (history : List Event) (next : Event) (calm : ℕ) → IsSettled setting history next calm → (q : Moment)
-    → IsIn q (chronicle setting history) → calm < when q → (y : ℕ) → IsWell setting (failed_now q.earlier) y → IsOnward setting q y
-onward_in setting [] next calm settled q here late y well = elim here [ ]
-onward_in setting (e ∷ []) next calm settled q whole late y well =
-    let started : reference_of e + setting.net.params.tick ≤ calm = settled.way.started in absurd (omega (arith, started, late))
-onward_in setting (e ∷ []) next calm settled q (behind t) late y well = elim t [ ]
-onward_in setting (e ∷ x ∷ h) next calm settled q whole late y well = onward setting x h e next calm settled late y well
-onward_in setting (e ∷ x ∷ h) next calm settled q (behind t) late y well =
-    onward_in setting (x ∷ h) e calm (settled_before setting x h e next calm settled) q t late y well
+-- an event that comes after one is later too
+reached : (setting : Setting) (epoch : ℕ) (x : Event) (h : List Event) (e next : Event) (calm : ℕ) → IsSettled setting epoch (e ∷ x ∷ h) next calm
+    → (q : Moment) → IsIn q (chronicle setting (x ∷ h)) → calm < when q → calm < reference_of e
+reached setting epoch x h e next calm settled q t late =
+    let goes : when q ≤ reference_of e =
+    before_is_earlier setting q (top_of setting (x ∷ h) e) (history_chronicle setting (e ∷ x ∷ h) settled.comes.clean.is.0) t in
+    omega (arith, late, goes)
 
-pub onward_at : (setting : Setting) (history : List Event) (next : Event) (calm : ℕ) → IsSettled setting history next calm → (q : Moment)
-    → IsIn q (chronicle setting history) → calm < when q → (y : ℕ) → IsWell setting (failed_now (chronicle setting history)) y → IsOnward setting q y
-onward_at setting history next calm settled q here late y well =
-    onward_in setting history next calm settled q here late y
-    (subst (λ failed. IsWell setting failed y) (failed_then setting history next calm settled q (behind here) late) well)
+-- the events of a settled run in turn
+onward_in : (setting : Setting) (epoch : ℕ) (history : List Event) (next : Event) (calm : ℕ) → IsSettled setting epoch history next calm → (q : Moment)
+    → IsIn q (chronicle setting history) → calm < when q → (y : ℕ) → IsWell setting epoch (failed_now q.earlier) y → IsOnward setting epoch q y
+onward_in setting epoch [] next calm settled q here late y well = elim here [ ]
+onward_in setting epoch (e ∷ []) next calm settled q whole late y well =
+    let begun : reference_of e ≤ calm = settled.way.begun in absurd (omega (arith, begun, late))
+onward_in setting epoch (e ∷ []) next calm settled q (behind t) late y well = elim t [ ]
+onward_in setting epoch (e ∷ x ∷ h) next calm settled q whole late y well = onward setting epoch x h e next calm settled late y well
+onward_in setting epoch (e ∷ x ∷ h) next calm settled q (behind t) late y well =
+    onward_in setting epoch (x ∷ h) e calm (settled_before setting epoch x h e next calm settled (reached setting epoch x h e next calm settled q t late)) q t late
+    y well
+
+pub onward_at : (setting : Setting) (epoch : ℕ) (history : List Event) (next : Event) (calm : ℕ) → IsSettled setting epoch history next calm → (q : Moment)
+    → IsIn q (chronicle setting history) → calm < when q → (y : ℕ) → IsWell setting epoch (failed_now (chronicle setting history)) y → IsOnward setting epoch q y
+onward_at setting epoch history next calm settled q here late y well =
+    onward_in setting epoch history next calm settled q here late y
+    (subst (λ failed. IsWell setting epoch failed y) (failed_then setting epoch history next calm settled q (behind here) late) well)

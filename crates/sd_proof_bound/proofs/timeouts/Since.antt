@@ -13,7 +13,7 @@ use Rattle.sd_proof_safety.proofs.Shared.{tail_of}
 use Rattle.sd_proof_bound.specs.timeouts.Settled.{IsSettled}
 use Rattle.sd_proof_bound.proofs.timeouts.Settled.{all_chronicle, not_after}
 
-module _ (setting : Setting) (history : List Event) (e : Event) (calm : ℕ) (settled : IsSettled setting history e calm) (P : List Step → Type 0)
+module _ (setting : Setting) (epoch : ℕ) (history : List Event) (e : Event) (calm : ℕ) (settled : IsSettled setting epoch history e calm) (P : List Step → Type 0)
     (keeps : (r : Moment) → IsIn r (chronicle setting history) → calm < when r → P r.earlier → P (upto r)) where
   kept_by : (q : Moment) → IsIn q (chronicle setting (e ∷ history)) → calm < when q → P q.earlier → (s : Step) (steps : List Step)
       → IsIn (record { step = s; earlier = steps }) (chronicle setting (e ∷ history)) → Tail q.earlier steps → P steps
@@ -22,7 +22,7 @@ module _ (setting : Setting) (history : List Event) (e : Event) (calm : ℕ) (se
       let r : Moment = record { step = s'; earlier = xs } in
       let r_in : IsIn r (chronicle setting history) = tail_rest here in
       let goes : when q ≤ when r =
-      not_after setting (chronicle setting (e ∷ history)) q r (all_chronicle setting history e calm settled) q_in (behind r_in) t in
+      not_after setting (chronicle setting (e ∷ history)) q r (all_chronicle setting epoch history e calm settled) q_in (behind r_in) t in
       keeps r r_in (omega (arith, late, goes)) (kept_by q q_in late holds s' xs (behind r_in) t)
 
   pub kept_since : (q : Moment) → IsIn q (chronicle setting (e ∷ history)) → calm < when q → P q.earlier → (r : Moment)
@@ -46,15 +46,15 @@ first_past limit (s ∷ earlier) less = go (cases_lt limit (latest_reference (se
     go (inr le) rest = record { moment = record { step = s; earlier = earlier }; is_in = whole; late = less; before = le }
 
 -- each event that is later comes no earlier than it
-pub from_first : (setting : Setting) (history : List Event) (e : Event) (calm : ℕ) → IsSettled setting history e calm → (limit : ℕ) → (q : Moment)
+pub from_first : (setting : Setting) (epoch : ℕ) (history : List Event) (e : Event) (calm : ℕ) → IsSettled setting epoch history e calm → (limit : ℕ) → (q : Moment)
     → IsIn q (chronicle setting (e ∷ history)) → latest_reference (seen_of q.earlier) ≤ limit
     → (r : Moment) → IsIn r (chronicle setting (e ∷ history)) → limit < when r → Tail q.earlier r.earlier
-from_first setting history e calm settled limit q q_in before_ r r_in late = go (ordered (chronicle setting (e ∷ history)) q r q_in r_in)
+from_first setting epoch history e calm settled limit q q_in before_ r r_in late = go (ordered (chronicle setting (e ∷ history)) q r q_in r_in)
   where
     go : Order q r → Tail q.earlier r.earlier
     go (comes_before t) = rest_of t
     go (are_same equal) = subst (λ l. Tail l r.earlier) (sym (ap tail_of equal)) whole
     go (comes_after t) =
         let by : when r ≤ latest_reference (seen_of q.earlier) =
-        no_later setting r q.earlier (tail_chronicle setting (rest_of q_in) (all_chronicle setting history e calm settled)) t in
+        no_later setting r q.earlier (tail_chronicle setting (rest_of q_in) (all_chronicle setting epoch history e calm settled)) t in
         absurd (omega (arith, by, before_, late))

@@ -78,19 +78,19 @@ allowed net plan f y put hop member root backup is caused =
         (listed_last hop (backup_of plan y) is'))
 
 -- walks from where a hop leads are shorter
-pub record Shorter (setting : Setting) (f : DomainId) (z k : ℕ) : Type 0 where
+pub record Shorter (setting : Setting) (epoch : ℕ) (f : DomainId) (z k : ℕ) : Type 0 where
   pub rest : ℕ
   pub is : k ≡ suc rest
-  pub within : IsWithin setting f z rest
+  pub within : IsWithin setting epoch f z rest
 
-pub shorter : (setting : Setting) (f : DomainId) (y k : ℕ) (hop : Hop) → IsWithin setting f y k
-    → list_any (same_hop hop) (hops_of setting.net (the_plan setting) f y) ≡ true → Shorter setting f hop.parent k
-shorter setting f y k hop within on = by k refl
+pub shorter : (setting : Setting) (epoch : ℕ) (f : DomainId) (y k : ℕ) (hop : Hop) → IsWithin setting epoch f y k
+    → list_any (same_hop hop) (hops_of setting.net (the_plan setting epoch) f y) ≡ true → Shorter setting epoch f hop.parent k
+shorter setting epoch f y k hop within on = by k refl
   where
-    one_more : (hs : List Hop) → is_walk setting.net (the_plan setting) f hop.parent hs ≡ true → suc (length hs) ≤ k
+    one_more : (hs : List Hop) → is_walk setting.net (the_plan setting epoch) f hop.parent hs ≡ true → suc (length hs) ≤ k
     one_more hs walked =
         within (hop ∷ hs)
-        (and_from (list_any (same_hop hop) (hops_of setting.net (the_plan setting) f y)) (is_walk setting.net (the_plan setting) f hop.parent hs) on walked)
+        (and_from (list_any (same_hop hop) (hops_of setting.net (the_plan setting epoch) f y)) (is_walk setting.net (the_plan setting epoch) f hop.parent hs) on walked)
 
     less : (n j : ℕ) → suc n ≤ k → k ≡ suc j → n ≤ j
     less n j le is = omega (arith, le, is)
@@ -98,19 +98,19 @@ shorter setting f y k hop within on = by k refl
     never : (n : ℕ) → suc n ≤ k → k ≡ zero → ⊥
     never n le is = omega (arith, le, is)
 
-    by : (j : ℕ) → k ≡ j → Shorter setting f hop.parent k
+    by : (j : ℕ) → k ≡ j → Shorter setting epoch f hop.parent k
     by zero is = absurd (never 0 (one_more [] refl) is)
     by (suc j) is = record { rest = j; is = is; within = λ hs walked. less (length hs) j (one_more hs walked) is }
 
-module _ (setting : Setting) (history : List Event) (e : Event) (calm : ℕ) (settled : IsSettled setting history e calm) where
+module _ (setting : Setting) (epoch : ℕ) (history : List Event) (e : Event) (calm : ℕ) (settled : IsSettled setting epoch history e calm) where
   abbrev plan : Plan
-  plan = plan_numbered setting 1
+  plan = plan_numbered setting epoch
 
-  scene_in : (q : Moment) → IsIn q (chronicle setting (e ∷ history)) → calm < when q → Scene setting (failed_now (chronicle setting history)) q
-  scene_in q here late = scene_at setting history e calm settled q here late
+  scene_in : (q : Moment) → IsIn q (chronicle setting (e ∷ history)) → calm < when q → Scene setting epoch (failed_now (chronicle setting history)) q
+  scene_in q here late = scene_at setting epoch history e calm settled q here late
 
   -- who has moved later had not moved before where it has not moved now
-  moved_later : (q : Moment) → calm < when q → (z : ℕ) → IsWell setting (failed_now (chronicle setting history)) z → moved q.earlier z ≡ true
+  moved_later : (q : Moment) → calm < when q → (z : ℕ) → IsWell setting epoch (failed_now (chronicle setting history)) z → moved q.earlier z ≡ true
       → (s : Step) (steps : List Step) → IsIn (record { step = s; earlier = steps }) (chronicle setting (e ∷ history))
       → IsIn q (chronicle setting (e ∷ history))
       → Tail q.earlier steps → moved steps z ≡ true
@@ -119,19 +119,19 @@ module _ (setting : Setting) (history : List Event) (e : Event) (calm : ℕ) (se
       let r : Moment = record { step = s'; earlier = xs } in
       let r_in : IsIn r (chronicle setting history) = tail_rest here in
       let goes : when q ≤ when r =
-      not_after setting (chronicle setting (e ∷ history)) q r (all_chronicle setting history e calm settled) q_in (behind r_in) t in
-      let on : IsOnward setting r z = onward_at setting history e calm settled r r_in (omega (arith, late, goes)) z well in
+      not_after setting (chronicle setting (e ∷ history)) q r (all_chronicle setting epoch history e calm settled) q_in (behind r_in) t in
+      let on : IsOnward setting epoch r z = onward_at setting epoch history e calm settled r r_in (omega (arith, late, goes)) z well in
       on.moved_on (moved_later q late z well put s' xs (behind r_in) q_in t)
 
   pub unmoved_before : (q r : Moment) → IsIn q (chronicle setting (e ∷ history)) → IsIn r (chronicle setting (e ∷ history)) → calm < when q
-      → Tail q.earlier r.earlier → (z : ℕ) → IsWell setting (failed_now (chronicle setting history)) z
+      → Tail q.earlier r.earlier → (z : ℕ) → IsWell setting epoch (failed_now (chronicle setting history)) z
       → moved r.earlier z ≡ false → moved q.earlier z ≡ false
   unmoved_before q r q_in r_in late t z well unmoved =
       false_from_ne_true (moved q.earlier z) (λ put. not_both (moved r.earlier z) (moved_later q late z well put r.step r.earlier r_in q_in t) unmoved)
 
   -- who takes a round is not the root
-  not_root : (to : Moment) (x d : ℕ) → IsIn to (chronicle setting (e ∷ history)) → calm < when to → Came setting (failed_now (chronicle setting history)) to x d
-      → is_root (the_plan setting) d ≡ false
+  not_root : (to : Moment) (x d : ℕ) → IsIn to (chronicle setting (e ∷ history)) → calm < when to → Came setting epoch (failed_now (chronicle setting history)) to x d
+      → is_root (the_plan setting epoch) d ≡ false
   not_root to x d to_in late c =
       false_from_ne_true (is_root plan d)
       (λ is.
@@ -142,8 +142,8 @@ module _ (setting : Setting) (history : List Event) (e : Event) (calm : ℕ) (se
       c.still)
 
   -- a hop takes no longer than the greatest delay
-  hop_time : (stamp : Stamp) (from to : Moment) (x d : ℕ) → TraceHop setting stamp 1 from x to d → when to ≤ when from + delay setting.net
-  hop_time stamp from to x d hop = one (when to) (when from) (delay setting.net) (chain_time setting stamp 1 from x 1 to d (hops_on stands hop))
+  hop_time : (stamp : Stamp) (from to : Moment) (x d : ℕ) → TraceHop setting stamp epoch from x to d → when to ≤ when from + delay setting.net
+  hop_time stamp from to x d hop = one (when to) (when from) (delay setting.net) (chain_time setting stamp epoch from x 1 to d (hops_on stands hop))
     where
       one : (a b c : ℕ) → a ≤ b + 1 * c → a ≤ b + c
       one a b c le = omega (arith, le)
@@ -181,13 +181,13 @@ module _ (setting : Setting) (history : List Event) (e : Event) (calm : ℕ) (se
     from_late : calm < when from
     goes : when to ≤ when from + delay setting.net
     below_ : Tail from.earlier to.earlier
-    came_ : Came setting (failed_now (chronicle setting history)) to x d
-    other : is_root (the_plan setting) d ≡ false
+    came_ : Came setting epoch (failed_now (chronicle setting history)) to x d
+    other : is_root (the_plan setting epoch) d ≡ false
 
-  late_hop : (stamp : Stamp) (from to : Moment) (x d : ℕ) → IsIn to (chronicle setting (e ∷ history)) → calm < when to → TraceHop setting stamp 1 from x to d
+  late_hop : (stamp : Stamp) (from to : Moment) (x d : ℕ) → IsIn to (chronicle setting (e ∷ history)) → calm < when to → TraceHop setting stamp epoch from x to d
       → calm < when from → LateHop from to x d
   late_hop stamp from to x d to_in to_late hop from_late =
-      let c : Came setting (failed_now (chronicle setting history)) to x d = came setting history e calm settled stamp from to x d to_in from_late hop in
+      let c : Came setting epoch (failed_now (chronicle setting history)) to x d = came setting epoch history e calm settled stamp from to x d to_in from_late hop in
       record {
         from_in = tail_trans hop.before (rest_of to_in);
         from_late = from_late;
@@ -199,7 +199,7 @@ module _ (setting : Setting) (history : List Event) (e : Event) (calm : ℕ) (se
 
   -- by whether the last hop was
   by_hop : (first from to : Moment) (stamp : Stamp) (x d m bound : ℕ) → IsIn to (chronicle setting (e ∷ history)) → calm < when to
-      → TraceHop setting stamp 1 from x to d → (LateHop from to x d → Outcome first to m bound) → Outcome first to m bound
+      → TraceHop setting stamp epoch from x to d → (LateHop from to x d → Outcome first to m bound) → Outcome first to m bound
   by_hop first from to stamp x d m bound to_in to_late hop more = go (cases_lt calm (when from))
     where
       go : (calm < when from) ⊎ (when from ≤ calm) → Outcome first to m bound
@@ -207,9 +207,9 @@ module _ (setting : Setting) (history : List Event) (e : Event) (calm : ℕ) (se
       go (inr le) = inr (at_first (when from) (when to) (delay setting.net) bound (hop_time stamp from to x d hop) le)
 
   -- where no device of a walk has moved, the trace goes up the walk
-  walk_down : {stamp : Stamp} {first : Moment} {source m : ℕ} {to : Moment} {y : ℕ} → (trace : Trace setting stamp 1 first source m to y)
-      → IsIn to (chronicle setting (e ∷ history)) → calm < when to → (hs : List Hop) → walk setting.net (the_plan setting) y ≡ hs
-      → ((z : ℕ) → has (devices_of y hs) z ≡ true → is_root (the_plan setting) z ≡ false → IsWell setting (failed_now (chronicle setting history)) z
+  walk_down : {stamp : Stamp} {first : Moment} {source m : ℕ} {to : Moment} {y : ℕ} → (trace : Trace setting stamp epoch first source m to y)
+      → IsIn to (chronicle setting (e ∷ history)) → calm < when to → (hs : List Hop) → walk setting.net (the_plan setting epoch) y ≡ hs
+      → ((z : ℕ) → has (devices_of y hs) z ≡ true → is_root (the_plan setting epoch) z ≡ false → IsWell setting epoch (failed_now (chronicle setting history)) z
       → moved to.earlier z ≡ false) → Outcome first to m (length hs)
   walk_down (begins message emits carries epoch_is) to_in to_late hs is unmoved = inl (to_late, omega arith)
   walk_down {stamp} {first} (goes_on {m = m} {from = from} {x = x} {to = to} {d = y} trace hop) to_in to_late hs is unmoved =
@@ -217,14 +217,14 @@ module _ (setting : Setting) (history : List Event) (e : Event) (calm : ℕ) (se
       (λ late_. onward_ late_ (λ l is' unmoved'. walk_down trace late_.from_in late_.from_late l is' unmoved'))
     where
       onward_ : LateHop from to x y
-          → ((l : List Hop) → walk setting.net (the_plan setting) x ≡ l
-          → ((z : ℕ) → has (devices_of x l) z ≡ true → is_root (the_plan setting) z ≡ false → IsWell setting (failed_now (chronicle setting history)) z
+          → ((l : List Hop) → walk setting.net (the_plan setting epoch) x ≡ l
+          → ((z : ℕ) → has (devices_of x l) z ≡ true → is_root (the_plan setting epoch) z ≡ false → IsWell setting epoch (failed_now (chronicle setting history)) z
           → moved from.earlier z ≡ false) → Outcome first from m (length l))
           → Outcome first to (suc m) (length hs)
       onward_ late_ again =
-          let c : Came setting (failed_now (chronicle setting history)) to x y = late_.came_ in
+          let c : Came setting epoch (failed_now (chronicle setting history)) to x y = late_.came_ in
           let here : moved to.earlier y ≡ false = unmoved y (or_left (nat_eq y y) _ (eq-eqb y y refl)) late_.other c.well in
-          let fine : IsSound setting.net plan = fine_at setting history e calm settled to to_in to_late in
+          let fine : IsSound setting.net plan = fine_at setting epoch history e calm settled to to_in to_late in
           let forest : IsForest setting.net plan = forest_of setting.net plan fine.fits fine.guarded.structure in
           let primary : primary_of plan y ≡ Some c.hop = subst (λ b. hop_on plan b y ≡ Some c.hop) here c.is in
           let up : IsStep setting.net plan y c.hop = forest.up y c.hop c.well.known primary in
@@ -238,8 +238,8 @@ module _ (setting : Setting) (history : List Event) (e : Event) (calm : ℕ) (se
           root well)))
 
   -- to the backup root
-  to_backup_root : {stamp : Stamp} {first : Moment} {source m : ℕ} {to : Moment} {b : ℕ} → (trace : Trace setting stamp 1 first source m to b)
-      → IsIn to (chronicle setting (e ∷ history)) → calm < when to → b ≡ (the_plan setting).backup_root
+  to_backup_root : {stamp : Stamp} {first : Moment} {source m : ℕ} {to : Moment} {b : ℕ} → (trace : Trace setting stamp epoch first source m to b)
+      → IsIn to (chronicle setting (e ∷ history)) → calm < when to → b ≡ (the_plan setting epoch).backup_root
       → Outcome first to m (depth setting.net + 1)
   to_backup_root (begins message emits carries epoch_is) to_in to_late same = inl (to_late, omega arith)
   to_backup_root {stamp} {first} (goes_on {m = m} {from = from} {x = x} {to = to} {d = b} trace hop) to_in to_late same =
@@ -258,10 +258,10 @@ module _ (setting : Setting) (history : List Event) (e : Event) (calm : ℕ) (se
 
       by : LateHop from to x b → (put : Bool) → moved to.earlier b ≡ put → Outcome first to (suc m) (depth setting.net + 1)
       by late_ false unmoved =
-          let c : Came setting (failed_now (chronicle setting history)) to x b = late_.came_ in
-          let sc : Scene setting (failed_now (chronicle setting history)) to = scene_in to to_in to_late in
-          let well_b : IsWell setting (failed_now (chronicle setting history)) plan.backup_root =
-          subst (λ z. IsWell setting (failed_now (chronicle setting history)) z) same c.well in
+          let c : Came setting epoch (failed_now (chronicle setting history)) to x b = late_.came_ in
+          let sc : Scene setting epoch (failed_now (chronicle setting history)) to = scene_in to to_in to_late in
+          let well_b : IsWell setting epoch (failed_now (chronicle setting history)) plan.backup_root =
+          subst (λ z. IsWell setting epoch (failed_now (chronicle setting history)) z) same c.well in
           weaker first to (suc m) (length (walk setting.net plan b)) (depth setting.net + 1)
           (short (length (walk setting.net plan b)) (depth setting.net) (walk_length setting.net plan b))
           (walk_down (goes_on trace hop) to_in to_late (walk setting.net plan b) refl
@@ -269,10 +269,10 @@ module _ (setting : Setting) (history : List Event) (e : Event) (calm : ℕ) (se
           (λ above_. sc.path well_b (subst (λ k. moved to.earlier k ≡ false) same unmoved) (subst (λ k. acts_in to.earlier k ≡ false) same c.still) z
           (subst (λ k. has (map (λ (h : Hop). h.parent) (walk setting.net plan k)) z ≡ true) same above_) root well)))
       by late_ true put =
-          let c : Came setting (failed_now (chronicle setting history)) to x b = late_.came_ in
-          let sc : Scene setting (failed_now (chronicle setting history)) to = scene_in to to_in to_late in
-          let well_b : IsWell setting (failed_now (chronicle setting history)) plan.backup_root =
-          subst (λ z. IsWell setting (failed_now (chronicle setting history)) z) same c.well in
+          let c : Came setting epoch (failed_now (chronicle setting history)) to x b = late_.came_ in
+          let sc : Scene setting epoch (failed_now (chronicle setting history)) to = scene_in to to_in to_late in
+          let well_b : IsWell setting epoch (failed_now (chronicle setting history)) plan.backup_root =
+          subst (λ z. IsWell setting epoch (failed_now (chronicle setting history)) z) same c.well in
           let backup : backup_of plan plan.backup_root ≡ Some c.hop =
           subst (λ z. backup_of plan z ≡ Some c.hop) same (subst (λ p. hop_on plan p b ≡ Some c.hop) put c.is) in
           longer first from to m (depth setting.net) (depth setting.net + 1) (next (depth setting.net)) late_.goes
@@ -284,9 +284,9 @@ module _ (setting : Setting) (history : List Event) (e : Event) (calm : ℕ) (se
 
   -- to any device
   pub trace_short : {stamp : Stamp} {first : Moment} {source m : ℕ} {to : Moment} {d : ℕ} (f : DomainId)
-      → list_all (holds setting.net f) (failed_now (chronicle setting history)) ≡ true → (trace : Trace setting stamp 1 first source m to d)
+      → list_all (holds setting.net f) (failed_now (chronicle setting history)) ≡ true → (trace : Trace setting stamp epoch first source m to d)
       → IsIn to (chronicle setting (e ∷ history)) → calm < when to
-      → (k : ℕ) → IsWithin setting f d k → Outcome first to m (k + (depth setting.net + 1))
+      → (k : ℕ) → IsWithin setting epoch f d k → Outcome first to m (k + (depth setting.net + 1))
   trace_short f inside (begins message emits carries epoch_is) to_in to_late k within = inl (to_late, omega arith)
   trace_short {stamp} {first} f inside (goes_on {m = m} {from = from} {x = x} {to = to} {d = d} trace hop) to_in to_late k within =
       by_hop first from to stamp x d (suc m) (k + (depth setting.net + 1)) to_in to_late hop
@@ -298,17 +298,17 @@ module _ (setting : Setting) (history : List Event) (e : Event) (calm : ℕ) (se
       next : (j n : ℕ) → k ≡ suc j → k + n ≡ suc (j + n)
       next j n is = omega (arith, is)
 
-      by : LateHop from to x d → ((j : ℕ) → IsWithin setting f x j → Outcome first from m (j + (depth setting.net + 1))) → (b : Bool)
+      by : LateHop from to x d → ((j : ℕ) → IsWithin setting epoch f x j → Outcome first from m (j + (depth setting.net + 1))) → (b : Bool)
           → is_backup_root plan d ≡ b → Outcome first to (suc m) (k + (depth setting.net + 1))
       by late_ again true is =
           weaker first to (suc m) (depth setting.net + 1) (k + (depth setting.net + 1)) (less k (depth setting.net + 1))
           (to_backup_root (goes_on trace hop) to_in to_late (sym (eqb-true plan.backup_root d is)))
       by late_ again false is =
-          let c : Came setting (failed_now (chronicle setting history)) to x d = late_.came_ in
-          let s : Shorter setting f c.hop.parent k =
-          shorter setting f d k c.hop within
+          let c : Came setting epoch (failed_now (chronicle setting history)) to x d = late_.came_ in
+          let s : Shorter setting epoch f c.hop.parent k =
+          shorter setting epoch f d k c.hop within
           (allowed setting.net plan f d (moved to.earlier d) c.hop c.well.member late_.other is c.is
           (λ put. touched_is_hit setting.net f (failed_now (chronicle setting history)) (epath setting.net plan d) inside
           ((scene_in to to_in to_late).hit d c.well (late_.other, is) put))) in
           longer first from to m (s.rest + (depth setting.net + 1)) (k + (depth setting.net + 1)) (next s.rest (depth setting.net + 1) s.is) late_.goes
-          (again s.rest (subst (λ z. IsWithin setting f z s.rest) c.parent s.within))
+          (again s.rest (subst (λ z. IsWithin setting epoch f z s.rest) c.parent s.within))

@@ -58,12 +58,12 @@ receipt_hears p d f r =
     false hears) r.there
     ∙ ap is_some r.over
 
-module _ (setting : Setting) (history : List Event) (e : Event) (calm : ℕ) (settled : IsSettled setting history e calm) where
+module _ (setting : Setting) (epoch : ℕ) (history : List Event) (e : Event) (calm : ℕ) (settled : IsSettled setting epoch history e calm) where
   chronicle_at : (q : Moment) → IsIn q (chronicle setting (e ∷ history)) → IsChronicle setting (upto q)
-  chronicle_at q here = tail_chronicle setting here (all_chronicle setting history e calm settled)
+  chronicle_at q here = tail_chronicle setting here (all_chronicle setting epoch history e calm settled)
 
   -- a trace goes forward
-  pub trace_goes : {stamp : Stamp} {first : Moment} {source m : ℕ} {p : Moment} {d : ℕ} → Trace setting stamp 1 first source m p d
+  pub trace_goes : {stamp : Stamp} {first : Moment} {source m : ℕ} {p : Moment} {d : ℕ} → Trace setting stamp epoch first source m p d
       → IsIn p (chronicle setting (e ∷ history)) → when first ≤ when p
   trace_goes (begins message emits carries epoch_is) here = omega arith
   trace_goes (goes_on {from = from} {to = to} trace hop) here =
@@ -73,13 +73,13 @@ module _ (setting : Setting) (history : List Event) (e : Event) (calm : ℕ) (se
 
   -- who emitted acts on
   module _ (first : Moment) (late : calm < when first) (source : ℕ) (message : Message) (emits : Emits first source message)
-      (well : IsWell setting (failed_now (chronicle setting history)) source) where
+      (well : IsWell setting epoch (failed_now (chronicle setting history)) source) where
     acts_by : (s : Step) (steps : List Step) → IsIn (record { step = s; earlier = steps }) (chronicle setting (e ∷ history)) → Tail (upto first) steps
         → acts_in steps source ≡ true
     acts_by s _ here whole =
         let top : Moment = record { step = s; earlier = upto first } in
         let goes : when first ≤ when top = before_is_earlier setting first top (chronicle_at top here) whole in
-        let place : Place setting top source = (scene_at setting history e calm settled top here (omega (arith, late, goes))).place source well in
+        let place : Place setting epoch top source = (scene_at setting epoch history e calm settled top here (omega (arith, late, goes))).place source well in
         let sent = emits.sends in
         place.acts_is ∙ ap is_acting (some_is (sym place.there ∙ past_after_call first source sent.call sent.past sent.act sent.there))
         ∙ emission_acts sent.past sent.call emits.emission
@@ -87,7 +87,7 @@ module _ (setting : Setting) (history : List Event) (e : Event) (calm : ℕ) (se
         let q : Moment = record { step = s'; earlier = xs } in
         let q_in : IsIn q (chronicle setting history) = tail_rest here in
         let goes : when first ≤ when q = before_is_earlier setting first q (chronicle_at q (behind q_in)) t in
-        let on : IsOnward setting q source = onward_at setting history e calm settled q q_in (omega (arith, late, goes)) source well in
+        let on : IsOnward setting epoch q source = onward_at setting epoch history e calm settled q q_in (omega (arith, late, goes)) source well in
         on.acts_on (acts_by s' xs (behind q_in) t)
 
     -- at each event that comes after
@@ -95,25 +95,25 @@ module _ (setting : Setting) (history : List Event) (e : Event) (calm : ℕ) (se
     acts_after top here t = acts_by top.step top.earlier here t
 
   -- a way that stands leads from the source
-  pub led_of : {stamp : Stamp} {first : Moment} {source m : ℕ} {p : Moment} {d : ℕ} (trace : Trace setting stamp 1 first source m p d) → calm < when first
+  pub led_of : {stamp : Stamp} {first : Moment} {source m : ℕ} {p : Moment} {d : ℕ} (trace : Trace setting stamp epoch first source m p d) → calm < when first
       → (top : Moment) → IsIn top (chronicle setting (e ∷ history)) → IsBefore p top → Stands trace top
-      → (s0 : ℕ) → when p ≤ s0 → Led setting (failed_now (chronicle setting history)) top s0 source d m
+      → (s0 : ℕ) → when p ≤ s0 → Led setting epoch (failed_now (chronicle setting history)) top s0 source d m
   led_of (begins message emits carries epoch_is) late top here before stands s0 le = at_source
   led_of {stamp} (goes_on {from = from} {x = x} {to = to} {d = d} trace hop) late top here before stands s0 le =
       let to_in : IsIn to (chronicle setting (e ∷ history)) = tail_trans before (rest_of here) in
       let from_in : IsIn from (chronicle setting (e ∷ history)) = tail_trans hop.before (rest_of to_in) in
       let goes = before_is_earlier setting from to (chronicle_at to to_in) hop.before in
       let started = trace_goes trace from_in in
-      let c : Came setting (failed_now (chronicle setting history)) to x d =
-      came setting history e calm settled stamp from to x d to_in (omega (arith, late, started)) hop in
+      let c : Came setting epoch (failed_now (chronicle setting history)) to x d =
+      came setting epoch history e calm settled stamp from to x d to_in (omega (arith, late, started)) hop in
       onward (led_of trace late top here (tail_trans hop.before (rest_of before)) stands.0 s0 (omega (arith, goes, le))) d
       (moved to.earlier d) c.hop c.well c.is c.parent c.link
       (λ q q_in q_late. stands.1 q q_in (earlier_is_before setting (upto top) to q (chronicle_at top here) (behind before) q_in (omega (arith, le, q_late))))
 
-  module _ (stamp : Stamp) (first : Moment) (source : ℕ) (late : calm < when first) (well : IsWell setting (failed_now (chronicle setting history)) source)
+  module _ (stamp : Stamp) (first : Moment) (source : ℕ) (late : calm < when first) (well : IsWell setting epoch (failed_now (chronicle setting history)) source)
       (acts : (top : Moment) → IsIn top (chronicle setting (e ∷ history)) → IsBefore first top → acts_in top.earlier source ≡ true) where
     -- while the way stands its last device heard lately
-    heard_lately : {m : ℕ} {p : Moment} {d : ℕ} (trace : Trace setting stamp 1 first source (suc m) p d) → suc m ≤ 2 * (depth setting.net + 1) → (top : Moment)
+    heard_lately : {m : ℕ} {p : Moment} {d : ℕ} (trace : Trace setting stamp epoch first source (suc m) p d) → suc m ≤ 2 * (depth setting.net + 1) → (top : Moment)
         → IsIn top (chronicle setting (e ∷ history)) → IsBefore p top → Stands trace top
         → when p ≤ heard_at top.earlier d → when top ≤ heard_at top.earlier d + silence setting.net
     heard_lately {m} {p} {d} trace short top here before stands heard =
@@ -121,9 +121,9 @@ module _ (setting : Setting) (history : List Event) (e : Event) (calm : ℕ) (se
         let started : when first ≤ when p = trace_goes trace p_in in
         let goes : when p ≤ when top = before_is_earlier setting p top (chronicle_at top here) before in
         let by : when top ≤ max (when p) (heard_at top.earlier d) + rounds_gap setting.net + (m + 1) * delay setting.net =
-        fed_at setting history e calm settled top here (omega (arith, late, started, goes)) source well (when p) (omega (arith, late, started))
+        fed_at setting epoch history e calm settled top here (omega (arith, late, started, goes)) source well (when p) (omega (arith, late, started))
         (λ q q_in q_late. acts q (tail_trans q_in here)
-        (tail_trans (trace_first setting stamp 1 first source (suc m) p d trace)
+        (tail_trans (trace_first setting stamp epoch first source (suc m) p d trace)
         (earlier_is_before setting (upto top) p q (chronicle_at top here) (behind before) q_in q_late)))
         d m (led_of trace late top here before stands (when p) (least (when p))) (omega (arith, short)) in
         let most : (m + 1) * delay setting.net ≤ 2 * (depth setting.net + 1) * delay setting.net =
@@ -136,10 +136,10 @@ module _ (setting : Setting) (history : List Event) (e : Event) (calm : ℕ) (se
         least : (n : ℕ) → n ≤ n
         least n = omega arith
 
-    module _ (m : ℕ) (from to : Moment) (x d : ℕ) (trace : Trace setting stamp 1 first source m from x) (hop : Hop setting stamp 1 from x to d)
+    module _ (m : ℕ) (from to : Moment) (x d : ℕ) (trace : Trace setting stamp epoch first source m from x) (hop : Hop setting stamp epoch from x to d)
         (short : suc m ≤ 2 * (depth setting.net + 1))
         (above : (r : Moment) → IsIn r (chronicle setting (e ∷ history)) → IsBefore from r
-        → Stands trace r) (well_d : IsWell setting (failed_now (chronicle setting history)) d) (still : acts_in to.earlier d ≡ false) where
+        → Stands trace r) (well_d : IsWell setting epoch (failed_now (chronicle setting history)) d) (still : acts_in to.earlier d ≡ false) where
       late_to : IsIn to (chronicle setting (e ∷ history)) → calm < when to
       late_to here =
           let started = trace_goes (goes_on trace hop) here in
@@ -150,7 +150,7 @@ module _ (setting : Setting) (history : List Event) (e : Event) (calm : ℕ) (se
           → (q : Moment) → IsIn q (s ∷ steps) → IsBefore to q → (moved q.earlier d ≡ moved to.earlier d) × (acts_in q.earlier d ≡ false)
       remains s _ here whole q whole since =
           let to_in : IsIn to (chronicle setting history) = tail_rest here in
-          let on : IsOnward setting to d = onward_at setting history e calm settled to to_in (late_to (behind to_in)) d well_d in
+          let on : IsOnward setting epoch to d = onward_at setting epoch history e calm settled to to_in (late_to (behind to_in)) d well_d in
           let same = on.hears hop.flight.link hop.flight.message hop.receipt.counter hop.receipt.act in
           (same.0, same.1 ∙ still)
       remains s _ here whole q (behind u) since = absurd (no_round since u)
@@ -165,14 +165,14 @@ module _ (setting : Setting) (history : List Event) (e : Event) (calm : ℕ) (se
           heard_from setting to d xs (tail_chronicle setting (behind whole) (chronicle_at r (behind r_in))) t (receipt_hears to d hop.flight hop.receipt) in
           let soon : when r ≤ heard_at xs d + silence setting.net =
           heard_lately (goes_on trace hop) short r (behind r_in) t (above r (behind r_in) (tail_trans hop.before (rest_of t)), before_) heard in
-          let on : IsOnward setting r d = onward_at setting history e calm settled r r_in (omega (arith, to_late, goes)) d well_d in
+          let on : IsOnward setting epoch r d = onward_at setting epoch history e calm settled r r_in (omega (arith, to_late, goes)) d well_d in
           let same = on.stays soon in
           let here_ = before_ r whole t in
           (same.0 ∙ here_.0, same.1 ∙ here_.1)
       remains s _ here (behind {x = s'} {xs = xs} t) q (behind u) since = remains s' xs (behind (tail_rest here)) t q u since
 
     -- the way of the round stands at each event that comes after
-    pub stands_for_good : {m : ℕ} {p : Moment} {d : ℕ} (trace : Trace setting stamp 1 first source m p d) → m ≤ 2 * (depth setting.net + 1) → (top : Moment)
+    pub stands_for_good : {m : ℕ} {p : Moment} {d : ℕ} (trace : Trace setting stamp epoch first source m p d) → m ≤ 2 * (depth setting.net + 1) → (top : Moment)
         → IsIn top (chronicle setting (e ∷ history)) → IsBefore p top → Stands trace top
     stands_for_good (begins message emits carries epoch_is) short top here before = tt
     stands_for_good (goes_on {m = m} {from = from} {x = x} {to = to} {d = d} trace hop) short top here before =
@@ -180,8 +180,8 @@ module _ (setting : Setting) (history : List Event) (e : Event) (calm : ℕ) (se
         → Stands trace r = λ r r_in t. stands_for_good trace (fewer m short) r r_in t in
         let to_in : IsIn to (chronicle setting (e ∷ history)) = tail_trans before (rest_of here) in
         let started = trace_goes trace (tail_trans hop.before (rest_of to_in)) in
-        let c : Came setting (failed_now (chronicle setting history)) to x d =
-        came setting history e calm settled stamp from to x d to_in (omega (arith, late, started)) hop in (
+        let c : Came setting epoch (failed_now (chronicle setting history)) to x d =
+        came setting epoch history e calm settled stamp from to x d to_in (omega (arith, late, started)) hop in (
           above top here (tail_trans hop.before (rest_of before)),
           λ q q_in since. remains m from to x d trace hop short above c.well c.still top.step
               top.earlier here before q q_in since,

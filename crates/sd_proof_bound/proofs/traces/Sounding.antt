@@ -80,25 +80,25 @@ longer n m = omega arith
 none_more : (n : ℕ) → n ≡ zero + n
 none_more n = omega arith
 
-module _ (setting : Setting) (x : Event) (h : List Event) (e : Event) (calm : ℕ) (settled : IsSettled setting (x ∷ h) e calm) (source : ℕ)
-    (well : IsWell setting (failed_now (chronicle setting (x ∷ h))) source) where
+module _ (setting : Setting) (epoch : ℕ) (x : Event) (h : List Event) (e : Event) (calm : ℕ) (settled : IsSettled setting epoch (x ∷ h) e calm) (source : ℕ)
+    (well : IsWell setting epoch (failed_now (chronicle setting (x ∷ h))) source) where
   abbrev steps : List Step
   steps = chronicle setting (x ∷ h)
 
   abbrev plan : Plan
-  plan = plan_numbered setting 1
+  plan = plan_numbered setting epoch
 
-  fine : IsSound setting.net (plan_numbered setting 1)
-  fine = subst (λ n. IsSound setting.net (plan_numbered setting n)) (era_is setting (x ∷ h) e calm settled) (sound setting x h e settled.comes)
+  fine : IsSound setting.net (plan_numbered setting epoch)
+  fine = subst (λ n. IsSound setting.net (plan_numbered setting n)) (era_is setting epoch (x ∷ h) e calm settled) (sound setting x h e settled.comes)
 
   -- later than a reference before the top
   module _ (s1 : ℕ) (from : calm ≤ s1) (before_top : s1 < reference_of e) (acts : ActsSince (top_of setting (x ∷ h) e) s1 source) where
-    scene_then : (q : Moment) → IsIn q (chronicle setting (e ∷ x ∷ h)) → s1 < when q → Scene setting (failed_now (chronicle setting (x ∷ h))) q
-    scene_then q here late = scene_at setting (x ∷ h) e calm settled q here (omega (arith, from, late))
+    scene_then : (q : Moment) → IsIn q (chronicle setting (e ∷ x ∷ h)) → s1 < when q → Scene setting epoch (failed_now (chronicle setting (x ∷ h))) q
+    scene_then q here late = scene_at setting epoch (x ∷ h) e calm settled q here (omega (arith, from, late))
 
-    hop_sound : (y : ℕ) (put : Bool) (hop : Hop) → IsWell setting (failed_now (chronicle setting (x ∷ h))) y → hop_on (the_plan setting) put y ≡ Some hop
+    hop_sound : (y : ℕ) (put : Bool) (hop : Hop) → IsWell setting epoch (failed_now (chronicle setting (x ∷ h))) y → hop_on (the_plan setting epoch) put y ≡ Some hop
         → is_among (failed_now (chronicle setting (x ∷ h))) (thing.Link hop.link) ≡ false → Remains (top_of setting (x ∷ h) e) s1 y put
-        → IsSoundHop setting (top_of setting (x ∷ h) e) 1 s1 source hop.parent (record { link = hop.link; device = y })
+        → IsSoundHop setting (top_of setting (x ∷ h) e) epoch s1 source hop.parent (record { link = hop.link; device = y })
     hop_sound y put hop well_y is link remains =
         let p : IsPlanned setting.net plan y hop = planned_hop setting.net plan fine y well_y.known put hop is in
         let follows : follows_over plan hop.parent hop.link y ≡ true = hop_follows plan y put hop is in
@@ -110,12 +110,12 @@ module _ (setting : Setting) (x : Event) (h : List Event) (e : Event) (calm : �
               not_both (acts_in steps source) (acts (top_of setting (x ∷ h) e) whole before_top)
               (subst (λ z. acts_in steps z ≡ false) same (remains (top_of setting (x ∷ h) e) whole before_top).1);
           ready = λ q here late past there.
-              let s : Place setting q y = (scene_then q (behind here) late).place y well_y in
+              let s : Place setting epoch q y = (scene_then q (behind here) late).place y well_y in
               let stays = remains q (behind here) late in
-              subst (λ k. IsReady k 1 hop.link) (some_is (sym s.there ∙ there))
+              subst (λ k. IsReady k epoch hop.link) (some_is (sym s.there ∙ there))
               (ready_by put is s.past s.duty (sym s.moved_is ∙ stays.0) (sym s.acts_is ∙ stays.1));
           whole = λ q here late.
-              let sc : Scene setting (failed_now (chronicle setting (x ∷ h))) q = scene_then q (behind here) late in
+              let sc : Scene setting epoch (failed_now (chronicle setting (x ∷ h))) q = scene_then q (behind here) late in
               (sc.link hop.link p.present link, (sc.place y well_y).up);
           lasts = λ q here late.
               let none : failure_of q.step.seen.event ≡ None = settled.unfailed q here (omega (arith, from, late)) in (
@@ -126,43 +126,43 @@ module _ (setting : Setting) (x : Event) (h : List Event) (e : Event) (calm : �
               );
         }
       where
-        ready_by : (b : Bool) → hop_on plan b y ≡ Some hop → (past : Past) → duty_now past ≡ Some (duty_of setting.net plan 1 y) → has_moved past ≡ b
-            → is_acting past ≡ false → IsReady past 1 hop.link
-        ready_by false is' past duty unmoved still = ready_of setting.net plan 1 y hop past duty unmoved still is'
-        ready_by true is' past duty put_ still = ready_back setting.net plan 1 y hop past duty put_ still is'
+        ready_by : (b : Bool) → hop_on plan b y ≡ Some hop → (past : Past) → duty_now past ≡ Some (duty_of setting.net plan epoch y) → has_moved past ≡ b
+            → is_acting past ≡ false → IsReady past epoch hop.link
+        ready_by false is' past duty unmoved still = ready_of setting.net plan epoch y hop past duty unmoved still is'
+        ready_by true is' past duty put_ still = ready_back setting.net plan epoch y hop past duty put_ still is'
 
     -- a sound way of so many hops, before other hops from its last device
     record HasWay (y n : ℕ) (rest : List End) : Type 0 where
       way : List End
       long : length way ≡ n + length rest
-      sound_ : AreSound setting (top_of setting (x ∷ h) e) 1 s1 source source way
+      sound_ : AreSound setting (top_of setting (x ∷ h) e) epoch s1 source source way
       keeps : (z : End) → Among z rest → Among z way
 
-    unroll : (y n : ℕ) → Led setting (failed_now (chronicle setting (x ∷ h))) (top_of setting (x ∷ h) e) s1 source y n → (rest : List End)
-        → AreSound setting (top_of setting (x ∷ h) e) 1 s1 source y rest → HasWay y n rest
+    unroll : (y n : ℕ) → Led setting epoch (failed_now (chronicle setting (x ∷ h))) (top_of setting (x ∷ h) e) s1 source y n → (rest : List End)
+        → AreSound setting (top_of setting (x ∷ h) e) epoch s1 source y rest → HasWay y n rest
     unroll _ _ at_source rest fine_rest = record { way = rest; long = none_more (length rest); sound_ = fine_rest; keeps = λ z a. a }
     unroll _ _ (onward {x = z} {n = n} led y put hop well_y is parent link remains) rest fine_rest =
         let e_ : End = record { link = hop.link; device = y } in
-        let here : IsSoundHop setting (top_of setting (x ∷ h) e) 1 s1 source z e_ =
-        subst (λ k. IsSoundHop setting (top_of setting (x ∷ h) e) 1 s1 source k e_) parent (hop_sound y put hop well_y is link remains) in
+        let here : IsSoundHop setting (top_of setting (x ∷ h) e) epoch s1 source z e_ =
+        subst (λ k. IsSoundHop setting (top_of setting (x ∷ h) e) epoch s1 source k e_) parent (hop_sound y put hop well_y is link remains) in
         let w : HasWay z n (e_ ∷ rest) = unroll z n led (e_ ∷ rest) (here, fine_rest) in
         record { way = w.way; long = w.long ∙ longer n (length rest); sound_ = w.sound_; keeps = λ k a. w.keeps k (later a) }
 
-    ends_with : (y n : ℕ) → Led setting (failed_now (chronicle setting (x ∷ h))) (top_of setting (x ∷ h) e) s1 source y (suc n)
+    ends_with : (y n : ℕ) → Led setting epoch (failed_now (chronicle setting (x ∷ h))) (top_of setting (x ∷ h) e) s1 source y (suc n)
         → n + 1 ≤ 2 * (depth setting.net + 1) → heard_at (chronicle setting (x ∷ h)) y ≤ s1
         → reference_of e ≤ s1 + rounds_gap setting.net + (n + 1) * delay setting.net
     ends_with _ n (onward {x = z} led y put hop well_y is parent link remains) short heard =
         let e_ : End = record { link = hop.link; device = y } in
-        let here : IsSoundHop setting (top_of setting (x ∷ h) e) 1 s1 source z e_ =
-        subst (λ k. IsSoundHop setting (top_of setting (x ∷ h) e) 1 s1 source k e_) parent (hop_sound y put hop well_y is link remains) in
+        let here : IsSoundHop setting (top_of setting (x ∷ h) e) epoch s1 source z e_ =
+        subst (λ k. IsSoundHop setting (top_of setting (x ∷ h) e) epoch s1 source k e_) parent (hop_sound y put hop well_y is link remains) in
         let w : HasWay z n (e_ ∷ []) = unroll z n led (e_ ∷ []) (here, tt) in
         subst (λ k. reference_of e ≤ s1 + rounds_gap setting.net + k * delay setting.net) w.long
-        (unfed setting (top_of setting (x ∷ h) e) source s1 1 (feeds setting x h e calm settled s1 from source well acts) w.way e_ (w.keeps e_ first)
+        (unfed setting (top_of setting (x ∷ h) e) source s1 epoch (feeds setting epoch x h e calm settled s1 from source well acts) w.way e_ (w.keeps e_ first)
         (subst (λ k. k ≤ 2 * (depth setting.net + 1)) (sym w.long) short) w.sound_ heard)
 
   -- later than any reference
-  led_later : (s0 s1 y n : ℕ) → s0 ≤ s1 → Led setting (failed_now (chronicle setting (x ∷ h))) (top_of setting (x ∷ h) e) s0 source y n
-      → Led setting (failed_now (chronicle setting (x ∷ h))) (top_of setting (x ∷ h) e) s1 source y n
+  led_later : (s0 s1 y n : ℕ) → s0 ≤ s1 → Led setting epoch (failed_now (chronicle setting (x ∷ h))) (top_of setting (x ∷ h) e) s0 source y n
+      → Led setting epoch (failed_now (chronicle setting (x ∷ h))) (top_of setting (x ∷ h) e) s1 source y n
   led_later s0 s1 _ _ le at_source = at_source
   led_later s0 s1 _ _ le (onward {x = z} {n = n} led y put hop well_y is parent link remains) =
       onward (led_later s0 s1 z n le led) y put hop well_y is parent link (λ q here late. remains q here (omega (arith, le, late)))
@@ -172,7 +172,7 @@ module _ (setting : Setting) (x : Event) (h : List Event) (e : Event) (calm : �
 
   -- by when the last device of a way has its next event, counted from when it last heard, or from the reference
   pub fed_by : (s0 : ℕ) → calm ≤ s0 → ActsSince (top_of setting (x ∷ h) e) s0 source → (y n : ℕ)
-      → Led setting (failed_now (chronicle setting (x ∷ h))) (top_of setting (x ∷ h) e) s0 source y (suc n)
+      → Led setting epoch (failed_now (chronicle setting (x ∷ h))) (top_of setting (x ∷ h) e) s0 source y (suc n)
       → n + 1 ≤ 2 * (depth setting.net + 1)
       → reference_of e ≤ max s0 (heard_at (chronicle setting (x ∷ h)) y) + rounds_gap setting.net + (n + 1) * delay setting.net
   fed_by s0 from acts y n led short = go (cases_lt (max s0 (heard_at steps y)) (reference_of e))
@@ -192,16 +192,16 @@ module _ (setting : Setting) (x : Event) (h : List Event) (e : Event) (calm : �
           (led_later s0 (max s0 (heard_at steps y)) y (suc n) since led) short (other s0 (heard_at steps y))
 
 -- the same at any event later than the reference
-pub fed_at : (setting : Setting) (history : List Event) (e : Event) (calm : ℕ) → IsSettled setting history e calm → (top : Moment)
+pub fed_at : (setting : Setting) (epoch : ℕ) (history : List Event) (e : Event) (calm : ℕ) → IsSettled setting epoch history e calm → (top : Moment)
     → IsIn top (chronicle setting (e ∷ history)) → calm < when top
-    → (source : ℕ) → IsWell setting (failed_now (chronicle setting history)) source → (s0 : ℕ) → calm ≤ s0 → ActsSince top s0 source → (y n : ℕ)
-    → Led setting (failed_now (chronicle setting history)) top s0 source y (suc n) → n + 1 ≤ 2 * (depth setting.net + 1)
+    → (source : ℕ) → IsWell setting epoch (failed_now (chronicle setting history)) source → (s0 : ℕ) → calm ≤ s0 → ActsSince top s0 source → (y n : ℕ)
+    → Led setting epoch (failed_now (chronicle setting history)) top s0 source y (suc n) → n + 1 ≤ 2 * (depth setting.net + 1)
     → when top ≤ max s0 (heard_at top.earlier y) + rounds_gap setting.net + (n + 1) * delay setting.net
-fed_at setting history e calm settled top here late source well s0 from acts y n led short =
-    let st : StageAt setting calm (chronicle setting history) top = stage_at setting history e calm settled top here late in
+fed_at setting epoch history e calm settled top here late source well s0 from acts y n led short =
+    let st : StageAt setting epoch calm (chronicle setting history) top = stage_at setting epoch history e calm settled top here late in
     let top_is : top ≡ top_of setting (st.x ∷ st.h) st.e = st.is in
     subst (λ (t : Moment). when t ≤ max s0 (heard_at t.earlier y) + rounds_gap setting.net + (n + 1) * delay setting.net) (sym top_is)
-    (fed_by setting st.x st.h st.e calm st.settled source (subst (λ failed. IsWell setting failed source) (sym st.failed) well) s0 from
+    (fed_by setting epoch st.x st.h st.e calm st.settled source (subst (λ failed. IsWell setting epoch failed source) (sym st.failed) well) s0 from
     (subst (λ t. ActsSince t s0 source) top_is acts) y n
-    (subst (λ t. Led setting (failed_now (chronicle setting (st.x ∷ st.h))) t s0 source y (suc n)) top_is
-    (subst (λ failed. Led setting failed top s0 source y (suc n)) (sym st.failed) led)) short)
+    (subst (λ t. Led setting epoch (failed_now (chronicle setting (st.x ∷ st.h))) t s0 source y (suc n)) top_is
+    (subst (λ failed. Led setting epoch failed top s0 source y (suc n)) (sym st.failed) led)) short)

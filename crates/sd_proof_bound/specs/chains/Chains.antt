@@ -10,12 +10,12 @@ use Rattle.sd_proof_bound.specs.timeouts.Settled.{IsWell}
 use Rattle.sd_proof_bound.specs.traces.Led.{ActsSince, Led}
 
 -- a chain of at most so many hops to a device, and where it begins
-pub record Chain (setting : Setting) (failed : List Thing) (top : Moment) (s0 y k : ℕ) : Type 0 where
+pub record Chain (setting : Setting) (epoch : ℕ) (failed : List Thing) (top : Moment) (s0 y k : ℕ) : Type 0 where
   pub source : ℕ
-  pub well : IsWell setting failed source
+  pub well : IsWell setting epoch failed source
   pub acts : ActsSince top s0 source
   pub hops : ℕ
-  pub led : Led setting failed top s0 source y hops
+  pub led : Led setting epoch failed top s0 source y hops
   pub short : hops ≤ k + (depth setting.net + 1)
 
 -- how long a message that was on its way may take yet, with one hop more

@@ -22,11 +22,11 @@ abbrev pub ActsSince : Moment → ℕ → ℕ → Type 0
 ActsSince top s0 x = (q : Moment) → IsIn q (upto top) → s0 < when q → acts_in q.earlier x ≡ true
 
 -- so many hops from the source to the device: each device remains on the hop that leads to the one before it
-pub data Led (setting : Setting) (failed : List Thing) (top : Moment) (s0 source : ℕ) : ℕ → ℕ → Type 0 where
-  at_source : Led setting failed top s0 source source zero
-  onward : {x n : ℕ} → Led setting failed top s0 source x n → (y : ℕ) (put : Bool) (hop : Hop) → IsWell setting failed y
-      → hop_on (the_plan setting) put y ≡ Some hop → hop.parent ≡ x
-      → is_among failed (thing.Link hop.link) ≡ false → Remains top s0 y put → Led setting failed top s0 source y (suc n)
+pub data Led (setting : Setting) (epoch : ℕ) (failed : List Thing) (top : Moment) (s0 source : ℕ) : ℕ → ℕ → Type 0 where
+  at_source : Led setting epoch failed top s0 source source zero
+  onward : {x n : ℕ} → Led setting epoch failed top s0 source x n → (y : ℕ) (put : Bool) (hop : Hop) → IsWell setting epoch failed y
+      → hop_on (the_plan setting epoch) put y ≡ Some hop → hop.parent ≡ x
+      → is_among failed (thing.Link hop.link) ≡ false → Remains top s0 y put → Led setting epoch failed top s0 source y (suc n)
 
 -- after the moment, up to the top, the device remains where it is
 abbrev pub RemainsAfter : Moment → Moment → ℕ → Bool → Type 0
@@ -39,5 +39,5 @@ Stands (begins message emits carries epoch_is) top = Unit {0}
 Stands (goes_on {to = to} {d = d} trace hop) top = Stands trace top × RemainsAfter to top d (moved to.earlier d)
 
 -- no walk from the device is longer
-abbrev pub IsWithin : Setting → DomainId → ℕ → ℕ → Type 0
-IsWithin setting f y k = (hops : List Hop) → IsTrue (is_walk setting.net (the_plan setting) f y hops) → length hops ≤ k
+abbrev pub IsWithin : Setting → ℕ → DomainId → ℕ → ℕ → Type 0
+IsWithin setting epoch f y k = (hops : List Hop) → IsTrue (is_walk setting.net (the_plan setting epoch) f y hops) → length hops ≤ k
