@@ -5,10 +5,12 @@ pub mod Calm
 pub mod Hearing
 pub mod Closing
 pub mod Renewed
+pub mod RenewedBound
 pub mod ages
 pub mod bases
 pub mod chains
 pub mod histories
+pub mod rebased
 pub mod timeouts
 pub mod traces
 -- Handed on: what crates above name of those below.

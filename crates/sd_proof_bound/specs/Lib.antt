@@ -12,6 +12,8 @@ pub mod Tight
 pub mod Calm
 pub mod Closing
 pub mod Renewed
+pub mod RenewedBound
+pub mod RenewedBases
 -- Handed on: what crates above name of those below.
 pub use Rattle.sd_drill.specs as Drill
 pub use Rattle.sd_proof_safety.specs.History as History

@@ -21,7 +21,9 @@
 //! has failed. The others are on histories with any number of renewals. `enter_in_time` and
 //! `seals_close` (specs/Closing): when all members have entered a staged plan, and which seal closes
 //! its window. `stays_settled` (specs/Renewed): how devices stand and hear after a renewal, while
-//! nothing has failed since.
+//! nothing has failed since. `hears_again_renewed`, `ages_hold_renewed` and `bound_holds_renewed`
+//! (specs/RenewedBound): the same once things of a domain fail. `drill_holds_renewed`
+//! (specs/RenewedBases): no report is above the number of the drill then.
 //!
 //! # The route
 //!
@@ -31,9 +33,11 @@
 //! 1. `Composing` composes the two: `BasesHold net plan → AgesHold net plan → AlwaysBounded net plan budget f`.
 //! 2. `histories` says what such a history is like, and `bases` with which uncertainty an estimate is
 //!    set (`BasesHold`): the invariant of `sd_proof_safety` says where devices are.
-//! 3. `timeouts`, `traces` and `chains` say when devices hear, and `ages` how old their estimates are
-//!    (`AgesHold`).
+//! 3. `timeouts`, `traces` and `chains` say when devices hear, under one plan since the latest closing
+//!    or from the start (`IsUnderWay`), and `ages` how old their estimates are (`AgesHold`).
 //! 4. `Bounded` puts both together. `Hearing` goes from a chain to the round that comes down it.
+//!    `RenewedBound` shows that the run since a closing is one under one plan.
+//! 5. `rebased` says with which uncertainty an estimate is set after a renewal, along traces.
 //!
 //! # The words, in reading order
 //!
