@@ -8,7 +8,8 @@ import unittest
 
 from support import EXAMPLES, PROGRAM, TOOLS, directory, needs_sundial
 
-SECONDS = 60
+# (how long a busy machine may take: what is asked is the order, and not the time)
+SECONDS = 600
 INCIDENT, LOGS = EXAMPLES / "incident", EXAMPLES / "logs"
 
 

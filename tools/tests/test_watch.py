@@ -413,7 +413,7 @@ class Stopped(unittest.TestCase):
             self.write_some(len(self.fabric.lines) // FULLS)
             room += self.draw.randint(0, 4000 // FULLS)
             with self.begin(preexec_fn=lambda: resource.setrlimit(resource.RLIMIT_FSIZE, (room, room))) as process:
-                status, said = process.wait(timeout=120), process.stderr.read()
+                status, said = process.wait(timeout=600), process.stderr.read()
             self.assertEqual(status, 1)
             self.assertRegex(said, r"(^|\n)sundial-watch: .*: File too large\n$")
         self.judge()

@@ -40,7 +40,7 @@ def free_port():
 
 
 def fetched(port, path="/metrics"):
-    with urllib.request.urlopen(f"http://127.0.0.1:{port}{path}", timeout=30) as answer:
+    with urllib.request.urlopen(f"http://127.0.0.1:{port}{path}", timeout=300) as answer:
         return answer.headers["Content-Type"], answer.read().decode()
 
 
