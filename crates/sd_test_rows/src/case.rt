@@ -1,7 +1,6 @@
 //! Runs of `case`: its line, words that are none of its, and a sink that fails.
 
-use crate::kit::USAGE;
-use crate::runs::{Run, assert_ran, run_of};
+use crate::kit::{USAGE, run_words, shelf_of};
 use sd_top::Status;
 use std::process::Abort;
 use std::test::Fail;
@@ -14,11 +13,13 @@ fn assert_run(
     failing: &[(u64, usize)],
     due: (&str, Status),
 ) -> Result<(), Fail> {
-    let run = Run {
-        writes: failing,
-        ..run_of(words, &[])
-    };
-    assert_ran(rt, run, due)
+    let alloc = rt.alloc();
+    let (output, status) = due;
+    let mut shelf = shelf_of(alloc, &[], 1, &[])?;
+    let ran = run_words(alloc, words, &mut shelf, failing)?;
+    assert_eq!(rt; std::str::from_utf8(ran.out.bytes()), Ok(output));
+    assert_eq!(rt; ran.status, status, "{output:?}");
+    Ok(())
 }
 
 /// The line of a case that ends well.
@@ -55,41 +56,32 @@ fn sixteen_leaves(rt: HostRuntime) -> Result<(), Fail> {
 }
 
 /// Numbers just past their limits, and such as are not written as numbers are.
-static OTHERS: [[&str; 4]; 9] = [
-    ["case", "1", "1", "3"],
-    ["case", "1", "257", "3"],
-    ["case", "1", "2", "2"],
-    ["case", "1", "2", "33"],
-    ["case", "18446744073709551616", "2", "3"],
-    ["case", "01", "2", "3"],
-    ["case", "1", "+2", "3"],
-    ["case", "1", "2", ""],
-    ["cases", "1", "2", "3"],
-];
-
 #[test]
 fn other_words(rt: HostRuntime) -> Result<(), Fail> {
-    for words in &OTHERS {
-        assert_run(&rt, words, &[], (USAGE, Status::Usage))?;
+    for words in [
+        ["case", "1", "1", "3"],
+        ["case", "1", "257", "3"],
+        ["case", "1", "2", "2"],
+        ["case", "1", "2", "33"],
+        ["case", "18446744073709551616", "2", "3"],
+        ["case", "01", "2", "3"],
+        ["case", "1", "+2", "3"],
+        ["case", "1", "2", ""],
+        ["cases", "1", "2", "3"],
+    ] {
+        assert_run(&rt, &words, &[], (USAGE, Status::Usage))?;
     }
     Ok(())
 }
 
-/// Other counts of words.
-static COUNTS: [&[&str]; 5] = [
-    &[],
-    &["check", "topology"],
-    &["case"],
-    &["case", "1", "2"],
-    &["case", "1", "2", "3", "4"],
-];
-
 #[test]
 fn other_counts_of_words(rt: HostRuntime) -> Result<(), Fail> {
-    for words in &COUNTS {
-        assert_run(&rt, words, &[], (USAGE, Status::Usage))?;
-    }
-    Ok(())
+    let usage = (USAGE, Status::Usage);
+    assert_run(&rt, &[], &[], usage)?;
+    assert_run(&rt, &["check", "topology"], &[], usage)?;
+    assert_run(&rt, &["case"], &[], usage)?;
+    assert_run(&rt, &["case", "1", "2"], &[], usage)?;
+    assert_run(&rt, &["case", "1", "2", "3", "4"], &[], usage)
 }
 
 /// The line is one write.

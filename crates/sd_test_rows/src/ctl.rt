@@ -42,20 +42,18 @@ fn assert_writes(
     Ok(())
 }
 
-/// Words that are no command's.
-static OTHERS: [&[&str]; 6] = [
-    &[],
-    &["plan", "topology"],
-    &["search", "topology", "1", "1", "1"],
-    &["search", "topology", "01", "1", "1", "0"],
-    &["search", "topology", "1152921504606846977", "1", "1", "0"],
-    &["renew", "topology", "plan", "1", "1", "1", "0"],
-];
-
 #[test]
 fn other_words_are_usage(rt: HostRuntime) -> Result<(), Fail> {
+    let cases: [&[&str]; 6] = [
+        &[],
+        &["plan", "topology"],
+        &["search", "topology", "1", "1", "1"],
+        &["search", "topology", "01", "1", "1", "0"],
+        &["search", "topology", "1152921504606846977", "1", "1", "0"],
+        &["renew", "topology", "plan", "1", "1", "1", "0"],
+    ];
     let texts = [("topology", FABRIC.as_bytes())];
-    for words in &OTHERS {
+    for words in cases {
         assert_writes(&rt, words, &texts, (USAGE, Status::Usage))?;
     }
     Ok(())

@@ -1,8 +1,8 @@
 //! `drill`: bounds and refusals worked out by hand, in pieces, and where the outside fails.
 ghost use Rattle.std.specs.Prelude.{◌≤◌};
 
-use crate::kit::USAGE;
-use crate::runs::{Run, assert_ran, ran, run_of};
+use crate::kit::{USAGE, run_words, shelf_of};
+use crate::runs::{Run, assert_ran, run_of};
 use sd_test_examples::{
     DRIFTLESS, DRIFTLESS_PLAN, FABRIC, FABRIC_PLAN, TRIANGLE, TRIANGLE_2, TRIANGLE_PLAN,
 };
@@ -96,32 +96,30 @@ fn a_refused_plan_is_not_drilled(rt: HostRuntime) -> Result<(), Fail> {
     )
 }
 
-/// Budgets that are none.
-static BUDGETS: [[&str; 5]; 6] = [
-    ["drill", "topology", "plan", "01", "0"],
-    ["drill", "topology", "plan", "0", ""],
-    ["drill", "topology", "plan", "-1", "0"],
-    ["drill", "topology", "plan", "1152921504606846977", "0"],
-    ["drill", "topology", "plan", "0", "1152921504606846977"],
-    ["drill", "topology", "plan", "0", "99999999999999999999"],
-];
-
-/// The greatest budget.
-const GREATEST: [&str; 5] = [
-    "drill",
-    "topology",
-    "plan",
-    "1152921504606846976",
-    "1152921504606846976",
-];
-
 #[test]
 fn a_budget_is_two_numbers_within_their_limit(rt: HostRuntime) -> Result<(), Fail> {
-    let texts = texts_of(TRIANGLE, TRIANGLE_PLAN);
-    for words in &BUDGETS {
-        assert_ran(&rt, run_of(words, &texts), (USAGE, Status::Usage))?;
+    for (base, hold) in [
+        ("01", "0"),
+        ("0", ""),
+        ("-1", "0"),
+        ("1152921504606846977", "0"),
+        ("0", "1152921504606846977"),
+        ("0", "99999999999999999999"),
+    ] {
+        let words = ["drill", "topology", "plan", base, hold];
+        assert_run(
+            &rt,
+            &words,
+            (TRIANGLE, TRIANGLE_PLAN),
+            8192,
+            (USAGE, Status::Usage),
+        )?;
     }
-    let ran = ran(rt.alloc(), run_of(&GREATEST, &texts))?;
+    let alloc = rt.alloc();
+    let limit = "1152921504606846976";
+    let mut shelf = shelf_of(alloc, &texts_of(TRIANGLE, TRIANGLE_PLAN), 8192, &[])?;
+    let words = ["drill", "topology", "plan", limit, limit];
+    let ran = run_words(alloc, &words, &mut shelf, &[])?;
     assert_eq!(rt; ran.status, Status::Done);
     Ok(())
 }

@@ -1,12 +1,14 @@
 //! Runs of `order` over the triangle: what is written and answered.
-ghost use Rattle.std.specs.Prelude.{◌≤◌};
+ghost use Rattle.std.specs.Prelude.{◌≡◌, ◌≤◌, false, IfOk};
 
 mod faults;
 mod words;
 
-use crate::runs::{Run, assert_ran, run_of};
+use crate::kit::{run_words, shelf_of};
+use sd_outside::MemShelf;
 use sd_test_examples::{TRIANGLE, TRIANGLE_PLAN};
 use sd_top::Status;
+use std::alloc::{AllocError, Global};
 use std::process::Abort;
 use std::test::Fail;
 
@@ -75,41 +77,34 @@ waits 3 1 1
     status: Status::Broken,
 };
 
-/// The texts of a row under their names.
-fn texts_of<'a>(row: &Row<'a>) -> [(&'a str, &'a [u8]); 3] {
-    [
+/// A shelf that holds the files of a row.
+fn shelf_for(
+    alloc: Global,
+    row: &Row<'_>,
+    piece: usize,
+    failing: &[u64],
+) -> Result<MemShelf, AllocError>
+    requires { 1 ≤ piece }
+    ensures { IfOk result (λ shelf. shelf.begun ≡ false) }
+{
+    let texts = [
         ("topology", TRIANGLE.as_bytes()),
         ("plan", TRIANGLE_PLAN.as_bytes()),
         ("schedule", row.schedule.as_bytes()),
-    ]
-}
-
-/// A run over the texts of a row writes and answers what is due.
-fn assert_over(
-    rt: &(impl Abort + AllocGlobal),
-    row: &Row<'_>,
-    run: Run<'_>,
-    due: (&str, Status),
-) -> Result<(), Fail>
-    requires { 1 ≤ run.piece }
-{
-    let texts = texts_of(row);
-    let run = Run {
-        texts: &texts,
-        ..run
-    };
-    assert_ran(rt, run, due)
+    ];
+    shelf_of(alloc, &texts, piece, failing)
 }
 
 /// One run that nothing stops.
 fn assert_row(rt: &(impl Abort + AllocGlobal), row: &Row<'_>, piece: usize) -> Result<(), Fail>
     requires { 1 ≤ piece }
 {
-    let run = Run {
-        piece,
-        ..run_of(WORDS, &[])
-    };
-    assert_over(rt, row, run, (row.output, row.status))
+    let alloc = rt.alloc();
+    let mut shelf = shelf_for(alloc, row, piece, &[])?;
+    let ran = run_words(alloc, WORDS, &mut shelf, &[])?;
+    assert_eq!(rt; std::str::from_utf8(ran.out.bytes()), Ok(row.output));
+    assert_eq!(rt; ran.status, row.status, "{:?}", row.output);
+    Ok(())
 }
 
 #[test]

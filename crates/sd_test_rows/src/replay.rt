@@ -1,5 +1,5 @@
 //! Runs of `replay` over the triangle: what is written and answered.
-ghost use Rattle.std.specs.Prelude.{◌≤◌};
+ghost use Rattle.std.specs.Prelude.{◌≡◌, ◌≤◌, false, IfOk};
 
 mod dishonest;
 mod faults;
@@ -9,7 +9,8 @@ mod texts;
 mod versions;
 mod words;
 
-use crate::runs::{Run, assert_ran, run_of};
+use crate::kit::run_words;
+use sd_outside::MemShelf;
 use sd_test_examples::{TRIANGLE, TRIANGLE_PLAN};
 use sd_top::Status;
 use std::alloc::{AllocError, Global};
@@ -28,52 +29,48 @@ struct Row<'a> {
     status: Status,
 }
 
-/// The schedule of a row.
-fn schedule_of(alloc: Global, row: &Row<'_>) -> Result<Vec<u8>, AllocError> {
+/// Adds a text under a name.
+fn add_text(
+    alloc: Global,
+    files: &mut Vec<(String, Vec<u8>)>,
+    name: &str,
+    text: &str,
+) -> Result<(), AllocError> {
+    files.push((
+        String::from_str(alloc, name)?,
+        Vec::from_slice(alloc, text.as_bytes())?,
+    ))?;
+    Ok(())
+}
+
+/// A shelf that holds the files of a row.
+fn shelf_for(alloc: Global, row: &Row<'_>, piece: usize, failing: &[u64]) -> Result<MemShelf, Fail>
+    requires { 1 ≤ piece }
+    ensures { IfOk result (λ shelf. shelf.begun ≡ false) }
+{
     let mut schedule = Vec::new(alloc);
     for part in row.schedule {
         schedule.extend_from_slice(part.as_bytes())?;
     }
-    Ok(schedule)
-}
-
-/// The texts of a row under their names.
-fn texts_of<'a>(row: &Row<'a>, schedule: &'a [u8]) -> [(&'a str, &'a [u8]); 4] {
-    [
-        ("topology", row.topology.as_bytes()),
-        ("plan", TRIANGLE_PLAN.as_bytes()),
-        ("second", SECOND_PLAN.as_bytes()),
-        ("schedule", schedule),
-    ]
-}
-
-/// A run over the texts of a row writes and answers what is due.
-fn assert_over(
-    rt: &(impl Abort + AllocGlobal),
-    row: &Row<'_>,
-    run: Run<'_>,
-    due: (&str, Status),
-) -> Result<(), Fail>
-    requires { 1 ≤ run.piece }
-{
-    let schedule = schedule_of(rt.alloc(), row)?;
-    let texts = texts_of(row, schedule.as_slice());
-    let run = Run {
-        texts: &texts,
-        ..run
-    };
-    assert_ran(rt, run, due)
+    let mut files = Vec::new(alloc);
+    add_text(alloc, &mut files, "topology", row.topology)?;
+    add_text(alloc, &mut files, "plan", TRIANGLE_PLAN)?;
+    add_text(alloc, &mut files, "second", SECOND_PLAN)?;
+    files.push((String::from_str(alloc, "schedule")?, schedule))?;
+    let shelf = MemShelf::new(files, piece, Vec::from_slice(alloc, failing)?);
+    Ok(shelf)
 }
 
 /// One run that nothing stops.
 fn assert_row(rt: &(impl Abort + AllocGlobal), row: &Row<'_>, piece: usize) -> Result<(), Fail>
     requires { 1 ≤ piece }
 {
-    let run = Run {
-        piece,
-        ..run_of(row.words, &[])
-    };
-    assert_over(rt, row, run, (row.output, row.status))
+    let alloc = rt.alloc();
+    let mut shelf = shelf_for(alloc, row, piece, &[])?;
+    let ran = run_words(alloc, row.words, &mut shelf, &[])?;
+    assert_eq!(rt; std::str::from_utf8(ran.out.bytes()), Ok(row.output));
+    assert_eq!(rt; ran.status, row.status, "{:?}", row.output);
+    Ok(())
 }
 
 /// The words over one plan.

@@ -1,7 +1,7 @@
 //! One run of the program over texts in memory, as all rows ask for it.
 ghost use Rattle.std.specs.Prelude.{◌≡◌, ◌≤◌};
 
-use crate::kit::{Ran, run_words, shelf_of};
+use crate::kit::{run_words, shelf_of};
 use sd_top::Status;
 use std::alloc::{AllocError, Global};
 use std::process::Abort;
@@ -39,14 +39,6 @@ pub(crate) fn refused_at_once(alloc: Global) -> Result<Vec<u8>, AllocError> {
     let mut text = vec![in alloc; b'y'; 20_002]?;
     text.as_mut_slice()[..2].copy_from_slice(b"x\n");
     Ok(text)
-}
-
-/// What a run writes and answers.
-pub(crate) fn ran(alloc: Global, run: Run<'_>) -> Result<Ran, AllocError>
-    requires { 1 ≤ run.piece }
-{
-    let mut shelf = shelf_of(alloc, run.texts, run.piece, run.calls)?;
-    run_words(alloc, run.words, &mut shelf, run.writes)
 }
 
 /// A run writes and answers what is due, and leaves at least so many bytes of the text that it

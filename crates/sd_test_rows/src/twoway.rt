@@ -194,44 +194,39 @@ fn nothing_is_written_where_a_call_of_the_shelf_fails(rt: HostRuntime) -> Result
     assert_calls_fail(&rt, run_of(&WORDS, &texts), 6, output)
 }
 
-/// Writes that fail, what each keeps, and what is written then.
-static FRONTS: [(u64, usize, &str); 4] = [
-    (1, 0, ""),
-    (1, 7, "link rb"),
-    (2, 4, "link rb 698660 701340 1 inside\nlink"),
-    (
-        3,
-        6,
-        "link rb 698660 701340 1 inside\nlink rx 0 500 1 outside\ndone 3",
-    ),
-];
-
 #[test]
 fn each_line_is_a_write_of_its_own(rt: HostRuntime) -> Result<(), Fail> {
     let texts = texts_of(TRIANGLE, TWO.0.as_bytes());
-    for (write, kept, output) in &FRONTS {
+    for (write, kept, output) in [
+        (1, 0, ""),
+        (1, 7, "link rb"),
+        (2, 4, "link rb 698660 701340 1 inside\nlink"),
+        (
+            3,
+            6,
+            "link rb 698660 701340 1 inside\nlink rx 0 500 1 outside\ndone 3",
+        ),
+    ] {
         let run = Run {
-            writes: &[(*write, *kept)],
+            writes: &[(write, kept)],
             ..run_of(&WORDS, &texts)
         };
-        assert_ran(&rt, run, (*output, Status::SinkFault))?;
+        assert_ran(&rt, run, (output, Status::SinkFault))?;
     }
     Ok(())
 }
 
-/// Words that are no command's.
-static OTHERS: [&[&str]; 5] = [
-    &["twoway"],
-    &["twoway", "topology"],
-    &["twoway", "topology", "exchanges", "exchanges"],
-    &["topology", "twoway", "exchanges"],
-    &["Twoway", "topology", "exchanges"],
-];
-
 #[test]
 fn other_words_are_usage(rt: HostRuntime) -> Result<(), Fail> {
+    let cases: [&[&str]; 5] = [
+        &["twoway"],
+        &["twoway", "topology"],
+        &["twoway", "topology", "exchanges", "exchanges"],
+        &["topology", "twoway", "exchanges"],
+        &["Twoway", "topology", "exchanges"],
+    ];
     let texts = texts_of(TRIANGLE, b"end\n");
-    for words in &OTHERS {
+    for words in cases {
         assert_ran(&rt, run_of(words, &texts), (USAGE, Status::Usage))?;
     }
     Ok(())

@@ -131,51 +131,36 @@ fn a_renewal_goes_on_without_what_is_absent(rt: HostRuntime) -> Result<(), Fail>
     assert_writes(&rt, &words, &texts, (FABRIC_RENEWED, Status::Done))
 }
 
-/// A search of a topology finds no plan, and names a breach.
-fn assert_refused(
-    rt: &(impl Abort + AllocGlobal),
-    topology: &str,
-    steps: &str,
-) -> Result<(), Fail> {
-    let texts = [("topology", topology.as_bytes())];
-    let ran = run_over(rt, &words_of(steps), &texts, &[], &[])?;
-    assert_eq!(rt; ran.status, Status::PlanRefused, "{steps}");
-    assert!(rt; ran.out.bytes().starts_with(b"refused plan 1 "), "{steps}");
-    Ok(())
-}
-
 #[test]
 fn a_plan_is_found_where_greed_fails(rt: HostRuntime) -> Result<(), Fail> {
-    assert_refused(&rt, MESH, "0")?;
+    let texts = [("topology", MESH.as_bytes())];
+    let greedy = run_over(&rt, &words_of("0"), &texts, &[], &[])?;
+    assert_eq!(rt; greedy.status, Status::PlanRefused);
     assert_found(&rt, MESH, "4000", "accepted 12 20 36\n")
 }
 
 #[test]
 fn no_plan_is_found_where_there_is_none(rt: HostRuntime) -> Result<(), Fail> {
-    assert_refused(&rt, ROW, "0")?;
-    assert_refused(&rt, ROW, "300")
-}
-
-/// A search of the fabric in which calls of the shelf or writes fail writes and answers this.
-fn assert_stopped(
-    rt: &(impl Abort + AllocGlobal),
-    calls: &[u64],
-    writes: &[(u64, usize)],
-    due: (&[u8], Status),
-) -> Result<(), Fail> {
-    let texts = [("topology", FABRIC.as_bytes())];
-    let ran = run_over(rt, &words_of("0"), &texts, calls, writes)?;
-    assert_eq!(rt; ran.status, due.1, "{calls:?}");
-    assert_eq!(rt; ran.out.bytes(), due.0, "{calls:?}");
+    let texts = [("topology", ROW.as_bytes())];
+    for steps in ["0", "300"] {
+        let ran = run_over(&rt, &words_of(steps), &texts, &[], &[])?;
+        assert_eq!(rt; ran.status, Status::PlanRefused, "{steps}");
+        assert!(rt; ran.out.bytes().starts_with(b"refused plan 1 "), "{steps}");
+    }
     Ok(())
 }
 
 #[test]
 fn the_outside_fails(rt: HostRuntime) -> Result<(), Fail> {
+    let texts = [("topology", FABRIC.as_bytes())];
     // begun, read, and read to the end
     for call in [1, 2, 3u64] {
-        assert_stopped(&rt, &[call], &[], (b"".as_slice(), Status::ShelfFault))?;
+        let ran = run_over(&rt, &words_of("0"), &texts, &[call], &[])?;
+        assert_eq!(rt; ran.status, Status::ShelfFault, "{call}");
+        assert!(rt; ran.out.bytes().is_empty(), "{call}");
     }
-    let front = (b"{\"a".as_slice(), Status::SinkFault);
-    assert_stopped(&rt, &[], &[(1, 3)], front)
+    let ran = run_over(&rt, &words_of("0"), &texts, &[], &[(1, 3)])?;
+    assert_eq!(rt; ran.status, Status::SinkFault);
+    assert_eq!(rt; ran.out.bytes(), b"{\"a".as_slice());
+    Ok(())
 }

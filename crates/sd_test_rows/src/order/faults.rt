@@ -1,7 +1,7 @@
 //! Where the outside fails: a write, and the read behind the last line.
 
-use super::{THREE, WORDS, assert_over};
-use crate::runs::{Run, run_of};
+use super::{THREE, WORDS, shelf_for};
+use crate::kit::run_words;
 use sd_top::Status;
 use std::test::Fail;
 
@@ -24,25 +24,21 @@ ended 6 4
 begin 6 r 1005701
 ";
 
-/// Writes that fail, what each keeps, and what was written before and of it. The steps of the run
-/// are one write each, and so are `done` and `waits`.
-static CUTS: [(u64, usize, &str, &str); 4] = [
-    (1, 23, "", "report 4 r 1000000 1700"),
-    (3, 27, TWO, "report 6 r 1004000 1701\nend"),
-    (4, 3, ALL, "don"),
-    (5, 0, ALL, "done 7 3\n"),
-];
-
+/// The steps of the run are one write each, and so are `done` and `waits`.
 #[test]
 fn each_write_fails(rt: HostRuntime) -> Result<(), Fail> {
-    for (write, kept, whole, cut) in &CUTS {
-        let output = format!(in rt.alloc(); "{whole}{cut}")?;
-        let run = Run {
-            writes: &[(*write, *kept)],
-            ..run_of(WORDS, &[])
-        };
-        let due = (output.as_str(), Status::SinkFault);
-        assert_over(&rt, &THREE, run, due)?;
+    let alloc = rt.alloc();
+    for (write, kept, whole, cut) in [
+        (1, 23, "", "report 4 r 1000000 1700"),
+        (3, 27, TWO, "report 6 r 1004000 1701\nend"),
+        (4, 3, ALL, "don"),
+        (5, 0, ALL, "done 7 3\n"),
+    ] {
+        let output = format!(in alloc; "{whole}{cut}")?;
+        let mut shelf = shelf_for(alloc, &THREE, 8192, &[])?;
+        let ran = run_words(alloc, WORDS, &mut shelf, &[(write, kept)])?;
+        assert_eq!(rt; ran.status, Status::SinkFault, "write {write}");
+        assert_eq!(rt; std::str::from_utf8(ran.out.bytes()), Ok(output.as_str()));
     }
     Ok(())
 }
@@ -52,13 +48,13 @@ const CALLS: u64 = 9;
 
 #[test]
 fn each_call_of_the_shelf_fails(rt: HostRuntime) -> Result<(), Fail> {
+    let alloc = rt.alloc();
     for call in 1..=CALLS {
+        let mut shelf = shelf_for(alloc, &THREE, 8192, &[call])?;
+        let ran = run_words(alloc, WORDS, &mut shelf, &[])?;
         let output = if call == CALLS { ALL } else { "" };
-        let run = Run {
-            calls: &[call],
-            ..run_of(WORDS, &[])
-        };
-        assert_over(&rt, &THREE, run, (output, Status::ShelfFault))?;
+        assert_eq!(rt; ran.status, Status::ShelfFault, "call {call}");
+        assert_eq!(rt; std::str::from_utf8(ran.out.bytes()), Ok(output));
     }
     Ok(())
 }

@@ -1,12 +1,11 @@
 //! The triangle in version 2, where devices and directions differ; and as it is migrated.
 
 use super::texts::*;
-use super::{BASE, ONE, Row, assert_row, schedule_of, texts_of};
-use crate::kit::Ran;
-use crate::runs::{ran, run_of};
+use super::{BASE, ONE, Row, assert_row, shelf_for};
+use crate::kit::run_words;
 use sd_test_examples::TRIANGLE_2;
 use sd_top::Status;
-use std::alloc::{AllocError, Global};
+use std::alloc::Global;
 use std::process::Abort;
 use std::test::Fail;
 
@@ -71,23 +70,14 @@ fn a_device_with_its_own_drift(rt: HostRuntime) -> Result<(), Fail> {
     assert_changed(&rt, topology.as_str(), &broken, output, Status::Broken)
 }
 
-/// The triangle, migrated.
-fn migrated(alloc: Global) -> Result<Ran, AllocError> {
-    let texts = texts_of(&BASE, &[]);
-    ran(alloc, run_of(&["migrate", "topology"], &texts))
-}
-
-/// The base schedule runs as it did over a topology that was written.
-fn assert_base(rt: &(impl Abort + AllocGlobal), topology: &[u8]) -> Result<(), Fail> {
-    match std::str::from_utf8(topology) {
-        Ok(text) => assert_changed(rt, text, BASE.schedule, BASE.output, BASE.status),
-        Err(_) => Err(Fail::from("the topology is no text")),
-    }
-}
-
 #[test]
 fn a_migrated_topology_gives_the_same(rt: HostRuntime) -> Result<(), Fail> {
-    let ran = migrated(rt.alloc())?;
+    let alloc = rt.alloc();
+    let mut shelf = shelf_for(alloc, &BASE, 8192, &[])?;
+    let ran = run_words(alloc, &["migrate", "topology"], &mut shelf, &[])?;
     assert_eq!(rt; ran.status, Status::Done);
-    assert_base(&rt, ran.out.bytes())
+    let Ok(topology) = std::str::from_utf8(ran.out.bytes()) else {
+        return Err(Fail::from("the topology is no text"));
+    };
+    assert_changed(&rt, topology, BASE.schedule, BASE.output, BASE.status)
 }

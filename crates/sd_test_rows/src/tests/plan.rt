@@ -78,56 +78,54 @@ fn devices_at_the_limit_and_past_it(rt: HostRuntime) -> Result<(), Fail> {
     assert_plan(&rt, more.as_bytes(), refused, Status::InputRefused)
 }
 
-/// A topology, a plan and what is absent, what is written and what is answered.
-static RENEWALS: [((&str, &str, &str), &str, Status); 6] = [
-    (
-        (
-            FABRIC,
-            FABRIC_PLAN,
-            r#"{"absent_devices":["s1"],"absent_links":[]}"#,
-        ),
-        "refused plan 1 structure 1 device s2\n",
-        Status::PlanRefused,
-    ),
-    (
-        (
-            FABRIC,
-            FABRIC_PLAN,
-            r#"{"absent_devices":["l3"],"absent_links":[]}"#,
-        ),
-        FABRIC_RENEWED,
-        Status::Done,
-    ),
-    (
-        (TRIANGLE, TRIANGLE_PLAN, "0"),
-        "input absent WrongKind absent 0\n",
-        Status::InputRefused,
-    ),
-    (
-        (TRIANGLE, "[]", "0"),
-        "input plan 1 WrongKind plan 0\n",
-        Status::InputRefused,
-    ),
-    (
-        ("", "[]", "0"),
-        "input topology Missing version 0\n",
-        Status::InputRefused,
-    ),
-    (
-        (
-            TRIANGLE,
-            TRIANGLE_PLAN,
-            r#"{"absent_devices":["z"],"absent_links":[]}"#,
-        ),
-        "input absent UnknownName absent_devices 0\n",
-        Status::InputRefused,
-    ),
-];
-
 #[test]
 fn a_plan_is_renewed_without_what_is_absent(rt: HostRuntime) -> Result<(), Fail> {
-    for (texts, output, status) in &RENEWALS {
-        assert_renewal(&rt, *texts, output, *status)?;
+    let cases = [
+        (
+            (
+                FABRIC,
+                FABRIC_PLAN,
+                r#"{"absent_devices":["s1"],"absent_links":[]}"#,
+            ),
+            "refused plan 1 structure 1 device s2\n",
+            Status::PlanRefused,
+        ),
+        (
+            (
+                FABRIC,
+                FABRIC_PLAN,
+                r#"{"absent_devices":["l3"],"absent_links":[]}"#,
+            ),
+            FABRIC_RENEWED,
+            Status::Done,
+        ),
+        (
+            (TRIANGLE, TRIANGLE_PLAN, "0"),
+            "input absent WrongKind absent 0\n",
+            Status::InputRefused,
+        ),
+        (
+            (TRIANGLE, "[]", "0"),
+            "input plan 1 WrongKind plan 0\n",
+            Status::InputRefused,
+        ),
+        (
+            ("", "[]", "0"),
+            "input topology Missing version 0\n",
+            Status::InputRefused,
+        ),
+        (
+            (
+                TRIANGLE,
+                TRIANGLE_PLAN,
+                r#"{"absent_devices":["z"],"absent_links":[]}"#,
+            ),
+            "input absent UnknownName absent_devices 0\n",
+            Status::InputRefused,
+        ),
+    ];
+    for (texts, output, status) in cases {
+        assert_renewal(&rt, texts, output, status)?;
     }
     Ok(())
 }
