@@ -4,12 +4,13 @@ _sundialctl() {
     local current=${COMP_WORDS[COMP_CWORD]} most=0
     COMPREPLY=()
     if [ "$COMP_CWORD" -eq 1 ]; then
-        mapfile -t COMPREPLY < <(compgen -W "search renew" -- "$current")
+        mapfile -t COMPREPLY < <(compgen -W "search renew bounds" -- "$current")
         return
     fi
     # how many files the command reads: numbers follow
     case ${COMP_WORDS[1]} in
         search) most=1 ;;
+        bounds) most=2 ;;
         renew) most=3 ;;
     esac
     # names of files are left to readline, which knows of quotes and of ~

@@ -19,7 +19,7 @@ use Rattle.sd_cmd_files.specs.work.Ending.{LeavesAt}
 use Rattle.sd_cmd_files.specs.work.Leaving.{Leaves}
 use Rattle.sd_ctl_top.specs.Promise.{AnswersOf, IsUsageLine, MeetsOutcome, MeetsResult, statuses_of}
 use Rattle.sd_ctl_top.specs.Words.{Command, command_of}
-use Rattle.sd_ctl_top.specs.Words.Command.{Search, Renew}
+use Rattle.sd_ctl_top.specs.Words.Command.{Search, Renew, Bounds}
 
 -- the command of the words writes by one write what it has made
 pub made_meets : (held : Option (List ℕ → Option (List ℕ))) (words : List (List ℕ)) (command : Option Command) (made : Result Answer CommandError)
@@ -57,6 +57,9 @@ never_stopped (Some (Search topology settings)) Memory among = cc
 never_stopped (Some (Renew topology plan absent settings)) ShelfFault among = cc
 never_stopped (Some (Renew topology plan absent settings)) SinkFault among = cc
 never_stopped (Some (Renew topology plan absent settings)) Memory among = cc
+never_stopped (Some (Bounds topology plan budget)) ShelfFault among = cc
+never_stopped (Some (Bounds topology plan budget)) SinkFault among = cc
+never_stopped (Some (Bounds topology plan budget)) Memory among = cc
 never_stopped _ _ among = refl
 
 -- a run that ended

@@ -1,4 +1,5 @@
 pub mod Words
 pub mod Parsed
 pub mod Findings
+pub mod Bounded
 pub mod Promise

@@ -9,26 +9,31 @@ use Rattle.sd_cmd_files.specs.declared.Status.TheVariants.{Done, PlanRefused, Us
 use Rattle.sd_cmd_files.specs.declared.command_error.IoError.{IoError}
 use Rattle.sd_cmd_files.specs.work.Ending.{LeavesAt}
 use Rattle.sd_cmd_files.specs.work.Leaving.{Leaves}
+use Rattle.sd_ctl_top.specs.Bounded.{IsBounding}
 use Rattle.sd_ctl_top.specs.Findings.{IsRenewing, IsSearch}
 use Rattle.sd_ctl_top.specs.Words.{Command, command_of}
-use Rattle.sd_ctl_top.specs.Words.Command.{Search, Renew}
+use Rattle.sd_ctl_top.specs.Words.Command.{Search, Renew, Bounds}
 
 -- the usage line, with its status
 abbrev pub IsUsageLine : Allowed
 IsUsageLine bytes status =
-    (bytes ≡ codes "usage: sundialctl search TOPOLOGY BASE HOLD SEED STEPS | renew TOPOLOGY PLAN ABSENT BASE HOLD SEED STEPS\n") × (status ≡ Usage)
+    (bytes
+    ≡ codes "usage: sundialctl search TOPOLOGY BASE HOLD SEED STEPS | renew TOPOLOGY PLAN ABSENT BASE HOLD SEED STEPS | bounds TOPOLOGY PLAN BASE HOLD\n")
+    × (status ≡ Usage)
 
 -- what a command writes, with its status, over the texts of its files
 abbrev pub AnswersOf : Option Command → Texts → Allowed
 AnswersOf None texts = IsUsageLine
 AnswersOf (Some (Search topology settings)) texts = IsSearch (texts topology)
 AnswersOf (Some (Renew topology plan absent settings)) texts = IsRenewing (texts topology) (texts plan) (texts absent)
+AnswersOf (Some (Bounds topology plan budget)) texts = IsBounding (texts topology) (texts plan) budget
 
 -- the statuses that a command answers, whatever its files are
 abbrev pub statuses_of : Option Command → List Status
 statuses_of None = Usage ∷ []
 statuses_of (Some (Search topology settings)) = Done ∷ PlanRefused ∷ InputRefused ∷ []
 statuses_of (Some (Renew topology plan absent settings)) = Done ∷ PlanRefused ∷ InputRefused ∷ []
+statuses_of (Some (Bounds topology plan budget)) = Done ∷ PlanRefused ∷ InputRefused ∷ []
 
 -- what a run wrote over what the shelf holds, where that is told, is what its command writes, by one write; and nothing where it was stopped before
 unfoldable pub MeetsOutcome : Option (List ℕ → Option (List ℕ)) → List (List ℕ) → Option Pieces → Option Pieces → Status → Type 0

@@ -4,12 +4,14 @@ use Rattle.std.specs.Str.{bytes_eq}
 use Rattle.sd_num.specs.Decimals.{number}
 use Rattle.sd_num.specs.Lists.{map_or}
 use Rattle.sd_num.specs.declared.NumFault.{NumFault}
+use Rattle.sd_ctl_search.specs.Drill.declared.Budget.{Budget}
 use Rattle.sd_ctl_search.specs.declared.searching.Settings.{Settings}
 
--- a command, with the names of its files and its settings
+-- a command, with the names of its files and its settings or its budget
 pub data Command : Type 0 where
   Search : (topology : List ℕ) (settings : Settings) → Command
   Renew : (topology plan absent : List ℕ) (settings : Settings) → Command
+  Bounds : (topology plan : List ℕ) (budget : Budget) → Command
 
 -- the number that was read, where it is not above the greatest
 abbrev pub if_at_most : ℕ → Result ℕ NumFault → Option ℕ
@@ -20,12 +22,16 @@ if_at_most greatest (Err why) = None
 abbrev pub read_up_to : ℕ → List ℕ → Option ℕ
 read_up_to greatest word = if_at_most greatest (number word)
 
+-- the budget of the words for base and hold, each up to its limit
+abbrev pub budget_of : List ℕ → List ℕ → Option Budget
+budget_of base hold =
+    map_or (read_up_to (2 ^ 60) base) None (λ b. map_or (read_up_to (2 ^ 60) hold) None (λ h. Some (record { base = b; hold = h })))
+
 -- the settings of the words for base, hold, seed and steps, each up to its limit
 abbrev pub settings_of : List ℕ → List ℕ → List ℕ → List ℕ → Option Settings
 settings_of base hold seed steps =
-    map_or (read_up_to (2 ^ 60) base) None (λ b. map_or (read_up_to (2 ^ 60) hold) None
-    (λ h. map_or (read_up_to (2 ^ 64 - 1) seed) None (λ s. map_or (read_up_to (2 ^ 60) steps) None
-    (λ n. Some (record { budget = record { base = b; hold = h }; seed = s; steps = n })))))
+    map_or (budget_of base hold) None (λ b. map_or (read_up_to (2 ^ 64 - 1) seed) None (λ s. map_or (read_up_to (2 ^ 60) steps) None
+    (λ n. Some (record { budget = b; seed = s; steps = n }))))
 
 -- the settings of words, if they are four
 abbrev pub settings_among : List (List ℕ) → Option Settings
@@ -35,6 +41,13 @@ settings_among (base ∷ hold ∷ []) = None
 settings_among (base ∷ hold ∷ seed ∷ []) = None
 settings_among (base ∷ hold ∷ seed ∷ steps ∷ []) = settings_of base hold seed steps
 settings_among (base ∷ hold ∷ seed ∷ steps ∷ next ∷ others) = None
+
+-- the budget of words, if they are two
+abbrev pub budget_among : List (List ℕ) → Option Budget
+budget_among [] = None
+budget_among (base ∷ []) = None
+budget_among (base ∷ hold ∷ []) = budget_of base hold
+budget_among (base ∷ hold ∷ next ∷ others) = None
 
 -- a search over a topology with the settings of the words
 abbrev pub search_of : List (List ℕ) → Option Command
@@ -56,12 +69,23 @@ abbrev pub renewal_of : List (List ℕ) → Option Command
 renewal_of [] = None
 renewal_of (topology ∷ others) = renewal_over topology others
 
+-- the bounds of a plan over a topology, with the budget of the words
+abbrev pub bounds_over : List ℕ → List (List ℕ) → Option Command
+bounds_over topology [] = None
+bounds_over topology (plan ∷ numbers) = map_or (budget_among numbers) None (λ budget. Some (Bounds topology plan budget))
+
+-- the bounds with all of the words
+abbrev pub bounds_of : List (List ℕ) → Option Command
+bounds_of [] = None
+bounds_of (topology ∷ others) = bounds_over topology others
+
 -- the command of the words, if they are in the table
 abbrev pub command_of : List (List ℕ) → Option Command
 command_of [] = None
 command_of (word ∷ others) =
     if bytes_eq word (codes "search") then search_of others
     else if bytes_eq word (codes "renew") then renewal_of others
+    else if bytes_eq word (codes "bounds") then bounds_of others
     else None
 
 -- the names of the files that a command reads, in the order of its work
@@ -69,3 +93,4 @@ abbrev pub names_of : Option Command → List (List ℕ)
 names_of None = []
 names_of (Some (Search topology settings)) = topology ∷ []
 names_of (Some (Renew topology plan absent settings)) = topology ∷ plan ∷ absent ∷ []
+names_of (Some (Bounds topology plan budget)) = topology ∷ plan ∷ []

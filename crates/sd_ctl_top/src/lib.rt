@@ -2,6 +2,7 @@
 //! that is promised of it.
 #![tactic(auto)]
 
+mod bounds;
 mod finding;
 mod renewal;
 mod top;

@@ -8,6 +8,7 @@ ghost use Rattle.sd_ctl_top.specs.Promise.{IsUsageLine, MeetsOutcome, MeetsResul
 ghost use Rattle.sd_ctl_top.specs.Words as meaning;
 ghost use Rattle.sd_ctl_top.specs.Words.{names_of};
 
+use crate::bounds::bounds_answer;
 use crate::renewal::{RenewalFiles, renewal_answer};
 use crate::whole::whole_answer;
 use crate::words::{Command, command_of};
@@ -91,6 +92,16 @@ fn perform<S: Shelf, O: Sink>(
             let made = renewal_answer(alloc, shelf, files, settings);
             write_answer(alloc, &made, out)
         }
+        Some(
+            Command::Bounds {
+                topology,
+                plan,
+                budget,
+            },
+        ) => {
+            let made = bounds_answer(alloc, shelf, topology, plan, budget);
+            write_answer(alloc, &made, out)
+        }
         None => usage(out),
     }
 }
@@ -102,7 +113,7 @@ fn usage<O: Sink>(out: &mut O) -> Result<Status, IoError>
     ensures sink { RisesFor (result ≡ Err IoError.Sink) (O.faults out.old) (O.faults out.new) }
 {
     match out.write(
-        b"usage: sundialctl search TOPOLOGY BASE HOLD SEED STEPS | renew TOPOLOGY PLAN ABSENT BASE HOLD SEED STEPS\n",
+        b"usage: sundialctl search TOPOLOGY BASE HOLD SEED STEPS | renew TOPOLOGY PLAN ABSENT BASE HOLD SEED STEPS | bounds TOPOLOGY PLAN BASE HOLD\n",
     ) {
         Ok(()) => Ok(Status::Usage),
         Err(_) => Err(IoError::Sink),

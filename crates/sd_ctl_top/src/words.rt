@@ -21,6 +21,11 @@ pub(crate) enum Command<'w> {
         absent: &'w str,
         settings: Settings,
     },
+    Bounds {
+        topology: &'w str,
+        plan: &'w str,
+        budget: Budget,
+    },
 }
 
 /// The number of a word, up to the greatest.
@@ -38,17 +43,26 @@ fn read_up_to(word: &str, greatest: u64) -> Option<u64>
     }
 }
 
+/// The budget of two words.
+fn budget_of(base: &str, hold: &str) -> Option<Budget>
+    ensures is { result ≡ meaning.budget_of base.now hold.now }
+    ensures limits { IfSome result IsBudget }
+{
+    let base = read_up_to(base, 1 << 60)?;
+    let hold = read_up_to(hold, 1 << 60)?;
+    Some(Budget { base, hold })
+}
+
 /// The settings of four words.
 fn settings_of(base: &str, hold: &str, seed: &str, steps: &str) -> Option<Settings>
     ensures is { result ≡ meaning.settings_of base.now hold.now seed.now steps.now }
     ensures limits { IfSome result (λ settings. IsBudget settings.budget) }
 {
-    let base = read_up_to(base, 1 << 60)?;
-    let hold = read_up_to(hold, 1 << 60)?;
+    let budget = budget_of(base, hold)?;
     let seed = read_up_to(seed, u64::MAX)?;
     let steps = read_up_to(steps, 1 << 60)?;
     Some(Settings {
-        budget: Budget { base, hold },
+        budget,
         seed,
         steps,
     })
@@ -66,6 +80,17 @@ fn settings_among(words: &[String]) -> Option<Settings>
             seed.as_str(),
             steps.as_str(),
         ),
+        _ => None,
+    }
+}
+
+/// The budget of words, if they are two.
+fn budget_among(words: &[String]) -> Option<Budget>
+    ensures is { result ≡ meaning.budget_among (map string_bytes words.now) }
+    ensures limits { IfSome result IsBudget }
+{
+    match words {
+        [base, hold] => budget_of(base.as_str(), hold.as_str()),
         _ => None,
     }
 }
@@ -126,6 +151,34 @@ fn renewal_of(words: &[String]) -> Option<Command<'_>>
     renewal_over(topology.as_str(), others)
 }
 
+/// The bounds over a topology, of the words for its plan and its budget.
+fn bounds_over<'w>(topology: &'w str, words: &'w [String]) -> Option<Command<'w>>
+    ensures is { option_map named result
+        ≡ meaning.bounds_over topology.now (map string_bytes words.now) }
+    ensures granted { IfSome result IsGranted }
+{
+    let [plan, numbers @ ..] = words else {
+        return None;
+    };
+    let budget = budget_among(numbers)?;
+    Some(Command::Bounds {
+        topology,
+        plan: plan.as_str(),
+        budget,
+    })
+}
+
+/// The bounds of the words for a topology and what follows.
+fn bounds_of(words: &[String]) -> Option<Command<'_>>
+    ensures is { option_map named result ≡ meaning.bounds_of (map string_bytes words.now) }
+    ensures granted { IfSome result IsGranted }
+{
+    let [topology, others @ ..] = words else {
+        return None;
+    };
+    bounds_over(topology.as_str(), others)
+}
+
 /// The command of the words, if they are in the table.
 pub(crate) fn command_of(words: &[String]) -> Option<Command<'_>>
     ensures is { option_map named result ≡ meaning.command_of (map string_bytes words.now) }
@@ -138,6 +191,8 @@ pub(crate) fn command_of(words: &[String]) -> Option<Command<'_>>
         search_of(others)
     } else if word.as_str() == "renew" {
         renewal_of(others)
+    } else if word.as_str() == "bounds" {
+        bounds_of(others)
     } else {
         None
     }

@@ -7,11 +7,12 @@ use std::alloc::AllocError;
 use std::process::Abort;
 use std::test::Fail;
 
+mod bounds;
 mod searches;
 
 /// What is written for words that are no command's.
 const USAGE: &str =
-    "usage: sundialctl search TOPOLOGY BASE HOLD SEED STEPS | renew TOPOLOGY PLAN ABSENT BASE HOLD SEED STEPS\n";
+    "usage: sundialctl search TOPOLOGY BASE HOLD SEED STEPS | renew TOPOLOGY PLAN ABSENT BASE HOLD SEED STEPS | bounds TOPOLOGY PLAN BASE HOLD\n";
 
 /// A run of words over texts. The calls of the shelf that are listed fail, and so do the writes.
 fn run_over(
@@ -44,13 +45,16 @@ fn assert_writes(
 
 #[test]
 fn other_words_are_usage(rt: HostRuntime) -> Result<(), Fail> {
-    let cases: [&[&str]; 6] = [
+    let cases: [&[&str]; 9] = [
         &[],
         &["plan", "topology"],
         &["search", "topology", "1", "1", "1"],
         &["search", "topology", "01", "1", "1", "0"],
         &["search", "topology", "1152921504606846977", "1", "1", "0"],
         &["renew", "topology", "plan", "1", "1", "1", "0"],
+        &["bounds", "topology", "plan", "1"],
+        &["bounds", "topology", "plan", "1", "1", "1"],
+        &["bounds", "topology", "plan", "1", "1152921504606846977"],
     ];
     let texts = [("topology", FABRIC.as_bytes())];
     for words in cases {

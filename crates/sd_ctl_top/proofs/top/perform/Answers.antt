@@ -1,23 +1,24 @@
-use Rattle.std.proofs.Common.{None, Some, ap, map, string_bytes, sym, ◌∙◌}
+use Rattle.std.proofs.Common.{[], ◌∷◌, None, Some, ap, map, string_bytes, sym, ◌∙◌}
 use Rattle.std.specs.Prelude.{IsTrue}
 use Rattle.sd_cmd_files.proofs.Keeping.{keeps_for}
 use Rattle.sd_ctl_top.specs.Parsed.{named}
 use Rattle.sd_ctl_top.specs.Words.{command_of, names_of}
-use Rattle.sd_ctl_top.specs.Words.Command.{Search, Renew}
+use Rattle.sd_ctl_top.specs.Words.Command.{Search, Renew, Bounds}
 use Rattle.sd_ctl_top.specs.declared.words.Command.{Command as Parsed}
 use Rattle.sd_ctl_top.proofs.Meeting.{made_meets, usage_meets}
-use Rattle.sd_ctl_top.proofs.Served.{alone_served, first_served, second_served, third_served}
+use Rattle.sd_ctl_top.proofs.Served.{first_served, second_served, third_served}
 use Rattle.sd_ctl_top.proofs.top.perform.Goals as goal
 
 pub whole_answer-made-requires-clause-topology : goal.whole_answer-made-requires-clause-topology
 whole_answer-made-requires-clause-topology g c =
-    alone_served (λ name. IsTrue (g.S.Shelf.serves c.args.shelf.now name)) c.in-Some-Search.topology.now
-    (names_of (command_of (map string_bytes c.args.words.now)))
+    first_served (λ name. IsTrue (g.S.Shelf.serves c.args.shelf.now name)) (names_of (command_of (map string_bytes c.args.words.now)))
+    c.in-Some-Search.topology.now []
     (ap names_of (ap (λ (x : Parsed). Some (named x)) (sym c.in-Some-Search.field-0-is) ∙ c.in-Some-Search.ensures.is)) c.requires
 
 pub returns-in-Some-Search-clause-outcome : goal.returns-in-Some-Search-clause-outcome
 returns-in-Some-Search-clause-outcome g c =
-    made_meets _ _ (Some (Search c.in-Some-Search.topology.now c.in-Some-Search.settings)) c.whole_answer-made.result _ _ _
+    made_meets _ _ (Some (Search c.in-Some-Search.topology.now c.in-Some-Search.settings))
+    c.whole_answer-made.result _ _ _
     (ap (λ (x : Parsed). Some (named x)) (sym c.in-Some-Search.field-0-is) ∙ c.in-Some-Search.ensures.is) c.whole_answer-made.ensures.makes
     c.write_answer.ensures.writes
 
@@ -27,20 +28,20 @@ returns-in-Some-Search-clause-shelf g c =
 
 pub renewal_answer-made-requires-clause-topology : goal.renewal_answer-made-requires-clause-topology
 renewal_answer-made-requires-clause-topology g c =
-    first_served (λ name. IsTrue (g.S.Shelf.serves c.args.shelf.now name)) c.in-Some-Renew.topology.now c.in-Some-Renew.plan.now c.in-Some-Renew.absent.now
-    (names_of (command_of (map string_bytes c.args.words.now)))
+    first_served (λ name. IsTrue (g.S.Shelf.serves c.args.shelf.now name)) (names_of (command_of (map string_bytes c.args.words.now)))
+    c.in-Some-Renew.topology.now (c.in-Some-Renew.plan.now ∷ c.in-Some-Renew.absent.now ∷ [])
     (ap names_of (ap (λ (x : Parsed). Some (named x)) (sym c.in-Some-Renew.field-0-is) ∙ c.in-Some-Renew.ensures.is)) c.requires
 
 pub renewal_answer-made-requires-clause-plan : goal.renewal_answer-made-requires-clause-plan
 renewal_answer-made-requires-clause-plan g c =
-    second_served (λ name. IsTrue (g.S.Shelf.serves c.args.shelf.now name)) c.in-Some-Renew.topology.now c.in-Some-Renew.plan.now c.in-Some-Renew.absent.now
-    (names_of (command_of (map string_bytes c.args.words.now)))
+    second_served (λ name. IsTrue (g.S.Shelf.serves c.args.shelf.now name)) (names_of (command_of (map string_bytes c.args.words.now)))
+    c.in-Some-Renew.topology.now c.in-Some-Renew.plan.now (c.in-Some-Renew.absent.now ∷ [])
     (ap names_of (ap (λ (x : Parsed). Some (named x)) (sym c.in-Some-Renew.field-0-is) ∙ c.in-Some-Renew.ensures.is)) c.requires
 
 pub renewal_answer-made-requires-clause-absent : goal.renewal_answer-made-requires-clause-absent
 renewal_answer-made-requires-clause-absent g c =
-    third_served (λ name. IsTrue (g.S.Shelf.serves c.args.shelf.now name)) c.in-Some-Renew.topology.now c.in-Some-Renew.plan.now c.in-Some-Renew.absent.now
-    (names_of (command_of (map string_bytes c.args.words.now)))
+    third_served (λ name. IsTrue (g.S.Shelf.serves c.args.shelf.now name)) (names_of (command_of (map string_bytes c.args.words.now)))
+    c.in-Some-Renew.topology.now c.in-Some-Renew.plan.now c.in-Some-Renew.absent.now []
     (ap names_of (ap (λ (x : Parsed). Some (named x)) (sym c.in-Some-Renew.field-0-is) ∙ c.in-Some-Renew.ensures.is)) c.requires
 
 pub returns-in-Some-Renew-clause-outcome : goal.returns-in-Some-Renew-clause-outcome
@@ -53,6 +54,29 @@ returns-in-Some-Renew-clause-outcome g c =
 pub returns-in-Some-Renew-clause-shelf : goal.returns-in-Some-Renew-clause-shelf
 returns-in-Some-Renew-clause-shelf g c =
     keeps_for g.S.Shelf _ _ _ _ c.write_answer-in-Some-Renew.ensures.shelf.1 c.write_answer-in-Some-Renew.ensures.shelf.0 c.renewal_answer-made.ensures.shelf
+
+pub bounds_answer-made-requires-clause-topology : goal.bounds_answer-made-requires-clause-topology
+bounds_answer-made-requires-clause-topology g c =
+    first_served (λ name. IsTrue (g.S.Shelf.serves c.args.shelf.now name)) (names_of (command_of (map string_bytes c.args.words.now)))
+    c.in-Some-Bounds.topology.now (c.in-Some-Bounds.plan.now ∷ [])
+    (ap names_of (ap (λ (x : Parsed). Some (named x)) (sym c.in-Some-Bounds.field-0-is) ∙ c.in-Some-Bounds.ensures.is)) c.requires
+
+pub bounds_answer-made-requires-clause-plan : goal.bounds_answer-made-requires-clause-plan
+bounds_answer-made-requires-clause-plan g c =
+    second_served (λ name. IsTrue (g.S.Shelf.serves c.args.shelf.now name)) (names_of (command_of (map string_bytes c.args.words.now)))
+    c.in-Some-Bounds.topology.now c.in-Some-Bounds.plan.now []
+    (ap names_of (ap (λ (x : Parsed). Some (named x)) (sym c.in-Some-Bounds.field-0-is) ∙ c.in-Some-Bounds.ensures.is)) c.requires
+
+pub returns-in-Some-Bounds-clause-outcome : goal.returns-in-Some-Bounds-clause-outcome
+returns-in-Some-Bounds-clause-outcome g c =
+    made_meets _ _ (Some (Bounds c.in-Some-Bounds.topology.now c.in-Some-Bounds.plan.now c.in-Some-Bounds.budget))
+    c.bounds_answer-made.result _ _ _
+    (ap (λ (x : Parsed). Some (named x)) (sym c.in-Some-Bounds.field-0-is) ∙ c.in-Some-Bounds.ensures.is) c.bounds_answer-made.ensures.makes
+    c.write_answer-in-Some-Bounds.ensures.writes
+
+pub returns-in-Some-Bounds-clause-shelf : goal.returns-in-Some-Bounds-clause-shelf
+returns-in-Some-Bounds-clause-shelf g c =
+    keeps_for g.S.Shelf _ _ _ _ c.write_answer-in-Some-Bounds.ensures.shelf.1 c.write_answer-in-Some-Bounds.ensures.shelf.0 c.bounds_answer-made.ensures.shelf
 
 pub returns-in-None-clause-outcome : goal.returns-in-None-clause-outcome
 returns-in-None-clause-outcome g c = usage_meets _ _ _ _ _ c.in-None.ensures.is c.usage.ensures.outcome
