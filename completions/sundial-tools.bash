@@ -11,7 +11,7 @@ _sundial_tool() {
         sundial-watch) words="report --ask --bound --counters --every --fabric --follow --from --help --horizon --keep --listen --once --origin --output --plan --prometheus --reports --to --version" ;;
         sundial-why) words="--absent --follow --help --lines --output --version" ;;
         sundial-duty) words="--device --first-epoch --form --help --output --version" ;;
-        sundial-report) words="--check --domain --drill --help --layout --only --output --readiness --replay --title --version" ;;
+        sundial-report) words="--bounds --check --domain --drill --help --layout --only --output --readiness --replay --title --version" ;;
         sundial-whatif) words="--allow --ask --base --clocks --delays --drift --fail --help --hold --late --lose --lossy --mend --no-fixes --output --over --renew --report --seed --until --version" ;;
         sundial-readiness) words="--base --help --hold --json --output --refused --search --version" ;;
         sundial-plain-replay) words="--follow --help --output --version" ;;

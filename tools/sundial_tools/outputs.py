@@ -1,4 +1,4 @@
-"""The lines that `sundial` prints: docs/RULES.md, docs/REPLAY.md, docs/CONDITIONS.md."""
+"""The lines that `sundial` and `sundialctl` print: docs/RULES.md, docs/REPLAY.md, docs/CONDITIONS.md, docs/DRILL.md."""
 
 from __future__ import annotations
 
@@ -41,7 +41,8 @@ _FORMS: Dict[str, List[Tuple[str, Tuple[str, ...]]]] = {
     "done": [("done", ("n:first", "n:second"))],
     "link": [("link", ("s:link", "n:min", "n:max", "n:count", "v:verdict"))],
     "bound": [("bound", _DOMAIN + ("s:device", "n:eps"))],
-    "nobound": [("nobound", _DOMAIN + ("s:device",))],
+    "nobound": [("nobound", _DOMAIN + ("s:device",)), ("nobound", _DOMAIN + ("s:device", "n:calm"))],
+    "bounds": [("bounds", _DOMAIN + ("s:device", "n:drill", "n:tight", "n:calm"))],
     "accepted": [("accepted", ("n:devices", "n:links", "n:domains"))],
     "case": [("case", ("n:events", "n:reports", "n:eps", "n:broken", "n:alarms"))],
     "refused": [

@@ -33,6 +33,10 @@ KINDS = {
     "begin 6 b 1500\n": {"kind": "begin", "line": 6, "device": "b", "stamp": 1500},
     "waits 3 1 1\n": {"kind": "waits", "begun": 3, "ended": 1, "disorders": 1},
     "nobound device x x\n": {"kind": "nobound", "domain": {"kind": "device", "name": "x"}, "device": "x"},
+    "nobound device x x 2016436\n": {"kind": "nobound", "domain": {"kind": "device", "name": "x"}, "device": "x", "calm": 2016436},
+    "bounds link rx1 x 5048333 4359213 2016436\n": {
+        "kind": "bounds", "domain": {"kind": "link", "name": "rx1"}, "device": "x", "drill": 5048333, "tight": 4359213, "calm": 2016436,
+    },
     "usage: sundial solo SCHEDULE\n": {"kind": "usage", "text": "usage: sundial solo SCHEDULE"},
 }
 
@@ -88,6 +92,7 @@ class Lines(unittest.TestCase):
     def test_what_done_counts(self):
         self.assertEqual(self.rows("link rb 1 2 3 inside\ndone 4 1\n")[1], {"kind": "done", "lines": 4, "links": 1})
         self.assertEqual(self.rows("bound device x r 5\ndone 1 1\n")[1], {"kind": "done", "domains": 1, "members": 1})
+        self.assertEqual(self.rows("bounds device x r 5 4 3\nnobound device r r 3\ndone 2 1\n")[2], {"kind": "done", "domains": 2, "members": 1})
         self.assertEqual(self.rows("done 4 0\n", "--command", "twoway")[0], {"kind": "done", "lines": 4, "links": 0})
         self.assertIn("say --command", self.convert("done 4 0\n")[2])
 
@@ -138,6 +143,8 @@ class Lines(unittest.TestCase):
             (RENEWED.replace("report 22 b", "report 22 x"), "schedule:22: the ask is of b, and the report of x"),
             (RENEWED.replace("report 23", "report 31"), "the schedule has no line 31"),
             ("link rb 1 2 3 inside\nbound device x r 5\n", "does not stand in the output of this command"),
+            ("bound device x r 5\nbounds device x r 5 4 3\n", "does not stand in the output of this command"),
+            ("nobound device x x 3\nnobound device x x\n", "does not stand in the output of this command"),
         ):
             with self.subTest(reason):
                 text = text + "\n" if text == RENEWED[:-5] else text
@@ -182,6 +189,7 @@ class Lines(unittest.TestCase):
             ("report 1 b 1 2\ndone 5 2\n", "done says 2 reports, and 1 were read"),
             ("link rb 1 2 3 inside\ndone 5 2\n", "done says 2 links, and 1 were read"),
             ("bound device r x 5\nbound device r y 5\ndone 1 3\n", "done says 1 domains of 3 members, so 3 lines, and 2 were read"),
+            ("nobound device r x 5\nbounds device r y 7 6 5\ndone 1 3\n", "done says 1 domains of 3 members, so 3 lines, and 2 were read"),
         ):
             with self.subTest(text):
                 status, out, err = self.convert(text, "--command", "replay")

@@ -14,6 +14,7 @@ import case
 from examples import EXAMPLES, outputs
 from page_tree import parse
 from support import PROGRAM, TOOLS, directory, needs_sundial, run
+from test_bounds import Numbers
 
 from sundial_tools.fleet.fleet import Fleet
 from sundial_tools.plan import read_plan
@@ -622,6 +623,68 @@ class Replays(unittest.TestCase):
             cells = row.all("td")
             self.assertEqual(int(cells[2]["data-value"]), min(eps[cells[0].text]))
             self.assertEqual(int(cells[6]["data-value"]), max(eps[cells[0].text]))
+
+    def bounded(self, name, path, *words):
+        """The page of an example with its replay and the bounds of its plan, and the calm numbers."""
+        here = EXAMPLES / name
+        topology = read_topology(str(here / "topology.toml"))
+        numbers = Numbers(topology, read_plan(str(here / "plan.json"), topology), 1000000, 3000000000)
+        (path / "bounds").write_text("".join(f"{line}\n" for line in numbers.lines()))
+        calm = {topology.devices[device].name: numbers.calm(device) for device in numbers.members}
+        return whole(name, path, "--bounds", path / "bounds", *words), calm
+
+    def test_what_a_healthy_fabric_stays_below(self):
+        for name in "triangle", "fabric":
+            with self.subTest(name), directory() as path:
+                tree, calm = self.bounded(name, path)
+                for panel in tree.one("div", "plot", "eps").all("svg"):
+                    (line,) = panel.all("path", "calm")
+                    self.assertTrue(line.one("title").text.startswith(clear(max(calm.values()))))
+                    self.assertTrue(line["d"].endswith("H1000"))
+                self.assertEqual(len(tree.one("p", "legend", "lines").all("i", "calm")), 1)
+                heads = [node.text for node in tree.one("table", "percentiles").one("thead").all("th")]
+                self.assertTrue(heads[-1].startswith("calm number, "))
+                rows = [row.all("td") for row in tree.one("table", "percentiles").one("tbody").all("tr")]
+                self.assertTrue(rows)
+                self.assertEqual({row[0].text: int(row[-1]["data-value"]) for row in rows}, {row[0].text: calm[row[0].text] for row in rows})
+                self.assertIn("output of bounds", [row.all("td")[0].text for row in tree.one("table", "files").one("tbody").all("tr")])
+        with directory() as path:
+            tree = whole("triangle", path)
+        self.assertEqual(tree.all("path", "calm") + tree.all("i", "calm"), [])
+
+    def test_bounds_of_a_refused_plan(self):
+        here = EXAMPLES / "triangle"
+        with directory() as path:
+            (path / "bounds").write_text("refused plan 1 structure 6 device x\n")
+            tree = page(here / "topology.toml", here / "plan.json", "--bounds", path / "bounds")
+        self.assertEqual(tree.one("section", "verdict")["data-verdict"], "refused")
+
+    def test_bad_bounds(self):
+        here = EXAMPLES / "triangle"
+        with directory() as path:
+            self.bounded("triangle", path)
+            text = (path / "bounds").read_text()
+        lines = text.splitlines(keepends=True)
+        for bad, reason in (
+            (text[:-1], "cut short"),
+            ("".join(lines[:-1]), "they have no line done"),
+            ("", "cut short"),
+            ("".join(lines[1:]), "done says"),
+            (text + lines[0], "a line behind the last one"),
+            ("".join(lines[:3]) + "bounds listed\n", "no line of bounds"),
+            (lines[0].replace(" r ", " y ", 1).replace(" r ", " y "), "the topology has no device"),
+            (lines[0] + lines[0].replace("\n", "0\n"), "has two calm numbers"),
+            (outputs("triangle")[DRILL], "no line of bounds"),
+            ("input plan 1 NotJson\n", "sundial refused its input"),
+        ):
+            with self.subTest(reason), directory() as path:
+                (path / "bounds").write_text(bad)
+                status, _, err = tool(
+                    here / "topology.toml", here / "plan.json", "--bounds", path / "bounds", "--output", path / "page"
+                )
+                self.assertEqual(status, 1)
+                self.assertIn(reason, err)
+                self.assertEqual([file.name for file in path.iterdir()], ["bounds"])
 
     def test_lines_that_coincide_are_told(self):
         peaks = Peaks()

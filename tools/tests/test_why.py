@@ -164,6 +164,8 @@ class Why(unittest.TestCase):
         topology = TRIANGLE / "topology.toml"
         self.says("no report of x is off by more than 5048333 ps (5.048 us)", "bound device r x 5048333\n", topology)
         self.says("r is down itself", "nobound device r r\n", topology)
+        self.says("no report of x is off by more than 4359213 ps (4.359 us)", "bounds device r x 5048333 4359213 2016436\n", topology)
+        self.says("While nothing has failed, no report of r is off by more than 1716436 ps (1.716 us)", "nobound device r r 1716436\n", topology)
         self.says("3 devices, 6 links, 9 things", "accepted 3 6 9\n", topology)
         self.says("The words are not those of a command", "usage: sundial solo SCHEDULE\n", topology)
 

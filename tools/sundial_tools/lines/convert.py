@@ -16,7 +16,7 @@ DONE = {
     "replay": ("events", "reports"), "order": ("events", "reports"), "solo": ("events", "reports"),
     "twoway": ("lines", "links"), "drill": ("domains", "members"),
 }
-_COMMAND_OF = {"link": "twoway", "bound": "drill", "nobound": "drill"}
+_COMMAND_OF = {"link": "twoway", "bound": "drill", "nobound": "drill", "bounds": "drill"}
 
 
 class Lines(Protocol):

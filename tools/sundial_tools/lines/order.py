@@ -33,7 +33,8 @@ class Order:
                 raise self._mixed(line, number)
             self._last = first
             return
-        family = FAMILY_OF.get(first, self._family)
+        # (of `sundialctl bounds` each line has the calm number)
+        family = "bounds" if "calm" in line.fields else FAMILY_OF.get(first, self._family)
         if self._family is not None and family != self._family:
             raise self._mixed(line, number)
         self._family = family
@@ -62,8 +63,8 @@ class Order:
             self._lost(f"{second} reports", counts["report"], number)
         if self._family == "twoway" and counts.get("link", 0) != second:
             self._lost(f"{second} links", counts.get("link", 0), number)
-        if self._family == "drill":
-            bounds, said = counts.get("bound", 0) + counts.get("nobound", 0), line.fields["first"] * second
+        if self._family in ("drill", "bounds"):
+            bounds, said = sum(counts.get(kind, 0) for kind in ("bound", "bounds", "nobound")), line.fields["first"] * second
             if bounds != said:
                 self._lost(f"{line.fields['first']} domains of {second} members, so {said} lines", bounds, number)
 

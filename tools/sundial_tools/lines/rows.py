@@ -38,13 +38,14 @@ _COLUMNS: Dict[str, Tuple[str, ...]] = {
     "usage": ("kind", "text"),
 }
 _COLUMNS["nobound"] = _COLUMNS["bound"]
+_COLUMNS["bounds"] = ("kind", "domain.kind", "domain.name", "device", "drill", "tight", "calm", "domains", "members")
 
 
 def columns_of(kind: str, fields: Fields) -> Tuple[str, ...]:
     """The columns of a command, by its first line."""
     if kind == "done":
         return _COLUMNS["link"] if "links" in fields else _COLUMNS["bound"] if "members" in fields else _REPLAY
-    return _COLUMNS.get(kind, _REPLAY)
+    return _COLUMNS.get("bounds" if "calm" in fields else kind, _REPLAY)
 
 
 def json_row(text: TextIO, with_strings: bool) -> Callable[[str, Fields], None]:

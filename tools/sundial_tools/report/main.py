@@ -12,6 +12,7 @@ from sundial_tools.errors import ToolError
 from sundial_tools.inputs import as_files
 from sundial_tools.outputs import OutputLine, read_output
 from sundial_tools.plan import Plan, read_plan
+from sundial_tools.report.calm import CalmReader
 from sundial_tools.report.changes import changes_section
 from sundial_tools.report.drill import Drill, DrillReader
 from sundial_tools.report.drill_section import drill_section
@@ -36,7 +37,7 @@ LEAST_BESIDE, MOST_BESIDE = 360, 520
 
 def main(words: List[str]) -> int:
     said = _parser().parse_args(words)
-    with as_files(said, "topology", "plans", "replay", "check", "drill", "readiness"):
+    with as_files(said, "topology", "plans", "replay", "check", "drill", "bounds", "readiness"):
         return _write(said)
 
 
@@ -58,6 +59,7 @@ def _parser() -> argparse.ArgumentParser:
     parser.add_argument("plans", metavar="PLAN", nargs="+", help="the plans, in the order of the command")
     parser.add_argument("--check", metavar="FILE", help="what `sundial check` printed: a refusal is marked")
     parser.add_argument("--drill", metavar="FILE", help="what `sundial drill` printed over the first plan")
+    parser.add_argument("--bounds", metavar="FILE", help="what `sundialctl bounds` printed over the first plan: the replay shows what a healthy fabric stays below")
     parser.add_argument("--readiness", metavar="FILE", help="what `sundial-readiness --json` printed over the first plan")
     parser.add_argument(
         "--replay",
@@ -90,15 +92,15 @@ class _Report:
 
     def page(self) -> str:
         self._check()
-        drill, replay, readiness = self._drill(), self._replay(), self._readiness()
+        drill, calm, replay, readiness = self._drill(), self._calm(), self._replay(), self._readiness()
         shown = replay if replay is not None and replay.refused_plan is None else None
-        accepted = self._accepted or drill is not None or readiness is not None
+        accepted = self._accepted or drill is not None or calm is not None or readiness is not None
         refusals = [self._refusals[place] for place in sorted(self._refusals)]
         links: List[Tuple[str, str]] = [("verdict", "Verdict")]
         sections: List[Raw] = [verdict(refusals, shown, accepted).html()]
         if shown is not None and self._wants("replay"):
             links.append(("replay", "Replay"))
-            sections.append(replay_section(self._topology, shown))
+            sections.append(replay_section(self._topology, shown, calm or {}))
         if self._wants("tree"):
             links += [("plans", "Plans" if len(self._plans) > 1 else "Plan")]
             sections.append(self._trees())
@@ -129,7 +131,7 @@ class _Report:
     def _files(self) -> Raw:
         said, sources = self._said, [source(f"topology, version {self._topology.version}", self._said.topology)]
         sources += [source(f"plan {place}, version 1", path) for place, path in enumerate(said.plans, 1)]
-        for what, path in ("check", said.check), ("drill", said.drill), ("sundial-readiness", said.readiness):
+        for what, path in ("check", said.check), ("drill", said.drill), ("bounds", said.bounds), ("sundial-readiness", said.readiness):
             sources += [source(f"output of {what}", path)] if path else []
         if said.replay:
             sources += [source("schedule", said.replay[0]), source("output of replay or order", said.replay[1])]
@@ -179,12 +181,26 @@ class _Report:
         reader = DrillReader(self._topology, name)
         with open(name, encoding="utf-8", newline="\n") as file, Progress(name) as progress:
             drill = reader.read(_stepped(file, progress))
-        if reader.other is not None:
-            line, text = reader.other
+        self._other(reader.other, name)
+        return drill
+
+    def _calm(self) -> Optional[Dict[int, int]]:
+        name = self._said.bounds
+        if name is None:
+            return None
+        reader = CalmReader(self._topology, name)
+        with open(name, encoding="utf-8", newline="\n") as file, Progress(name) as progress:
+            calm = reader.read(_stepped(file, progress))
+        self._other(reader.other, name)
+        return calm
+
+    def _other(self, other: Optional[Tuple[OutputLine, str]], name: str) -> None:
+        """A line that says why nothing was computed."""
+        if other is not None:
+            line, text = other
             if not line.kind.startswith("refused"):
                 raise ToolError(f"sundial refused its input: {text}", name)
             self._refused(line, text, name)
-        return drill
 
     def _readiness(self) -> Optional[Readiness]:
         name = self._said.readiness

@@ -222,7 +222,7 @@ class _Scale:
 def _eps(view: ReplayView) -> Raw:
     """Both scales are drawn; a choice above shows one."""
     kept = [found for intervals in view.replay.peaks.of.values() for found in intervals if found is not None]
-    values = [value for found in kept for value in found] + [report.eps for report in view.reports]
+    values = [value for found in kept for value in found] + [report.eps for report in view.reports] + list(view.calm.values())
     pictures, names = [], []
     for kind in "linear", "log":
         scale = _Scale(kind, min(values), max(values), EPS)
@@ -242,6 +242,10 @@ def _levels(scale: _Scale) -> List[Raw]:
 def _eps_marks(view: ReplayView, scale: _Scale) -> List[Raw]:
     parts = [element("path", class_="grid", d="".join(f"M0 {scale.y(value):g}H{WIDE:g}" for value in scale.marked()))]
     parts.append(_envelope(view, scale))
+    if view.calm:
+        most = max(view.calm.values())
+        said = title(f"{clear(most)}: while nothing has failed, and before the first renewal, no report is above the calm number of its device. This is the greatest")
+        parts.append(element("path", said, class_="calm", d=f"M0 {scale.y(most):g}H{WIDE:g}"))
     for place, devices in enumerate(view.lines):
         d = _line(view, view.replay.peaks.of[devices[0]], scale)
         said = title(f"{view.names(devices, 12)}{': their lines coincide' if len(devices) > 1 else ''}")

@@ -3,7 +3,7 @@
 from __future__ import annotations
 
 import json
-from typing import List
+from typing import Dict, List
 
 from sundial_tools.report.markup import Raw, element, folded, joined
 from sundial_tools.report.panels import ALIKE, panels, tracks_alike
@@ -17,8 +17,8 @@ from sundial_tools.topology import Topology
 CONTROLS = (("in", "+", "zoom in"), ("out", "\u2212", "zoom out"), ("left", "\u2190", "earlier"), ("right", "\u2192", "later"), ("all", "all", "show all"))
 
 
-def replay_section(topology: Topology, replay: Replay) -> Raw:
-    view = ReplayView(topology, replay)
+def replay_section(topology: Topology, replay: Replay, calm: Dict[int, int]) -> Raw:
+    view = ReplayView(topology, replay, calm)
     parts: List[Raw] = [element("h2", "Replay: what happened over reference time", id="replay")]
     parts.append(element("p", _facts(view), class_="facts"))
     if replay.refusal is not None:
@@ -88,6 +88,10 @@ def _lines(view: ReplayView) -> Raw:
     more = len(view.replay.peaks.of) - view.alone
     if more > 0:
         items.append(element("span", f"and {count(more, 'device')} more under the grey area", class_="item"))
+    if view.calm:
+        key = element("i", class_="key calm")
+        said = f"the greatest calm number of plan 1, {clear(max(view.calm.values()))}: a healthy fabric stays below"
+        items.append(element("span", key, said, class_="item"))
     return element("p", items, class_="legend lines")
 
 

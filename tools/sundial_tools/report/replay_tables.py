@@ -30,8 +30,13 @@ def percentiles_table(view: ReplayView) -> Raw:
         _percentiles(view, device, eps.texts[place * EPS_COLUMNS : (place + 1) * EPS_COLUMNS], off.texts[place])
         for place, device in enumerate(devices)
     ]
+    calm = column([view.calm.get(device, 0) for device in devices], beside=widths)
     head = ["device", "reports", f"least eps, {eps.unit}", *(f"{percent} %" for percent in PERCENTS), "greatest"]
     head += [f"worst offset, {off.unit}", "of its eps"]
+    if view.calm:
+        head.append(f"calm number, {calm.unit}")
+        for row, device, text in zip(rows, devices, calm.texts):
+            row.append((text, view.calm[device]) if device in view.calm else "")
     rounded = any(numbers.is_rounded for numbers in found.values())
     return folded(
         f"Percentiles of eps: {len(devices)} devices, the widest first",

@@ -21,8 +21,10 @@ LEAST_APART = 200
 class ReplayView:
     """The devices that were widest have a line and a colour. Devices whose lines coincide share one."""
 
-    def __init__(self, topology: Topology, replay: Replay) -> None:
+    def __init__(self, topology: Topology, replay: Replay, calm: Optional[Dict[int, int]] = None) -> None:
         self.topology, self.replay = topology, replay
+        # By device, what no report of it exceeds while nothing has failed, where that is known.
+        self.calm = calm or {}
         self.reports = replay.reports.kept()
         self.first = replay.first if replay.first is not None else 0
         self.last = max(replay.last, self.first + 1)

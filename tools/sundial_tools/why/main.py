@@ -64,7 +64,7 @@ class Why:
         elif first in ("report", "broken", "alarm") and self.topology:
             says = Replayed(self.topology, self.course)
             yield from getattr(says, first)(line)
-        elif first in ("bound", "nobound") and self.topology:
+        elif first in ("bound", "bounds", "nobound") and self.topology:
             yield from self._bound(line)
         else:
             yield from _plain(line)
@@ -103,8 +103,11 @@ class Why:
             yield "The line names a domain that the topology does not have: it is not the topology of this output."
             return
         name = line.fields["device"]
-        if line.kind == "bound":
-            yield f"While {domain} is down, no report of {name} is off by more than {time(line.fields['eps'])}."
+        if "calm" in line.fields:
+            yield f"While nothing has failed, no report of {name} is off by more than {time(line.fields['calm'])}."
+        if line.kind in ("bound", "bounds"):
+            least = line.fields["eps" if line.kind == "bound" else "tight"]
+            yield f"While {domain} is down, no report of {name} is off by more than {time(least)}."
         elif ("device", self.topology.device_numbers.get(name)) in failing(self.topology, domain_of(line)).things:
             yield f"{name} is down itself with {domain}."
         else:
