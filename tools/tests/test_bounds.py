@@ -5,12 +5,11 @@ The numbers are computed here once more, by trying all walks and by halving an i
 """
 
 import os
-import pathlib
 import random
 import subprocess
 import unittest
 
-from support import PROGRAM, directory
+from support import SEARCH as SUNDIALCTL, directory
 from test_whatif import Drawn, replayed, up
 
 from sundial_tools.plan import parse_plan
@@ -20,7 +19,6 @@ from sundial_tools.whatif.scenario import Scenario, Settings
 from sundial_tools.whatif.wishes import Wishes
 
 MILLION = 1_000_000
-SUNDIALCTL = pathlib.Path(os.environ.get("SUNDIALCTL", PROGRAM.parent.parent.parent / "sundialctl" / "out" / "sundialctl"))
 # Of random networks, fabrics and meshes: those whose reports the plain replay makes, which takes a second for each thousand
 # lines. By hand there were 300.
 MANY = int(os.environ.get("BOUNDS_SCENARIOS", "3"))
