@@ -15,13 +15,15 @@ import urllib.error
 import urllib.request
 from unittest import mock
 
-from support import TOOLS, directory
+from support import EXAMPLES, TOOLS, directory
 
 from histories import STEP, History
 from test_watch import Fabric, Played
 
 from sundial_tools.errors import ToolError
+from sundial_tools.topology import read_topology
 from sundial_tools.watch import watcher
+from sundial_tools.watch.main import calm_numbers
 from sundial_tools.watch.shown import Shown
 
 PACKAGING = TOOLS.parent / "packaging"
@@ -95,6 +97,25 @@ class Port(unittest.TestCase):
             self.assertFalse(Shown(None, None).is_due(True))
 
 
+class Calm(unittest.TestCase):
+    """What a healthy fabric stays below, as `sundialctl bounds` prints it."""
+
+    def numbers(self, output, status=0):
+        with directory() as path:
+            program = path / "sundialctl"
+            program.write_text(f"#!/bin/sh\n[ \"$*\" = 'bounds t p 7 8' ] || exit 2\nprintf '{output}'\nexit {status}\n")
+            program.chmod(0o755)
+            return calm_numbers(str(program), read_topology(str(EXAMPLES / "triangle" / "topology.toml")), "t", "p", 7, 8)
+
+    def test_each_member_has_its_number(self):
+        lines = "bounds link rx1 r 9 8 5\\nnobound link rx1 x 6\\ndone 1 2\\n"
+        self.assertEqual(self.numbers(lines), {"r": 5, "x": 6})
+
+    def test_a_refused_plan_ends_the_watch(self):
+        with self.assertRaisesRegex(ToolError, "status 1"):
+            self.numbers("refused 1 rates\\n", 1)
+
+
 class Names(unittest.TestCase):
     """Alerts and panels name series and labels that the metrics have."""
 
@@ -104,7 +125,7 @@ class Names(unittest.TestCase):
             fabric = Fabric(path, History(9, rounds=30, bad=25))
             fabric.write(fabric.lines)
             watch = fabric.watch(ask=5 * STEP)
-            watch.metrics.fabric, watch.metrics.bounds = 'of "mine"\\', {"b": 10**6}
+            watch.metrics.fabric, watch.metrics.bounds, watch.metrics.calm = 'of "mine"\\', {"b": 10**6}, {"b": 10**5}
             while watch.step():
                 pass
             watch.step(is_last=True)

@@ -8,11 +8,11 @@ import time
 from typing import Dict, Iterator, List, Optional, TextIO, Tuple
 
 from sundial_tools import __version__
+from sundial_tools.calm import CalmReader
 from sundial_tools.errors import ToolError
 from sundial_tools.inputs import as_files
 from sundial_tools.outputs import OutputLine, read_output
 from sundial_tools.plan import Plan, read_plan
-from sundial_tools.report.calm import CalmReader
 from sundial_tools.report.changes import changes_section
 from sundial_tools.report.drill import Drill, DrillReader
 from sundial_tools.report.drill_section import drill_section

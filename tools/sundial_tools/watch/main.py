@@ -7,13 +7,14 @@ import subprocess
 import time
 from typing import Dict, List
 
+from sundial_tools.calm import CalmReader
 from sundial_tools.errors import ToolError
 from sundial_tools.inputs import as_files
 from sundial_tools.outputs import read_output
 from sundial_tools.plan import read_plan
 from sundial_tools.schedule import MOST_NUMBER
 from sundial_tools.times import picoseconds
-from sundial_tools.topology import read_topology, sundial_program
+from sundial_tools.topology import Topology, read_topology, search_program, sundial_program
 from sundial_tools.watch.report import main as report_main
 from sundial_tools.watch.shown import Shown
 from sundial_tools.watch.watcher import Options, Watch
@@ -49,6 +50,8 @@ def _watched(said: argparse.Namespace, program: str) -> int:
         watch.metrics.fabric = said.fabric
         if said.bound:
             watch.metrics.bounds = bounds(program, said.topology, said.plan[-1], *said.bound)
+            second = search_program()
+            watch.metrics.calm = calm_numbers(second, topology, said.topology, said.plan[-1], *said.bound) if second else {}
         return _run(watch, shown, said.once)
     except BaseException:
         watch.stop()
@@ -76,15 +79,25 @@ def _run(watch: Watch, shown: Shown, is_once: bool) -> int:
 
 def bounds(program: str, topology: str, plan: str, base: int, hold: int) -> Dict[str, int]:
     """What the drill says of each device, the greatest over all domains."""
-    done = subprocess.run([program, "drill", topology, plan, str(base), str(hold)], stdout=subprocess.PIPE, text=True, check=False)
-    if done.returncode != 0:
-        raise ToolError(f"{program} drill ended with status {done.returncode}: {done.stdout[:200].strip()}")
     found: Dict[str, int] = {}
-    for line in read_output(done.stdout.splitlines(keepends=True), "drill"):
+    for line in read_output(_lines_of(program, "drill", topology, plan, base, hold), "drill"):
         if line.kind == "bound":
             device = line.fields["device"]
             found[device] = max(line.fields["eps"], found.get(device, 0))
     return found
+
+
+def calm_numbers(program: str, topology: Topology, path: str, plan: str, base: int, hold: int) -> Dict[str, int]:
+    """What each device stays below while nothing has failed. `program` is `sundialctl`."""
+    numbers = CalmReader(topology, "bounds").read(_lines_of(program, "bounds", path, plan, base, hold))
+    return {topology.devices[device].name: number for device, number in (numbers or {}).items()}
+
+
+def _lines_of(program: str, command: str, topology: str, plan: str, base: int, hold: int) -> List[str]:
+    done = subprocess.run([program, command, topology, plan, str(base), str(hold)], stdout=subprocess.PIPE, text=True, check=False)
+    if done.returncode != 0:
+        raise ToolError(f"{program} {command} ended with status {done.returncode}: {done.stdout[:200].strip()}")
+    return done.stdout.splitlines(keepends=True)
 
 
 def _print(text: str) -> None:
@@ -124,7 +137,7 @@ def _parser() -> argparse.ArgumentParser:
     parser.add_argument("--prometheus", metavar="FILE", help="write the metrics there, once a second and when something breaks")
     parser.add_argument("--listen", type=_port, metavar="PORT", help="answer http://127.0.0.1:PORT/metrics with the metrics")
     parser.add_argument("--fabric", metavar="NAME", help="a label of each series, where several fabrics are watched")
-    parser.add_argument("--bound", nargs=2, type=_time, metavar=("BASE", "HOLD"), help="also report the bounds of this drill of the last plan")
+    parser.add_argument("--bound", nargs=2, type=_time, metavar=("BASE", "HOLD"), help="also report the bounds of this drill of the last plan; with sundialctl there, also what a healthy fabric stays below")
     parser.add_argument("--ask", type=_time, metavar="TIME", help="ask each device at its first tick after this time, so that it reports")
     parser.add_argument("--horizon", type=_time, default=SECOND, metavar="TIME", help="how long to wait for a log that is silent (default: 1s)")
     parser.add_argument("--every", type=_count, default=30_000_000, metavar="N", help="cut at the first right place after N events of a part (default: 30000000)")

@@ -30,6 +30,7 @@ class Metrics:
         self.reported: Dict[str, int] = {}
         self.done: Counter[str] = Counter()
         self.bounds: Dict[str, int] = {}
+        self.calm: Dict[str, int] = {}
 
     def tell(self, row: Dict[str, Any]) -> None:
         """Counts a line that was told."""
@@ -63,6 +64,8 @@ class Metrics:
         yield from self._by("device", "eps_greatest_seconds", "gauge", "The greatest EPS that a device reported.", _seconds(self.greatest))
         if self.bounds:
             yield from self._by("device", "eps_bound_seconds", "gauge", "The bound of the drill, the greatest over all domains.", _seconds(self.bounds))
+        if self.calm:
+            yield from self._by("device", "eps_calm_seconds", "gauge", "What EPS stays below while nothing has failed.", _seconds(self.calm))
         ages = {device: max(0, ref - at) for device, at in self.reported.items()} if ref is not None else {}
         yield from self._by("device", "report_age_seconds", "gauge", "Reference time since the latest report of a device.", _seconds(ages))
         yield from self._by("premise", "broken_total", "counter", "Premises that broke.", {it: self.broken[it] for it in PREMISES})
