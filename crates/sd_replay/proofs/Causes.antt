@@ -1,5 +1,5 @@
 -- A fault of the fleet is that of the history.
-use Rattle.std.specs.Prelude.{◌≡◌, ◌≢◌, Bool, true, false, not, List, [], ◌∷◌, Option, Some, None, IfSome, IfErr, Ok, Err, Result, find, option_map}
+use Rattle.std.specs.Prelude.{◌≡◌, ◌≢◌, Bool, true, false, not, List, [], ◌∷◌, Option, Some, None, IfSome, Ok, Err, Result, find, option_map}
 use Rattle.std.specs.List.{list_all}
 use Rattle.std.specs.Result.{IsErrAnd}
 use Rattle.std.proofs.Common.{inl, inr, refl, sym, ap, subst, ◌∙◌}
@@ -38,10 +38,6 @@ of_cause : (setting : Setting) (steps : List Step) (e : Event) (fault : ApplyFau
 of_cause setting steps e fault is = of_other fault (λ memory. never_memory setting steps e (is ∙ ap Some memory))
 
 -- a call whose error is told
-pub if_told : {A E : Type 0} (P : E → Type 0) (r : Result A E) (x : E) → IsErrAnd r (λ e. e ≡ x) → P x → IfErr r P
-if_told P (Ok a) x is holds = tt
-if_told P (Err e) x is holds = subst P (sym is) holds
-
 pub told_as : {A E : Type 0} (r : Result A E) (x : E) → IsErrAnd r (λ e. e ≡ x) → r ≡ Err x
 told_as (Ok a) x is = absurd is
 told_as (Err e) x is = ap Err is

@@ -14,6 +14,7 @@ pub mod Staying
 pub mod Quick
 pub mod Going
 pub mod Tried
+pub mod Answered
 pub mod Happening
 -- Handed on: what crates above name of those below.
 pub use Rattle.sd_topo.proofs as Topo

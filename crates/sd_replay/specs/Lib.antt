@@ -5,9 +5,9 @@ pub mod Counting
 pub mod Troubles
 pub mod Sights
 pub mod Standing
+pub mod Calm
 pub mod Replaying
 pub mod FleetFaults
-pub mod Calm
 pub mod Devices
 pub mod lines
 -- Handed on: what crates above name of those below.

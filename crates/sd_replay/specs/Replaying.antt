@@ -1,5 +1,5 @@
 -- For which runs a replay stands, and how it goes on.
-use Rattle.std.specs.Prelude.{◌≡◌, ℕ, Bool, false, ◌||◌, List, ◌∷◌, Option, Some, None, Ok, Err, IsTrue, IfSome}
+use Rattle.std.specs.Prelude.{◌≡◌, ℕ, Bool, false, ◌||◌, List, ◌∷◌, Option, Some, None, Result, Ok, Err, IsTrue, IfSome, IfErr, OnOk}
 use Rattle.sd_core.specs.declared.node.Node.{Ghosts}
 use Rattle.sd_msg.specs.declared.Flight.{Flight}
 use Rattle.sd_msg.specs.declared.observer.Observer as observers
@@ -8,7 +8,7 @@ use Rattle.sd_sched.specs.Lines.{event_of_line}
 use Rattle.sd_sched.specs.Events.{is_ask}
 use Rattle.sd_history.specs.World.{Setting}
 use Rattle.sd_history.specs.Steps.{Step}
-use Rattle.sd_history.specs.Nodes.{NodeStep}
+use Rattle.sd_history.specs.Nodes.{NodeStep, steps_of}
 use Rattle.sd_history.specs.Refusals.{refusal}
 use Rattle.sd_fleet.specs.declared.Outcome.{Outcome}
 use Rattle.sd_fleet.specs.declared.messages.Sent.{Sent}
@@ -20,6 +20,7 @@ use Rattle.sd_replay.specs.declared.faults.ReplayFault.{ReplayFault}
 use Rattle.sd_replay.specs.declared.faults.ReplayFault.TheVariants.{Line, Apply, Memory}
 use Rattle.sd_replay.specs.lines.Printed.{printed}
 use Rattle.sd_replay.specs.Standing.{Stands}
+use Rattle.sd_replay.specs.Calm.{StaysCalm}
 
 -- The replay keeps what the words on histories say of the run: the fleet, the premises, loops and roots, the lines of its newest event, its
 -- tally and its reports.
@@ -79,6 +80,16 @@ abbrev pub IsFault : ReplayFault → Setting → List Step → Event → Type 0
 IsFault (Line fault) setting steps e = ⊥
 IsFault (Apply fault) setting steps e = refusal setting steps e ≡ Some fault
 IsFault Memory setting steps e = (refusal setting steps e ≡ None) × IsTrue (may_take e)
+
+-- What is answered of an event. Where the history refuses it, the fault is that cause; after a fault all stands as before, and the fault is one of the
+-- history or of memory. And after an event there is no alarm while no premise is broken, where the nodes tell what devices tell.
+pub record IsAnswered {N V : Type 0} (g : Ghosts N) (o : observers.Ghosts V) (old new : Replay N V g o) (e : Event) (result : Result (Unit {0}) ReplayFault)
+    : Type 0 where
+  pub cause : (setting : Setting) (run : List (NodeStep N)) → StandsFor g o old setting run
+      → IfSome (refusal setting (steps_of run) e) (λ fault. result ≡ Err (Apply fault))
+  pub refused : IfErr result (λ fault. (setting : Setting) (run : List (NodeStep N)) → StandsFor g o old setting run
+      → StandsFor g o new setting run × IsFault fault setting (steps_of run) e)
+  pub calm : OnOk result ((setting : Setting) (run : List (NodeStep N)) → StandsFor g o new setting run → StaysCalm setting (steps_of run))
 
 -- the fault of a line: the bytes are none, or its event is not accepted
 abbrev pub IsLineFault : ReplayFault → Setting → List Step → List ℕ → Type 0

@@ -1,5 +1,5 @@
 -- For which steps and runs the parts of a replay stand.
-use Rattle.std.specs.Prelude.{◌≡◌, ℕ, ◌<◌, ◌&&◌, List, ◌∷◌, length, min, slice_set, Bool, false, Option, Some, None, is_some, if◌then◌else◌}
+use Rattle.std.specs.Prelude.{◌≡◌, ℕ, ◌+◌, ◌<◌, ◌&&◌, List, ◌∷◌, length, min, slice_set, Bool, false, Option, Some, None, is_some, if◌then◌else◌}
 use Rattle.std.specs.Vec.{vec_capacity}
 use Rattle.sd_num.specs.Lists.{at_place}
 use Rattle.sd_replay.specs.lines.Printed.{printed}
@@ -24,11 +24,14 @@ use Rattle.sd_watch.specs.parent_table.ParentTable as parent_table
 use Rattle.sd_watch.specs.declared.parent_table.ParentRow.{ParentRow}
 use Rattle.sd_premise.specs.Standing as premises
 use Rattle.sd_proof_safety.specs.invariant.Coming.{IsFair}
+use Rattle.sd_replay.specs.declared.alarms.Alarms.{Alarms}
 use Rattle.sd_replay.specs.declared.monitors.Monitors.{Monitors}
 use Rattle.sd_replay.specs.declared.event_output.EventOutput.{EventOutput}
 use Rattle.sd_replay.specs.Tallies.{tally_of}
 use Rattle.sd_replay.specs.Troubles.{found_by}
-use Rattle.sd_replay.specs.lines.Findings.{IsOf, found_lines}
+use Rattle.sd_replay.specs.declared.lines.findings.Findings.{Findings}
+use Rattle.sd_replay.specs.lines.Findings.{IsOf, found_lines, found_bytes}
+use Rattle.sd_replay.specs.Counting.{tally_with}
 use Rattle.sd_replay.specs.declared.trouble.Trouble.{Trouble}
 
 -- Loops and roots
@@ -72,12 +75,24 @@ new_loop setting s earlier = if is_some (first_on_loop setting earlier) then Non
 abbrev pub new_roots : Setting → Step → List Step → Option (ℕ × ℕ)
 new_roots setting s earlier = if is_some (two_least (roots setting earlier)) then None else two_least (roots setting (s ∷ earlier))
 
+-- each device is kept as it stands after the step, and these alarms are what is new with it
+pub record HasAlarms (kept : parent_table.Kept) (alarms : Alarms) (setting : Setting) (s : Step) (earlier : List Step) : Type 0 where
+  pub stands : IsParentTable kept setting (s ∷ earlier)
+  pub looped : alarms.looped ≡ new_loop setting s earlier
+  pub roots : alarms.roots ≡ new_roots setting s earlier
+
 -- The parts
 
 -- the monitors have seen these steps
 pub record HasSeen (monitors : Monitors) (setting : Setting) (steps : List Step) : Type 0 where
   pub premises : premises.StandsFor monitors.premises setting (seen_of steps)
   pub parent_table : IsParentTable monitors.parent_table setting steps
+
+-- what is found of an event is counted and printed in place of what was printed before, by the names of the same topology
+pub record IsNoted (old new : EventOutput) (found : Findings) : Type 0 where
+  pub topology : new.topology ≡ old.topology
+  pub tally : new.tally ≡ tally_with old.tally found
+  pub lines : printed new.lines ≡ found_bytes (network old.topology) (old.tally.events + 1) found
 
 -- for how many flights of the next event there is room
 abbrev pub room_of : Monitors → ℕ

@@ -4,7 +4,7 @@ ghost use Rattle.std.specs.Prelude.{◌≡◌, ◌<◌, ◌∷◌, List, length,
 ghost use Rattle.sd_history.specs.World.{Setting};
 ghost use Rattle.sd_history.specs.Nodes.{NodeStep, steps_of};
 ghost use Rattle.sd_fleet.specs.Standing.{StandsFor};
-ghost use Rattle.sd_replay.specs.Standing.{parent_row_in, parent_row_at, IsParentTable, IsStepOf, new_loop, new_roots};
+ghost use Rattle.sd_replay.specs.Standing.{parent_row_in, parent_row_at, IsParentTable, IsStepOf, HasAlarms};
 
 use crate::sights::{parent_row_of, update_rows};
 use sd_core::Node;
@@ -96,18 +96,10 @@ pub(crate) fn alarms_of<N: Node>(
     requires device { IfSome named (λ d. d < length fleet.now.fabric.net.devices) }
     requires parents { length parent_table.old.parents ≡ length fleet.now.fabric.net.devices }
     requires acting { length parent_table.old.acting ≡ length fleet.now.fabric.net.devices }
-    ensures stands { (setting : Setting) (run : List (NodeStep N))
+    ensures { (setting : Setting) (run : List (NodeStep N))
         (made : IsStepOf N.Node fleet.now setting run named closed)
         → IsParentTable parent_table.old setting (steps_of run)
-        → IsParentTable parent_table.new setting (made.next.step ∷ steps_of run) }
-    ensures looped { (setting : Setting) (run : List (NodeStep N))
-        (made : IsStepOf N.Node fleet.now setting run named closed)
-        → IsParentTable parent_table.old setting (steps_of run)
-        → result.looped ≡ new_loop setting made.next.step (steps_of run) }
-    ensures roots { (setting : Setting) (run : List (NodeStep N))
-        (made : IsStepOf N.Node fleet.now setting run named closed)
-        → IsParentTable parent_table.old setting (steps_of run)
-        → result.roots ≡ new_roots setting made.next.step (steps_of run) }
+        → HasAlarms parent_table.new result setting made.next.step (steps_of run) }
 {
     if all_kept(parent_table, fleet, named, closed) {
         return NO_ALARMS;
@@ -125,18 +117,10 @@ fn alarms_anew<N: Node>(
     requires device { IfSome named (λ d. d < length fleet.now.fabric.net.devices) }
     requires parents { length parent_table.old.parents ≡ length fleet.now.fabric.net.devices }
     requires acting { length parent_table.old.acting ≡ length fleet.now.fabric.net.devices }
-    ensures stands { (setting : Setting) (run : List (NodeStep N))
+    ensures { (setting : Setting) (run : List (NodeStep N))
         (made : IsStepOf N.Node fleet.now setting run named closed)
         → IsParentTable parent_table.old setting (steps_of run)
-        → IsParentTable parent_table.new setting (made.next.step ∷ steps_of run) }
-    ensures looped { (setting : Setting) (run : List (NodeStep N))
-        (made : IsStepOf N.Node fleet.now setting run named closed)
-        → IsParentTable parent_table.old setting (steps_of run)
-        → result.looped ≡ new_loop setting made.next.step (steps_of run) }
-    ensures roots { (setting : Setting) (run : List (NodeStep N))
-        (made : IsStepOf N.Node fleet.now setting run named closed)
-        → IsParentTable parent_table.old setting (steps_of run)
-        → result.roots ≡ new_roots setting made.next.step (steps_of run) }
+        → HasAlarms parent_table.new result setting made.next.step (steps_of run) }
 {
     let looped = parent_table.first_loop();
     let roots = parent_table.two_acting();

@@ -1,10 +1,11 @@
 //! What is written of each event.
-ghost use Rattle.std.specs.Prelude.{◌≡◌, ◌+◌, [], IfOk, false};
+ghost use Rattle.std.specs.Prelude.{◌≡◌, [], IfOk, false};
 ghost use Rattle.sd_replay.specs.lines.Printed.{printed};
 ghost use Rattle.sd_topo.specs.Topologies.{network};
-ghost use Rattle.sd_replay.specs.lines.Findings.{IsOf, finds_none, found_bytes};
+ghost use Rattle.sd_replay.specs.lines.Findings.{IsOf, finds_none};
 ghost use Rattle.sd_replay.specs.Troubles.{found_by};
-ghost use Rattle.sd_replay.specs.Counting.{HasRoom, no_tally, tally_with};
+ghost use Rattle.sd_replay.specs.Counting.{HasRoom, no_tally};
+ghost use Rattle.sd_replay.specs.Standing.{IsNoted};
 
 use crate::Tally;
 use crate::lines::{EventLines, Findings, finds_none, print_findings};
@@ -79,12 +80,7 @@ impl EventOutput {
         requires room { HasRoom self.old.tally }
         requires devices { IsOf (network self.old.topology)
             (found_by trouble.now report.now reference) }
-        ensures topology { self.new.topology ≡ self.old.topology }
-        ensures tally { self.new.tally
-            ≡ tally_with self.old.tally (found_by trouble.now report.now reference) }
-        ensures lines { printed self.new.lines
-            ≡ found_bytes (network self.old.topology) (self.old.tally.events + 1)
-            (found_by trouble.now report.now reference) }
+        ensures noted { IsNoted self.old self.new (found_by trouble.now report.now reference) }
         ensures ended { self.new.ended ≡ ended }
     {
         if brings_none(trouble, report) {
@@ -104,12 +100,7 @@ impl EventOutput {
         requires room { HasRoom self.old.tally }
         requires devices { IsOf (network self.old.topology)
             (found_by trouble.now report.now reference) }
-        ensures topology { self.new.topology ≡ self.old.topology }
-        ensures tally { self.new.tally
-            ≡ tally_with self.old.tally (found_by trouble.now report.now reference) }
-        ensures lines { printed self.new.lines
-            ≡ found_bytes (network self.old.topology) (self.old.tally.events + 1)
-            (found_by trouble.now report.now reference) }
+        ensures { IsNoted self.old self.new (found_by trouble.now report.now reference) }
     {
         let found = findings_of(trouble, report, reference);
         self.tally = self.tally.with(&found);

@@ -79,7 +79,7 @@ pub struct Replay<N: Node, V: Observer> {
 }
 
 impl<N: Node, V: Observer> Replay<N, V> {
-    ghost use Rattle.sd_replay.specs.Replaying.{StandsFor, IsStepped, IsSteppedTo, IsTried, IsFault, IsLineFault, lines_in, may_take};
+    ghost use Rattle.sd_replay.specs.Replaying.{StandsFor, IsStepped, IsSteppedTo, IsTried, IsAnswered, IsLineFault, lines_in, may_take};
     ghost use Rattle.sd_replay.specs.Calm.{StaysCalm};
 
     /// A replay before any event, with the first plan in force. It takes the room for the lines of
@@ -148,21 +148,10 @@ impl<N: Node, V: Observer> Replay<N, V> {
     /// `tick`, a `recv` or an `ask` alone, before anything has changed.
     pub fn step_event(&mut self, alloc: Global, event: &Event) -> Result<(), ReplayFault>
         requires within { IsTrue (is_within event.now) }
-        // where the history refuses the event, it is refused for that cause
-        ensures refusal { (setting : Setting) (run : List (NodeStep N))
-            → StandsFor N.Node V.Observer self.old setting run
-            → IfSome (refusal setting (steps_of run) event.now)
-            (λ fault. result ≡ Err (ReplayFault.Apply fault)) }
+        ensures answered { IsAnswered N.Node V.Observer self.old self.new event.now result }
         ensures accepted { OnOk result ((setting : Setting) (run : List (NodeStep N))
             → StandsFor N.Node V.Observer self.old setting run
             → IsStepped N.Node V.Observer self.new setting run event.now) }
-        // while no premise is broken there is no alarm, where the nodes tell what devices tell
-        ensures calm { OnOk result ((setting : Setting) (run : List (NodeStep N))
-            → StandsFor N.Node V.Observer self.new setting run → StaysCalm setting (steps_of run)) }
-        ensures refused { IfErr result (λ fault. (setting : Setting) (run : List (NodeStep N))
-            → StandsFor N.Node V.Observer self.old setting run
-            → StandsFor N.Node V.Observer self.new setting run
-            × IsFault fault setting (steps_of run) event.now) }
     {
         match self.try_quick(alloc, event) {
             Some(_) => Ok(()),
@@ -180,21 +169,10 @@ impl<N: Node, V: Observer> Replay<N, V> {
         outcome: &mut Outcome,
     ) -> Result<(), ReplayFault>
         requires within { IsTrue (is_within event.now) }
-        // where the history refuses the event, it is refused for that cause
-        ensures refusal { (setting : Setting) (run : List (NodeStep N))
-            → StandsFor N.Node V.Observer self.old setting run
-            → IfSome (refusal setting (steps_of run) event.now)
-            (λ fault. result ≡ Err (ReplayFault.Apply fault)) }
+        ensures answered { IsAnswered N.Node V.Observer self.old self.new event.now result }
         ensures accepted { OnOk result ((setting : Setting) (run : List (NodeStep N))
             → StandsFor N.Node V.Observer self.old setting run
             → IsSteppedTo N.Node V.Observer self.new setting run event.now outcome.new) }
-        // while no premise is broken there is no alarm, where the nodes tell what devices tell
-        ensures calm { OnOk result ((setting : Setting) (run : List (NodeStep N))
-            → StandsFor N.Node V.Observer self.new setting run → StaysCalm setting (steps_of run)) }
-        ensures refused { IfErr result (λ fault. (setting : Setting) (run : List (NodeStep N))
-            → StandsFor N.Node V.Observer self.old setting run
-            → StandsFor N.Node V.Observer self.new setting run
-            × IsFault fault setting (steps_of run) event.now) }
         ensures same { OnErr result (outcome.new ≡ outcome.old) }
     {
         if self.try_quick_to(alloc, event, outcome) {
@@ -363,21 +341,10 @@ impl<N: Node, V: Observer> Replay<N, V> {
     #[inline(always)]
     fn advance(&mut self, alloc: Global, event: &Event) -> Result<(), ReplayFault>
         requires within { IsTrue (is_within event.now) }
-        // where the history refuses the event, it is refused for that cause
-        ensures refusal { (setting : Setting) (run : List (NodeStep N))
-            → StandsFor N.Node V.Observer self.old setting run
-            → IfSome (refusal setting (steps_of run) event.now)
-            (λ fault. result ≡ Err (ReplayFault.Apply fault)) }
+        ensures answered { IsAnswered N.Node V.Observer self.old self.new event.now result }
         ensures accepted { OnOk result ((setting : Setting) (run : List (NodeStep N))
             → StandsFor N.Node V.Observer self.old setting run
             → IsSteppedTo N.Node V.Observer self.new setting run event.now self.new.latest) }
-        // while no premise is broken there is no alarm, where the nodes tell what devices tell
-        ensures calm { OnOk result ((setting : Setting) (run : List (NodeStep N))
-            → StandsFor N.Node V.Observer self.new setting run → StaysCalm setting (steps_of run)) }
-        ensures refused { IfErr result (λ fault. (setting : Setting) (run : List (NodeStep N))
-            → StandsFor N.Node V.Observer self.old setting run
-            → StandsFor N.Node V.Observer self.new setting run
-            × IsFault fault setting (steps_of run) event.now) }
     {
         let most = self.fleet.prepare(alloc, event)?;
         let Ok(()) = self.ready(alloc, event, most) else {

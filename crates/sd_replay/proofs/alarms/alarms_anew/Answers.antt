@@ -7,25 +7,22 @@ use Rattle.sd_replay.proofs.Others.{steps_know}
 use Rattle.sd_replay.proofs.ParentTable.{loop_is, roots_are, newly_is}
 use Rattle.sd_replay.proofs.alarms.alarms_anew.Goals as goal
 
-pub returns-clause-stands : goal.returns-clause-stands
-returns-clause-stands g c = c.update_rows.ensures
-
-pub returns-clause-looped : goal.returns-clause-looped
-returns-clause-looped g c = λ setting run made are.
-    c.newly.ensures
-    ∙ newly_is (first_on_loop setting (steps_of run)) (first_on_loop setting (made.next.step ∷ steps_of run)) c.first_loop-looped.result c.first_loop.result
-    (sym (loop_is c.args.parent_table.now setting (steps_of run) are (steps_know setting (steps_of run) made.stands.fabric.accepted.0)
-    c.first_loop-looped.result c.first_loop-looped.ensures))
-    (sym (loop_is c.update_rows.new.parent_table setting (made.next.step ∷ steps_of run) (c.update_rows.ensures setting run made are)
-    (steps_know setting (made.next.step ∷ steps_of run) made.stands.fabric.accepted) c.first_loop.result c.first_loop.ensures))
-
-pub returns-clause-roots : goal.returns-clause-roots
-returns-clause-roots g c = λ setting run made are.
-    c.newly-2.ensures
-    ∙ newly_is (two_least (roots setting (steps_of run))) (two_least (roots setting (made.next.step ∷ steps_of run))) c.two_acting-roots.result
-    c.two_acting.result
-    (c.two_acting-roots.ensures
-    ∙ ap two_least (roots_are c.args.parent_table.now setting (steps_of run) are (steps_know setting (steps_of run) made.stands.fabric.accepted.0)))
-    (c.two_acting.ensures
-    ∙ ap two_least (roots_are c.update_rows.new.parent_table setting (made.next.step ∷ steps_of run) (c.update_rows.ensures setting run made are)
-    (steps_know setting (made.next.step ∷ steps_of run) made.stands.fabric.accepted)))
+pub returns : goal.returns
+returns g c = λ setting run made are.
+    let stands = c.update_rows.ensures setting run made are in
+    let before = steps_know setting (steps_of run) made.stands.fabric.accepted.0 in
+    let after = steps_know setting (made.next.step ∷ steps_of run) made.stands.fabric.accepted in
+    record {
+      stands = stands;
+      looped =
+          c.newly.ensures
+          ∙ newly_is (first_on_loop setting (steps_of run)) (first_on_loop setting (made.next.step ∷ steps_of run)) c.first_loop-looped.result c.first_loop.result
+          (sym (loop_is c.args.parent_table.now setting (steps_of run) are before c.first_loop-looped.result c.first_loop-looped.ensures))
+          (sym (loop_is c.update_rows.new.parent_table setting (made.next.step ∷ steps_of run) stands after c.first_loop.result c.first_loop.ensures));
+      roots =
+          c.newly-2.ensures
+          ∙ newly_is (two_least (roots setting (steps_of run))) (two_least (roots setting (made.next.step ∷ steps_of run))) c.two_acting-roots.result
+          c.two_acting.result
+          (c.two_acting-roots.ensures ∙ ap two_least (roots_are c.args.parent_table.now setting (steps_of run) are before))
+          (c.two_acting.ensures ∙ ap two_least (roots_are c.update_rows.new.parent_table setting (made.next.step ∷ steps_of run) stands after));
+    }

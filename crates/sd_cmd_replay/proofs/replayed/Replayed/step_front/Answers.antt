@@ -11,9 +11,9 @@ pub returns-in_ok-accept-in-Ok-clause-takes : goal.returns-in_ok-accept-in-Ok-cl
 returns-in_ok-accept-in-Ok-clause-takes g c =
     front_accepted g.V.Observer c.args.self.now.replay c.step_event.new.self c.accept.new.self.replay (take c.in-Some.front.len c.args.text.now)
     c.accept.new.self.text.items c.in-Some.front.event c.accept.ensures.same c.in-Some.ensures.event c.in-Ok.field-0 (Ok c.in-Ok.field-0) refl
-    c.in-Ok.ensures.refusal c.in-Ok.ensures.accepted c.in_ok-accept-in-Ok.ensures.text
+    c.in-Ok.ensures.answered.cause c.in-Ok.ensures.accepted c.in_ok-accept-in-Ok.ensures.text
 
 pub returns-in-Err-clause-takes : goal.returns-in-Err-clause-takes
 returns-in-Err-clause-takes g c =
     λ setting events replayed. stays g.V.Observer setting events c.args.self.now.replay c.step_event.new.self
-    (λ s run stands. (c.in-Err.ensures.refused s run stands).0) replayed
+    (λ s run stands. (c.in-Err.ensures.answered.refused s run stands).0) replayed

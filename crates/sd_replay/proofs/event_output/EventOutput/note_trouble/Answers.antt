@@ -1,4 +1,4 @@
-use Rattle.std.proofs.Common.{◌+◌, sym, ap, ◌∙◌, subst}
+use Rattle.std.proofs.Common.{◌+◌, refl, sym, ap, ◌∙◌, subst}
 use Rattle.sd_topo.specs.Topologies.{network}
 use Rattle.sd_replay.specs.declared.lines.findings.Findings.{Findings}
 use Rattle.sd_replay.specs.declared.Tally.{Tally}
@@ -10,11 +10,13 @@ pub print_findings-requires : goal.print_findings-requires
 print_findings-requires c =
     subst (λ (found : Findings). IsOf (network c.args.self.now.topology) found) (sym c.findings_of-found.ensures) c.requires.devices
 
-pub returns-clause-tally : goal.returns-clause-tally
-returns-clause-tally c = c.with-self.ensures ∙ ap (tally_with c.args.self.now.tally) c.findings_of-found.ensures
-
-pub returns-clause-lines : goal.returns-clause-lines
-returns-clause-lines c =
-    c.print_findings.ensures
-    ∙ ap (λ (tally : Tally). found_bytes (network c.args.self.now.topology) tally.events c.findings_of-found.result) c.with-self.ensures
-    ∙ ap (found_bytes (network c.args.self.now.topology) (c.args.self.now.tally.events + 1)) c.findings_of-found.ensures
+pub returns : goal.returns
+returns c =
+    record {
+      topology = refl;
+      tally = c.with-self.ensures ∙ ap (tally_with c.args.self.now.tally) c.findings_of-found.ensures;
+      lines =
+          c.print_findings.ensures
+          ∙ ap (λ (tally : Tally). found_bytes (network c.args.self.now.topology) tally.events c.findings_of-found.result) c.with-self.ensures
+          ∙ ap (found_bytes (network c.args.self.now.topology) (c.args.self.now.tally.events + 1)) c.findings_of-found.ensures;
+    }

@@ -45,8 +45,8 @@ returns-clause-stands g c = λ setting run accepted has_seen.
           (can_show setting accepted.next.step (steps_of run) c.args.event.now c.args.outcome.now
           (step_to g.N.Node c.args.fleet.now setting run c.args.event.now c.args.outcome.now accepted) c.deref.result.now collected) has_seen.premises);
       parent_table =
-          c.alarms_of-alarms.ensures.stands setting run
-          (made_of g.N.Node c.args.fleet.now setting run c.args.event.now c.args.outcome.now accepted c.device.result c.device.ensures) has_seen.parent_table;
+          (c.alarms_of-alarms.ensures setting run
+          (made_of g.N.Node c.args.fleet.now setting run c.args.event.now c.args.outcome.now accepted c.device.result c.device.ensures) has_seen.parent_table).stands;
     }
 
 pub returns-clause-found : goal.returns-clause-found
@@ -59,10 +59,10 @@ returns-clause-found g c = λ setting run accepted has_seen.
     (c.judge-broken.ensures.breaks setting (seen_of (steps_of run))
     (can_show setting accepted.next.step (steps_of run) c.args.event.now c.args.outcome.now
     (step_to g.N.Node c.args.fleet.now setting run c.args.event.now c.args.outcome.now accepted) c.deref.result.now collected) has_seen.premises)
-    (c.alarms_of-alarms.ensures.looped setting run
-    (made_of g.N.Node c.args.fleet.now setting run c.args.event.now c.args.outcome.now accepted c.device.result c.device.ensures) has_seen.parent_table)
-    (c.alarms_of-alarms.ensures.roots setting run
-    (made_of g.N.Node c.args.fleet.now setting run c.args.event.now c.args.outcome.now accepted c.device.result c.device.ensures) has_seen.parent_table))
+    (c.alarms_of-alarms.ensures setting run
+    (made_of g.N.Node c.args.fleet.now setting run c.args.event.now c.args.outcome.now accepted c.device.result c.device.ensures) has_seen.parent_table).looped
+    (c.alarms_of-alarms.ensures setting run
+    (made_of g.N.Node c.args.fleet.now setting run c.args.event.now c.args.outcome.now accepted c.device.result c.device.ensures) has_seen.parent_table).roots)
 
 pub returns-clause-devices : goal.returns-clause-devices
 returns-clause-devices g c = λ setting run accepted has_seen.
@@ -74,7 +74,7 @@ returns-clause-devices g c = λ setting run accepted has_seen.
     (c.judge-broken.ensures.breaks setting (seen_of (steps_of run))
     (can_show setting accepted.next.step (steps_of run) c.args.event.now c.args.outcome.now
     (step_to g.N.Node c.args.fleet.now setting run c.args.event.now c.args.outcome.now accepted) c.deref.result.now collected) has_seen.premises)
-    (c.alarms_of-alarms.ensures.looped setting run
-    (made_of g.N.Node c.args.fleet.now setting run c.args.event.now c.args.outcome.now accepted c.device.result c.device.ensures) has_seen.parent_table)
-    (c.alarms_of-alarms.ensures.roots setting run
-    (made_of g.N.Node c.args.fleet.now setting run c.args.event.now c.args.outcome.now accepted c.device.result c.device.ensures) has_seen.parent_table)) accepted.stands.fabric.accepted
+    (c.alarms_of-alarms.ensures setting run
+    (made_of g.N.Node c.args.fleet.now setting run c.args.event.now c.args.outcome.now accepted c.device.result c.device.ensures) has_seen.parent_table).looped
+    (c.alarms_of-alarms.ensures setting run
+    (made_of g.N.Node c.args.fleet.now setting run c.args.event.now c.args.outcome.now accepted c.device.result c.device.ensures) has_seen.parent_table).roots) accepted.stands.fabric.accepted

@@ -8,12 +8,13 @@ use Rattle.sd_msg.specs.Observing.{report_at}
 use Rattle.sd_sched.specs.Events.{reference_of}
 use Rattle.sd_history.specs.Nodes.{steps_of}
 use Rattle.sd_fleet.proofs.Refused.{refusal_is}
+use Rattle.sd_replay.specs.declared.faults.ReplayFault.TheVariants.{Memory}
 use Rattle.sd_replay.specs.FleetFaults.{of_fleet}
 use Rattle.sd_replay.specs.Counting.{tally_with}
 use Rattle.sd_replay.specs.lines.Findings.{IsOf, found_bytes}
 use Rattle.sd_replay.specs.Troubles.{found_by, found_with}
-use Rattle.sd_replay.proofs.Causes.{if_told, told_as, told_cause, told_of_fleet, unrefused}
-use Rattle.sd_replay.proofs.Calm.{stays_calm}
+use Rattle.sd_replay.proofs.Answered.{answered_done, answered_fault}
+use Rattle.sd_replay.proofs.Causes.{told_as, told_cause, told_of_fleet, unrefused}
 use Rattle.sd_replay.proofs.Going.{with_fleet, stands_prepared, stands_with_room}
 use Rattle.sd_replay.proofs.Happening.{IsDone, has_step, numbers_merely, tally_merely, devices_merely, ready_merely, stands_on, run_on}
 use Rattle.sd_replay.proofs.replay.Replay.advance.Given.{Over}
@@ -78,12 +79,12 @@ told g c =
       has_seen = λ setting run made. c.look-trouble.ensures.stands setting run (c.happen.ensures.accepted setting run made);
       finds = λ setting run made. c.look-trouble.ensures.found setting run (c.happen.ensures.accepted setting run made);
       report = refl;
-      topology = c.note.ensures.topology;
+      topology = c.note.ensures.noted.topology;
       tally =
-          c.note.ensures.tally
+          c.note.ensures.noted.tally
           ∙ ap (λ (r : ℕ). tally_with c.ready.new.self.event_output.tally (found_by c.look-trouble.result c.happen.new.outcome.report r)) c.reference-reference.ensures;
       lines =
-          c.note.ensures.lines
+          c.note.ensures.noted.lines
           ∙ ap (λ (r : ℕ). found_bytes (network c.ready.new.self.event_output.topology) (c.ready.new.self.event_output.tally.events + 1)
           (found_by c.look-trouble.result c.happen.new.outcome.report r)) c.reference-reference.ensures;
       ended = c.note.ensures.ended;
@@ -111,12 +112,12 @@ untold g c =
       has_seen = λ setting run made. c.look-trouble.ensures.stands setting run (c.happen.ensures.accepted setting run made);
       finds = λ setting run made. c.look-trouble.ensures.found setting run (c.happen.ensures.accepted setting run made);
       report = refl;
-      topology = c.note.ensures.topology;
+      topology = c.note.ensures.noted.topology;
       tally =
-          c.note.ensures.tally
+          c.note.ensures.noted.tally
           ∙ ap (λ (r : ℕ). tally_with c.ready.new.self.event_output.tally (found_by c.look-trouble.result c.happen.new.outcome.report r)) c.reference-reference.ensures;
       lines =
-          c.note.ensures.lines
+          c.note.ensures.noted.lines
           ∙ ap (λ (r : ℕ). found_bytes (network c.ready.new.self.event_output.topology) (c.ready.new.self.event_output.tally.events + 1)
           (found_by c.look-trouble.result c.happen.new.outcome.report r)) c.reference-reference.ensures;
       ended = c.note.ensures.ended;
@@ -173,22 +174,25 @@ returns-in_default-report-clause-accepted g c = λ setting run stands.
     (found_with c.look-trouble.result c.args.event.now c.happen.new.outcome) (untold g c.before) setting run ready in
     record { stepped = record { next = accepted.next; happens = accepted.happens; stands = stands_after }; comes = accepted.comes }
 
-pub returns-in-Some-clause-calm : goal.returns-in-Some-clause-calm
-returns-in-Some-clause-calm g c = λ setting run stands. stays_calm setting stands.sound (steps_of run)
+-- so it was answered
+pub returns-in-Some-clause-answered : goal.returns-in-Some-clause-answered
+returns-in-Some-clause-answered g c =
+    answered_done g.N.Node g.V.Observer c.args.self.now _ c.args.event.now _
+    (λ setting run stands. (returns-in-Some-clause-accepted g c setting run stands).stepped)
 
-pub returns-in_default-report-clause-calm : goal.returns-in_default-report-clause-calm
-returns-in_default-report-clause-calm g c = λ setting run stands. stays_calm setting stands.sound (steps_of run)
+pub returns-in_default-report-clause-answered : goal.returns-in_default-report-clause-answered
+returns-in_default-report-clause-answered g c =
+    answered_done g.N.Node g.V.Observer c.args.self.now _ c.args.event.now _
+    (λ setting run stands. (returns-in_default-report-clause-accepted g c setting run stands).stepped)
 
 -- the fleet answers a fault
-pub returns-in_err-most-clause-refusal : goal.returns-in_err-most-clause-refusal
-returns-in_err-most-clause-refusal g c = λ setting run stands.
-    told_cause setting (steps_of run) c.args.event.now c.in_err-most.field-0.0 c.from_residual.result
-    (told_as c.from_residual.result (of_fleet c.in_err-most.field-0.0) c.from_residual.ensures.1)
-    (c.in_err-most.ensures.fault setting run stands.made)
-
-pub returns-in_err-most-clause-refused : goal.returns-in_err-most-clause-refused
-returns-in_err-most-clause-refused g c =
-    if_told _ c.from_residual.result (of_fleet c.in_err-most.field-0.0) c.from_residual.ensures.1
+pub returns-in_err-most-clause-answered : goal.returns-in_err-most-clause-answered
+returns-in_err-most-clause-answered g c =
+    let told = told_as c.from_residual.result (of_fleet c.in_err-most.field-0.0) c.from_residual.ensures.1 in
+    answered_fault g.N.Node g.V.Observer c.args.self.now _ c.args.event.now c.from_residual.result (of_fleet c.in_err-most.field-0.0) told
+    (λ setting run
+    stands. told_cause setting (steps_of run) c.args.event.now c.in_err-most.field-0.0 c.from_residual.result told
+    (c.in_err-most.ensures.fault setting run stands.made))
     (λ setting run
     stands. (
       stands_prepared g.N.Node g.V.Observer c.args.self.now.fleet c.prepare.new.self c.args.self.now.monitors c.args.self.now.event_output
@@ -198,20 +202,20 @@ returns-in_err-most-clause-refused g c =
     ))
 
 -- there is no room for an event that the history does not refuse
-pub returns-in_default-clause-refusal : goal.returns-in_default-clause-refusal
-returns-in_default-clause-refusal g c = λ setting run stands.
-    unrefused _ setting (steps_of run) c.args.event.now
+pub returns-in_default-clause-answered : goal.returns-in_default-clause-answered
+returns-in_default-clause-answered g c =
+    answered_fault g.N.Node g.V.Observer c.args.self.now _ c.args.event.now _ Memory refl
+    (λ setting run
+    stands. unrefused _ setting (steps_of run) c.args.event.now
     (sym (refusal_is setting c.prepare.new.self.fabric (steps_of run) c.args.event.now (c.prepare.ensures.stands setting run stands.made).fabric)
-    ∙ c.in_ok-most.ensures.prepared.accepted)
-
-pub returns-in_default-clause-refused : goal.returns-in_default-clause-refused
-returns-in_default-clause-refused g c = λ setting run stands.
-    let ready = stands_with_room g.N.Node g.V.Observer setting run c.prepare.ensures.stands c.ready.ensures.fleet c.ready.ensures.event_output
-    c.ready.ensures.has_seen c.ready.ensures.told stands in (
-      ready,
+    ∙ c.in_ok-most.ensures.prepared.accepted))
+    (λ setting run
+    stands. (
+      stands_with_room g.N.Node g.V.Observer setting run c.prepare.ensures.stands c.ready.ensures.fleet c.ready.ensures.event_output
+          c.ready.ensures.has_seen c.ready.ensures.told stands,
       (
         sym (refusal_is setting c.prepare.new.self.fabric (steps_of run) c.args.event.now (c.prepare.ensures.stands setting run stands.made).fabric)
             ∙ c.in_ok-most.ensures.prepared.accepted,
         c.in_default.ensures.memory,
       ),
-    )
+    ))

@@ -90,9 +90,9 @@ done g c =
           (record { first = refl; count = refl }))) setting run made)
           (c.collect.ensures.stands setting (steps_of run) has_seen);
       report = refl;
-      topology = c.note.ensures.topology;
-      tally = c.note.ensures.tally;
-      lines = c.note.ensures.lines;
+      topology = c.note.ensures.noted.topology;
+      tally = c.note.ensures.noted.tally;
+      lines = c.note.ensures.noted.lines;
       ended = c.note.ensures.ended;
       tells = refl;
     }

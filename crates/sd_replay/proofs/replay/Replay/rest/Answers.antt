@@ -83,9 +83,9 @@ done g c =
           (outcome_keeping c.args.self.now.fleet.fabric c.args.d None (record { first = 0; count = 0 })) refl)) setting run made)
           has_seen;
       report = refl;
-      topology = c.note.ensures.topology;
-      tally = c.note.ensures.tally;
-      lines = c.note.ensures.lines;
+      topology = c.note.ensures.noted.topology;
+      tally = c.note.ensures.noted.tally;
+      lines = c.note.ensures.noted.lines;
       ended = c.note.ensures.ended;
       tells = refl;
     }
