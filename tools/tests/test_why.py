@@ -75,8 +75,12 @@ class Why(unittest.TestCase):
         self.topology("line 3, column", "NotToml", {"ppm = 200": "ppm ="})
 
     def test_a_byte_order_mark_is_named(self):
-        text = b"\xef\xbb\xbf" + (TRIANGLE / "topology.toml").read_bytes()
-        self.says("byte order mark", "input topology NotToml\n", "t.toml", files={"t.toml": text})
+        text = b"\xef\xbb\xbf" + (TRIANGLE / "plan.json").read_bytes()
+        self.says("byte order mark", "input plan 1 NotJson\n", TRIANGLE / "topology.toml", "p.json", files={"p.json": text})
+
+    def test_a_byte_order_mark_of_a_topology_is_passed_over(self):
+        text = b"\xef\xbb\xbf" + (TRIANGLE / "topology.toml").read_bytes().replace(b"ppm = 200", b"ppm =")
+        self.says("line 3, column", "input topology NotToml\n", "t.toml", files={"t.toml": text})
 
     def plan(self, part, line, old, new):
         text = (TRIANGLE / "plan.json").read_text()

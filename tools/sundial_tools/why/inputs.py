@@ -32,7 +32,7 @@ def say_not_read(text: Text, kind: str, fault: Optional[Tuple[str, str]]) -> Ite
     """Why a text is no TOML or no JSON. `fault` is where, and what."""
     if text.not_text is not None:
         yield f"{text.path}: byte {text.not_text + 1} is not UTF-8."
-    elif text.has_mark:
+    elif text.has_mark and kind == "JSON":  # (that of a TOML text is passed over)
         yield f"{text.path} begins with a byte order mark. Save it as UTF-8 without one."
     elif fault is not None:
         yield f"{fault[0]}: {fault[1]}."

@@ -67,7 +67,7 @@ class TomlText:
         self.tree: dict[str, Any] = {}
         self.fault: Optional[str] = None
         try:
-            self.tree = tomllib.loads(text.text)
+            self.tree = tomllib.loads(text.text.removeprefix("\ufeff"))
         except (tomllib.TOMLDecodeError, RecursionError) as fault:
             self.fault = str(fault)
 
