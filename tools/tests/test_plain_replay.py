@@ -21,6 +21,7 @@ STARTS, BEFORE_THE_WINDOW, BEFORE_THE_COMMIT, COMMITTED = BASE[:3], BASE[:11], B
 NEEDED = (
     "structure", "ancestor", "timing", "root-A", "root-B", "root-C", "root-E", "loop", "slack", "reach", "part-of-a-domain",
 )
+TWO_DOMAINS = ("8x3-two-roots", "8x3-ring-in-order")
 
 # What is accepted, the line behind it, and why that is refused.
 REFUSALS = (
@@ -125,8 +126,8 @@ class Examples(unittest.TestCase):
             self.check(EXAMPLES / "commit-wait", command.split()[2:], "\n".join(kept) + "\n")
 
     def test_the_schedules_that_show_which_conditions_are_needed(self):
-        self.assertEqual(sorted(it.name for it in (EXAMPLES / "needed").iterdir() if it.is_dir()), sorted(NEEDED))
-        for name in NEEDED:
+        self.assertEqual(sorted(it.name for it in (EXAMPLES / "needed").iterdir() if it.is_dir()), sorted(NEEDED + TWO_DOMAINS))
+        for name in NEEDED + TWO_DOMAINS:
             with self.subTest(name):
                 folder = EXAMPLES / "needed" / name
                 self.check(folder, ("topology.toml", "plan.json", "schedule.txt"), (folder / "output.txt").read_text())
@@ -134,6 +135,13 @@ class Examples(unittest.TestCase):
     def test_no_premise_breaks_there(self):
         for name in NEEDED:
             self.assertNotIn("broken", (EXAMPLES / "needed" / name / "output.txt").read_text())
+
+    def test_what_happens_when_two_domains_fail(self):
+        """No other premise breaks, and no interval is wrong."""
+        for name in TWO_DOMAINS:
+            lines = (EXAMPLES / "needed" / name / "output.txt").read_text().splitlines()
+            found = {tuple(it.split()[:3:2]) for it in lines if it.startswith(("broken", "alarm"))}
+            self.assertEqual(found - {("alarm", "loop")}, {("broken", "domain"), ("alarm", "roots")}, name)
 
 
 class Histories(unittest.TestCase):
