@@ -34,7 +34,9 @@ class Order:
             self._last = first
             return
         # (of `sundialctl bounds` each line has the calm number)
-        family = "bounds" if "calm" in line.fields else FAMILY_OF.get(first, self._family)
+        family = FAMILY_OF[first] if first in FAMILY_OF else self._family
+        if "calm" in line.fields:
+            family = "bounds"
         if self._family is not None and family != self._family:
             raise self._mixed(line, number)
         self._family = family
