@@ -19,8 +19,8 @@ from sundial_tools.whatif.scenario import Scenario, Settings
 from sundial_tools.whatif.wishes import Wishes
 
 MILLION = 1_000_000
-# Of random networks, fabrics and meshes: those whose reports the plain replay makes, which takes a second for each thousand
-# lines. By hand there were 300.
+# So many random fabrics, and as many meshes, whose reports the plain replay makes: a second for each. By hand there
+# were 300 of each.
 MANY = int(os.environ.get("BOUNDS_SCENARIOS", "3"))
 needs_sundialctl = unittest.skipUnless(SUNDIALCTL.is_file(), "the program sundialctl is not built (SUNDIALCTL names it)")
 
