@@ -34,6 +34,6 @@ def fleet_rows(bench: Bench) -> List[Row]:
 
 def book_rows(bench: Bench) -> List[Row]:
     program = str(test_program(bench, "sd_test_core"))
-    command = Command((program, "tests::books::many_on_their_way_are_taken_in_about_their_order"))
+    command = Command((program, "messages::books::many_on_their_way_are_taken_in_about_their_order"))
     return [Row("a flight taken and one sent", f"{count(TAKES)} of each, 10,000 on their way",
                 seconds=bench.runner.least(command), events=TAKES, memory=bench.runner.peak_memory(command.words))]
