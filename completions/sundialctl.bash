@@ -4,7 +4,7 @@ _sundialctl() {
     local current=${COMP_WORDS[COMP_CWORD]} most=0
     COMPREPLY=()
     if [ "$COMP_CWORD" -eq 1 ]; then
-        mapfile -t COMPREPLY < <(compgen -W "search renew bounds" -- "$current")
+        mapfile -t COMPREPLY < <(compgen -W "search renew bounds resume" -- "$current")
         return
     fi
     # how many files the command reads: numbers follow
@@ -12,6 +12,8 @@ _sundialctl() {
         search) most=1 ;;
         bounds) most=2 ;;
         renew) most=3 ;;
+        # all of its words are files, but for the slash
+        resume) most=$COMP_CWORD ;;
     esac
     # names of files are left to readline, which knows of quotes and of ~
     if [ "$COMP_CWORD" -le $((most + 1)) ]; then

@@ -1,5 +1,6 @@
 pub mod Judged
 pub mod Makes
 pub mod Meeting
+pub mod Openings
 pub mod Served
 pub mod Settings

@@ -19,7 +19,7 @@ use Rattle.sd_cmd_files.specs.work.Ending.{LeavesAt}
 use Rattle.sd_cmd_files.specs.work.Leaving.{Leaves}
 use Rattle.sd_ctl_top.specs.Promise.{AnswersOf, IsUsageLine, MeetsOutcome, MeetsResult, statuses_of}
 use Rattle.sd_ctl_top.specs.Words.{Command, command_of}
-use Rattle.sd_ctl_top.specs.Words.Command.{Search, Renew, Bounds}
+use Rattle.sd_ctl_top.specs.Words.Command.{Search, Renew, Bounds, Resume}
 
 -- the command of the words writes by one write what it has made
 pub made_meets : (held : Option (List ℕ → Option (List ℕ))) (words : List (List ℕ)) (command : Option Command) (made : Result Answer CommandError)
@@ -47,7 +47,7 @@ usage_meets (Some h) words old new result is writes =
     subst (λ (c : Option Command). LeavesAt false (InWrites AtOnce (AnswersOf c (texts_of h))) old new result) is (usage_leaves old new result writes)
 
 -- no command answers a status of a run that was stopped
-never_stopped : (command : Option Command) (status : Status) → IsTrue (is_among (statuses_of command) status) → stop_of status ≡ None
+pub never_stopped : (command : Option Command) (status : Status) → IsTrue (is_among (statuses_of command) status) → stop_of status ≡ None
 never_stopped None ShelfFault among = cc
 never_stopped None SinkFault among = cc
 never_stopped None Memory among = cc
@@ -60,6 +60,9 @@ never_stopped (Some (Renew topology plan absent settings)) Memory among = cc
 never_stopped (Some (Bounds topology plan budget)) ShelfFault among = cc
 never_stopped (Some (Bounds topology plan budget)) SinkFault among = cc
 never_stopped (Some (Bounds topology plan budget)) Memory among = cc
+never_stopped (Some (Resume topology plans left schedule opening)) ShelfFault among = cc
+never_stopped (Some (Resume topology plans left schedule opening)) SinkFault among = cc
+never_stopped (Some (Resume topology plans left schedule opening)) Memory among = cc
 never_stopped _ _ among = refl
 
 -- a run that ended

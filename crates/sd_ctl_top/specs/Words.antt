@@ -1,5 +1,5 @@
 -- What the words of the second program mean.
-use Rattle.std.specs.Prelude.{ℕ, ◌-◌, ◌^◌, List, [], ◌∷◌, Option, None, Some, Result, Ok, Err, codes, nat_lt, if◌then◌else◌}
+use Rattle.std.specs.Prelude.{ℕ, ◌+◌, ◌-◌, ◌^◌, ◌&&◌, ◌||◌, Bool, true, false, List, [], ◌∷◌, ◌++◌, length, take, drop, slice_index_or, Option, None, Some, Result, Ok, Err, codes, nat_lt, if◌then◌else◌}
 use Rattle.std.specs.Str.{bytes_eq}
 use Rattle.sd_num.specs.Decimals.{number}
 use Rattle.sd_num.specs.Lists.{map_or}
@@ -7,11 +7,12 @@ use Rattle.sd_num.specs.declared.NumFault.{NumFault}
 use Rattle.sd_ctl_search.specs.Drill.declared.Budget.{Budget}
 use Rattle.sd_ctl_search.specs.declared.searching.Settings.{Settings}
 
--- a command, with the names of its files and its settings or its budget
+-- a command, with the names of its files and its settings or its budget, or how many plans an opening leaves out
 pub data Command : Type 0 where
   Search : (topology : List ℕ) (settings : Settings) → Command
   Renew : (topology plan absent : List ℕ) (settings : Settings) → Command
   Bounds : (topology plan : List ℕ) (budget : Budget) → Command
+  Resume : (topology : List ℕ) (plans : List (List ℕ)) (left : ℕ) (schedule opening : List ℕ) → Command
 
 -- the number that was read, where it is not above the greatest
 abbrev pub if_at_most : ℕ → Result ℕ NumFault → Option ℕ
@@ -79,6 +80,46 @@ abbrev pub bounds_of : List (List ℕ) → Option Command
 bounds_of [] = None
 bounds_of (topology ∷ others) = bounds_over topology others
 
+-- the place of the first word that is a slash, of words from a place on
+abbrev pub slash_from : ℕ → List (List ℕ) → Option ℕ
+slash_from place [] = None
+slash_from place (word ∷ others) = if bytes_eq word (codes "/") then Some place else slash_from (place + 1) others
+
+-- the words are the same
+abbrev pub same_words : List (List ℕ) → List (List ℕ) → Bool
+same_words [] [] = true
+same_words (one ∷ ones) (other ∷ others) = bytes_eq one other && same_words ones others
+same_words _ _ = false
+
+-- all words but the last, and the last
+abbrev pub all_but_last : List (List ℕ) → List (List ℕ)
+all_but_last words = take (length words - 1) words
+
+abbrev pub last_word : List (List ℕ) → List ℕ
+last_word words = slice_index_or words (length words - 1) []
+
+-- an opening for a schedule: its plans are the last of those of the schedule, of which there are 1 to 64
+abbrev pub resume_over : (topology : List ℕ) (plans : List (List ℕ)) (schedule : List ℕ) (later : List (List ℕ)) (opening : List ℕ) → Option Command
+resume_over topology plans schedule later opening =
+    if nat_lt (length later) 1 || nat_lt (length plans) (length later) || nat_lt 64 (length plans) then None
+    else if same_words (drop (length plans - length later) plans) later then Some (Resume topology plans (length plans - length later) schedule opening)
+    else None
+
+-- of the words before the slash and behind it: plans, and then a text
+abbrev pub resume_parts : (topology : List ℕ) (before behind : List (List ℕ)) → Option Command
+resume_parts topology before behind =
+    if nat_lt (length before) 2 || nat_lt (length behind) 2 then None
+    else resume_over topology (all_but_last before) (last_word before) (all_but_last behind) (last_word behind)
+
+-- the opening of the words
+abbrev pub resume_at : (topology : List ℕ) → List (List ℕ) → Option ℕ → Option Command
+resume_at topology words None = None
+resume_at topology words (Some place) = resume_parts topology (take place words) (drop (place + 1) words)
+
+abbrev pub resume_of : List (List ℕ) → Option Command
+resume_of [] = None
+resume_of (topology ∷ others) = resume_at topology others (slash_from 0 others)
+
 -- the command of the words, if they are in the table
 abbrev pub command_of : List (List ℕ) → Option Command
 command_of [] = None
@@ -86,6 +127,7 @@ command_of (word ∷ others) =
     if bytes_eq word (codes "search") then search_of others
     else if bytes_eq word (codes "renew") then renewal_of others
     else if bytes_eq word (codes "bounds") then bounds_of others
+    else if bytes_eq word (codes "resume") then resume_of others
     else None
 
 -- the names of the files that a command reads, in the order of its work
@@ -94,3 +136,4 @@ names_of None = []
 names_of (Some (Search topology settings)) = topology ∷ []
 names_of (Some (Renew topology plan absent settings)) = topology ∷ plan ∷ absent ∷ []
 names_of (Some (Bounds topology plan budget)) = topology ∷ plan ∷ []
+names_of (Some (Resume topology plans left schedule opening)) = topology ∷ (plans ++ schedule ∷ opening ∷ [])

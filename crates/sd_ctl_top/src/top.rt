@@ -13,6 +13,7 @@ use crate::renewal::{RenewalFiles, renewal_answer};
 use crate::whole::whole_answer;
 use crate::words::{Command, command_of};
 use sd_cmd_files::{IoError, Status, write_answer};
+use sd_ctl_resume::resume;
 use sd_outside::{Shelf, Sink};
 use std::alloc::Global;
 
@@ -28,6 +29,7 @@ pub fn run<S: Shelf, O: Sink>(alloc: Global, words: &[String], shelf: &mut S, ou
     // Over a shelf that tells its texts: what the words write and answer. A plan is printed only
     // where the checker accepts it, and it leaves out just what is absent. No plan is printed only
     // where the checker refuses the greedy one too: what `sundial plan` prints, or `sundial renew`.
+    // It is printed that an opening agrees only where all later events are the same behind both.
     ensures outcome { MeetsOutcome (S.held shelf.old) (map string_bytes words.now)
         (O.written out.old) (O.written out.new) result }
 
@@ -102,6 +104,10 @@ fn perform<S: Shelf, O: Sink>(
             let made = bounds_answer(alloc, shelf, topology, plan, budget);
             write_answer(alloc, &made, out)
         }
+        Some(Command::Resume { files }) => {
+            let made = resume(alloc, shelf, files);
+            write_answer(alloc, &made, out)
+        }
         None => usage(out),
     }
 }
@@ -113,7 +119,7 @@ fn usage<O: Sink>(out: &mut O) -> Result<Status, IoError>
     ensures sink { RisesFor (result ≡ Err IoError.Sink) (O.faults out.old) (O.faults out.new) }
 {
     match out.write(
-        b"usage: sundialctl search TOPOLOGY BASE HOLD SEED STEPS | renew TOPOLOGY PLAN ABSENT BASE HOLD SEED STEPS | bounds TOPOLOGY PLAN BASE HOLD\n",
+        b"usage: sundialctl search TOPOLOGY BASE HOLD SEED STEPS | renew TOPOLOGY PLAN ABSENT BASE HOLD SEED STEPS | bounds TOPOLOGY PLAN BASE HOLD | resume TOPOLOGY PLAN.. SCHEDULE / PLAN.. OPENING\n",
     ) {
         Ok(()) => Ok(Status::Usage),
         Err(_) => Err(IoError::Sink),

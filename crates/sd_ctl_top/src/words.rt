@@ -1,9 +1,11 @@
 //! What the words of the second program mean.
-ghost use Rattle.std.specs.Prelude.{◌≡◌, ◌≤◌, ◌^◌, map, option_map, string_bytes, IfSome};
+ghost use Rattle.std.specs.Prelude.{◌≡◌, ◌≤◌, ◌<◌, ◌^◌, Some, drop, length, map, option_map, string_bytes, take, IfSome};
+ghost use Rattle.std.specs.Str.{bytes_eq};
 ghost use Rattle.sd_ctl_search.specs.Drill.Budgets.{IsBudget};
 ghost use Rattle.sd_ctl_top.specs.Parsed.{IsGranted, named};
 ghost use Rattle.sd_ctl_top.specs.Words as meaning;
 
+use sd_ctl_resume::Files;
 use sd_ctl_search::Settings;
 use sd_ctl_search::drill::Budget;
 use sd_num::read_u64;
@@ -26,7 +28,13 @@ pub(crate) enum Command<'w> {
         plan: &'w str,
         budget: Budget,
     },
+    Resume {
+        files: Files<'w>,
+    },
 }
+
+/// How many plans a schedule has at most.
+const MOST_PLANS: usize = 64;
 
 /// The number of a word, up to the greatest.
 fn read_up_to(word: &str, greatest: u64) -> Option<u64>
@@ -179,6 +187,161 @@ fn bounds_of(words: &[String]) -> Option<Command<'_>>
     bounds_over(topology.as_str(), others)
 }
 
+/// The place of the first word that is a slash, if there is one.
+fn slash_in(words: &[String]) -> Option<usize>
+    ensures is { result ≡ meaning.slash_from 0 (map string_bytes words.now) }
+    ensures within { IfSome result (λ place. place < length words.now) }
+{
+    for place in 0..words.len() {
+        if words[place].as_str() == "/" {
+            return Some(place);
+        }
+    }
+    None
+}
+
+/// Whether two words are the same.
+fn is_same(one: &str, other: &str) -> bool
+    ensures { result ≡ bytes_eq one.now other.now }
+{
+    one == other
+}
+
+/// Whether the words are the same, of as many.
+fn are_same(one: &[String], other: &[String]) -> bool
+    requires { length one.now ≡ length other.now }
+    ensures { result
+        ≡ meaning.same_words (map string_bytes one.now) (map string_bytes other.now) }
+{
+    for place in 0..one.len() {
+        if !is_same(one[place].as_str(), other[place].as_str()) {
+            return false;
+        }
+    }
+    true
+}
+
+/// The words up to a place.
+fn words_to(words: &[String], place: usize) -> &[String]
+    requires { place ≤ length words.now }
+    ensures { result.now ≡ take place words.now }
+{
+    &words[..place]
+}
+
+/// The words from a place on.
+fn words_from(words: &[String], place: usize) -> &[String]
+    requires { place ≤ length words.now }
+    ensures { result.now ≡ drop place words.now }
+{
+    &words[place..]
+}
+
+/// All words but the last.
+fn all_but_last(words: &[String]) -> &[String]
+    requires { 1 ≤ length words.now }
+    ensures { map string_bytes result.now ≡ meaning.all_but_last (map string_bytes words.now) }
+{
+    words_to(words, words.len() - 1)
+}
+
+/// The last word.
+fn last_word(words: &[String]) -> &str
+    requires { 1 ≤ length words.now }
+    ensures { result.now ≡ meaning.last_word (map string_bytes words.now) }
+{
+    let last = words.len() - 1;
+    words[last].as_str()
+}
+
+/// The opening for a schedule, whose plans are the last of those of the schedule.
+fn resume_over<'w>(
+    topology: &'w str,
+    plans: &'w [String],
+    schedule: &'w str,
+    later: &'w [String],
+    opening: &'w str,
+) -> Option<Command<'w>>
+    ensures is { option_map named result
+        ≡ meaning.resume_over topology.now (map string_bytes plans.now) schedule.now
+        (map string_bytes later.now) opening.now }
+    ensures granted { IfSome result IsGranted }
+{
+    if later.is_empty() {
+        return None;
+    }
+    if plans.len() < later.len() {
+        return None;
+    }
+    if plans.len() > MOST_PLANS {
+        return None;
+    }
+    let left = plans.len() - later.len();
+    if !are_same(words_from(plans, left), later) {
+        return None;
+    }
+    let files = Files {
+        topology,
+        plans,
+        schedule,
+        left: left as u32,
+        opening,
+    };
+    Some(Command::Resume { files })
+}
+
+/// The opening of the words before a slash and behind it.
+fn resume_parts<'w>(
+    topology: &'w str,
+    before: &'w [String],
+    behind: &'w [String],
+) -> Option<Command<'w>>
+    ensures is { option_map named result
+        ≡ meaning.resume_parts topology.now (map string_bytes before.now)
+        (map string_bytes behind.now) }
+    ensures granted { IfSome result IsGranted }
+{
+    if before.len() < 2 {
+        return None;
+    }
+    if behind.len() < 2 {
+        return None;
+    }
+    resume_over(
+        topology,
+        all_but_last(before),
+        last_word(before),
+        all_but_last(behind),
+        last_word(behind),
+    )
+}
+
+/// The opening over a topology, of the words that follow.
+fn resume_among<'w>(topology: &'w str, words: &'w [String]) -> Option<Command<'w>>
+    ensures is { option_map named result
+        ≡ meaning.resume_at topology.now (map string_bytes words.now)
+        (meaning.slash_from 0 (map string_bytes words.now)) }
+    ensures granted { IfSome result IsGranted }
+{
+    let place = slash_in(words)?;
+    resume_parts(
+        topology,
+        words_to(words, place),
+        words_from(words, place + 1),
+    )
+}
+
+/// The opening of the words for a topology and what follows.
+fn resume_of(words: &[String]) -> Option<Command<'_>>
+    ensures is { option_map named result ≡ meaning.resume_of (map string_bytes words.now) }
+    ensures granted { IfSome result IsGranted }
+{
+    let [topology, others @ ..] = words else {
+        return None;
+    };
+    resume_among(topology.as_str(), others)
+}
+
 /// The command of the words, if they are in the table.
 pub(crate) fn command_of(words: &[String]) -> Option<Command<'_>>
     ensures is { option_map named result ≡ meaning.command_of (map string_bytes words.now) }
@@ -193,6 +356,8 @@ pub(crate) fn command_of(words: &[String]) -> Option<Command<'_>>
         renewal_of(others)
     } else if word.as_str() == "bounds" {
         bounds_of(others)
+    } else if word.as_str() == "resume" {
+        resume_of(others)
     } else {
         None
     }

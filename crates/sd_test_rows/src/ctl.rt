@@ -8,11 +8,12 @@ use std::process::Abort;
 use std::test::Fail;
 
 mod bounds;
+mod resume;
 mod searches;
 
 /// What is written for words that are no command's.
 const USAGE: &str =
-    "usage: sundialctl search TOPOLOGY BASE HOLD SEED STEPS | renew TOPOLOGY PLAN ABSENT BASE HOLD SEED STEPS | bounds TOPOLOGY PLAN BASE HOLD\n";
+    "usage: sundialctl search TOPOLOGY BASE HOLD SEED STEPS | renew TOPOLOGY PLAN ABSENT BASE HOLD SEED STEPS | bounds TOPOLOGY PLAN BASE HOLD | resume TOPOLOGY PLAN.. SCHEDULE / PLAN.. OPENING\n";
 
 /// A run of words over texts. The calls of the shelf that are listed fail, and so do the writes.
 fn run_over(
@@ -45,7 +46,7 @@ fn assert_writes(
 
 #[test]
 fn other_words_are_usage(rt: HostRuntime) -> Result<(), Fail> {
-    let cases: [&[&str]; 9] = [
+    let cases: [&[&str]; 15] = [
         &[],
         &["plan", "topology"],
         &["search", "topology", "1", "1", "1"],
@@ -55,6 +56,12 @@ fn other_words_are_usage(rt: HostRuntime) -> Result<(), Fail> {
         &["bounds", "topology", "plan", "1"],
         &["bounds", "topology", "plan", "1", "1", "1"],
         &["bounds", "topology", "plan", "1", "1152921504606846977"],
+        &["resume"],
+        &["resume", "topology", "plan", "schedule", "opening"],
+        &["resume", "topology", "schedule", "/", "opening"],
+        &["resume", "topology", "plan", "schedule", "/", "opening"],
+        &["resume", "topology", "plan", "schedule", "/", "other", "opening"],
+        &["resume", "topology", "plan", "schedule", "/", "plan", "plan", "opening"],
     ];
     let texts = [("topology", FABRIC.as_bytes())];
     for words in cases {

@@ -79,9 +79,9 @@ class Cutter:
                 if device not in one.firsts:
                     clock, eps = self.fleet.devices[device].report(counter)
                     one.firsts[device] = Mark(line, event.ref, counter, clock, eps)
-        elif word in ("fix", "recv", "lose"):
+        elif word in ("fix", "recv", "lose", "ask"):
             self._kept.append(Kept(line, event))
-        elif word != "ask":
+        else:
             self._rounds.clear()
         if len(self._kept) > MOST_KEPT:
             self._gone = self._kept.popleft().line

@@ -4,6 +4,7 @@ from __future__ import annotations
 
 import argparse
 import contextlib
+import itertools
 import os
 import subprocess
 import sys
@@ -24,7 +25,7 @@ from sundial_tools.plan import Plan, read_plan
 from sundial_tools.safe_write import Progress
 from sundial_tools.schedule import Event, open_schedule, parse_event
 from sundial_tools.times import picoseconds
-from sundial_tools.topology import Topology, read_topology, sundial_program
+from sundial_tools.topology import Topology, read_topology, search_program, sundial_program
 
 MOST_EVENTS = 2**26
 Finished = Callable[[Row], None]
@@ -179,21 +180,28 @@ def main(words: List[str]) -> int:
 def _cut(options: argparse.Namespace) -> int:
     topology = read_topology(options.topology)
     plans = [read_plan(path, topology) for path in options.plan]
-    program = sundial_program()
+    program, judge = sundial_program(), search_program()
     if options.run and not program:
         raise ToolError("--run needs sundial on the path, or the variable SUNDIAL")
+    if options.certify and not judge:
+        raise ToolError("--certify needs sundialctl on the path, or the variable SUNDIALCTL")
+    if options.certify and options.move:
+        raise ToolError("--certify compares times, which --move changes")
     wish = Wish(options.every, tuple(options.at), options.move)
     rows: List[Row] = []
     with contextlib.ExitStack() as stack:
         directory = options.output
         if directory is not None:
             os.makedirs(directory, exist_ok=True)
-        elif options.run:
+        elif options.run or options.certify:
             directory = stack.enter_context(tempfile.TemporaryDirectory())
+        verdicts: List[str] = []
         runs = Runs(lambda row: replayed(program or "", options, directory or "", row), options.jobs, options.follow)
 
         def finished(row: Row) -> None:
             rows.append(row)
+            if options.certify and len(rows) > 1:
+                verdicts.append(certified(judge or "", options, directory or "", rows[-2], row))
             if options.run:
                 runs.begin(row)
 
@@ -205,6 +213,8 @@ def _cut(options: argparse.Namespace) -> int:
                 table.write(HEADER)
                 table.writelines(row.text() for row in rows)
         _tell(cutting, rows)
+        if options.certify:
+            _tell_certified(rows, verdicts)
         if options.run:
             runs.print_rest()
             _tell_left_out(runs.whole)
@@ -231,6 +241,32 @@ def _tell(cutting: Cutting, rows: Sequence[Row]) -> None:
     for row in rows:
         if row.opening + row.lines + row.overlap + 1 > MOST_EVENTS:
             print(f"sundial-cut: {row.file} has more than {MOST_EVENTS} events, and a replay refuses it", file=sys.stderr)
+
+
+def _tell_certified(rows: Sequence[Row], verdicts: Sequence[str]) -> None:
+    right = sum(verdict.startswith("agree ") for verdict in verdicts)
+    print(f"sundial-cut: {right} of {len(verdicts)} cuts are certified", file=sys.stderr)
+    for row, verdict in zip(rows[1:], verdicts):
+        if not verdict.startswith("agree "):
+            print(f"sundial-cut: the cut before line {row.first_line} is not: {verdict}", file=sys.stderr)
+
+
+def certified(program: str, options: argparse.Namespace, directory: str, before: Row, row: Row) -> str:
+    """What `sundialctl resume` says of a part up to its cut, and of the opening of the next one."""
+    with contextlib.ExitStack() as stack:
+        names = []
+        for part, lines in (before, before.opening + before.lines), (row, row.opening):
+            text = stack.enter_context(tempfile.NamedTemporaryFile("w", encoding="ascii"))
+            whole = stack.enter_context(open(os.path.join(directory, part.file), encoding="ascii"))
+            text.writelines(itertools.islice(whole, lines))
+            text.flush()
+            names.append(text.name)
+        plans = [options.plan[it.first_plan - 1:] for it in (before, row)]
+        words = [program, "resume", options.topology, *plans[0], names[0], "/", *plans[1], names[1]]
+        done = subprocess.run(words, stdout=subprocess.PIPE, text=True, check=False)
+    if done.returncode not in (0, 3, 7):
+        raise ToolError(f"{program} resume ended with status {done.returncode}", row.file)
+    return done.stdout.strip()
 
 
 def replayed(program: str, options: argparse.Namespace, directory: str, row: Row) -> List[str]:
@@ -274,6 +310,7 @@ def _parser() -> argparse.ArgumentParser:
     parser.add_argument("--every", type=_count, metavar="N", help="cut at the first right place after N lines of a part")
     parser.add_argument("--at", type=_time, action="append", default=[], metavar="TIME", help="the first right cut from this reference on")
     parser.add_argument("--move", action="store_true", help="subtract a constant from the times of each part, so that they fit")
+    parser.add_argument("--certify", action="store_true", help="have sundialctl resume certify each cut: each is proved, or the first difference is named")
     parser.add_argument("--run", action="store_true", help="replay the parts side by side, and print the lines of the whole")
     parser.add_argument("--follow", "-f", action="store_true", help="with --run: print the lines of each part as soon as they are known")
     parser.add_argument("--jobs", "-j", type=_count, default=os.cpu_count() or 1, metavar="N", help="how many replays at once")

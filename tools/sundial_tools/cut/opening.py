@@ -135,7 +135,7 @@ def opening_of_marks(marks: Marks, now: Round, last: Optional[Round], kept: Sequ
     starts = {device: marks.of[device] for device in marks.fleet.up if device in marks.of}
     fixes = _restarted(marks, starts, last.firsts if last else {}, kept)
     _judge_spread(marks.fleet, starts)
-    since = [it for it in kept if it.event.message is None and _is_since(it, starts)]
+    since = _as_readings(marks.fleet, starts, (it for it in kept if _is_since(it, starts)))
     return _opening(marks, starts, since + fixes + now.fixes, now.messages, "marks")
 
 
@@ -153,10 +153,9 @@ def opening_of_round(marks: Marks, before: Round, last: Round, kept: Sequence[Ke
         if state.stamp != root.stamp and can_move(fleet, device):
             raise Refused("a device missed the round")
     _judge_spread(fleet, starts)
-    since = [
-        it for it in kept if (_is_since(it, starts) if it.event.message is None else it.event.message > last.messages)
-    ]
-    return _opening(marks, starts, since + fixes + last.fixes, last.messages, "round")
+    since = _as_readings(marks.fleet, starts, (it for it in kept if it.event.message is None and _is_since(it, starts)))
+    told = [it for it in kept if it.event.message is not None and it.event.message > last.messages]
+    return _opening(marks, starts, since + told + fixes + last.fixes, last.messages, "round")
 
 
 def _restarted(marks: Marks, starts: Dict[int, Mark], firsts: Dict[int, Mark], kept: Sequence[Kept]) -> List[Kept]:
@@ -183,6 +182,24 @@ def _judge_spread(fleet: Fleet, starts: Dict[int, Mark]) -> None:
 
 def _is_since(kept: Kept, starts: Dict[int, Mark]) -> bool:
     return kept.event.device in starts and kept.line > starts[kept.event.device].line
+
+
+def _as_readings(fleet: Fleet, starts: Dict[int, Mark], since: Iterable[Kept]) -> List[Kept]:
+    """Tells an ask, and a receipt that changed nothing, as a tick: so each device has its latest counter.
+
+    It is left out where a tick could do more: send a round, or move its device.
+    """
+    told = []
+    waits = min(fleet.plan.wait_first, fleet.plan.wait_second, fleet.plan.wait)
+    for it in since:
+        event = it.event
+        if event.word in ("ask", "recv") and event.device is not None:
+            passed = (event.counter or 0) - starts[event.device].counter
+            if passed >= (fleet.topology.period if event.device == fleet.plan.root else waits):
+                continue
+            it = Kept(it.line, Event("tick", event.ref, event.device, event.counter))
+        told.append(it)
+    return told
 
 
 def _opening(marks: Marks, starts: Dict[int, Mark], kept: List[Kept], messages: int, way: str) -> Opening:

@@ -1,12 +1,12 @@
-use Rattle.std.proofs.Common.{[], ◌∷◌, None, Some, ap, map, string_bytes, sym, ◌∙◌}
+use Rattle.std.proofs.Common.{[], ◌∷◌, ◌++◌, ◌≡◌, List, ℕ, None, Some, ap, map, string_bytes, sym, ◌∙◌}
 use Rattle.std.specs.Prelude.{IsTrue}
 use Rattle.sd_cmd_files.proofs.Keeping.{keeps_for}
 use Rattle.sd_ctl_top.specs.Parsed.{named}
 use Rattle.sd_ctl_top.specs.Words.{command_of, names_of}
-use Rattle.sd_ctl_top.specs.Words.Command.{Search, Renew, Bounds}
+use Rattle.sd_ctl_top.specs.Words.Command.{Search, Renew, Bounds, Resume}
 use Rattle.sd_ctl_top.specs.declared.words.Command.{Command as Parsed}
 use Rattle.sd_ctl_top.proofs.Meeting.{made_meets, usage_meets}
-use Rattle.sd_ctl_top.proofs.Served.{first_served, second_served, third_served}
+use Rattle.sd_ctl_top.proofs.Served.{first_served, last_served, middle_served, name_served, second_served, third_served}
 use Rattle.sd_ctl_top.proofs.top.perform.Goals as goal
 
 pub whole_answer-made-requires-clause-topology : goal.whole_answer-made-requires-clause-topology
@@ -77,6 +77,45 @@ returns-in-Some-Bounds-clause-outcome g c =
 pub returns-in-Some-Bounds-clause-shelf : goal.returns-in-Some-Bounds-clause-shelf
 returns-in-Some-Bounds-clause-shelf g c =
     keeps_for g.S.Shelf _ _ _ _ c.write_answer-in-Some-Bounds.ensures.shelf.1 c.write_answer-in-Some-Bounds.ensures.shelf.0 c.bounds_answer-made.ensures.shelf
+
+pub resume-made-requires-clause-topology : goal.resume-made-requires-clause-topology
+resume-made-requires-clause-topology g c =
+    first_served (λ name. IsTrue (g.S.Shelf.serves c.args.shelf.now name)) (names_of (command_of (map string_bytes c.args.words.now)))
+    c.in-Some-Resume.files.topology.now
+    (map string_bytes c.in-Some-Resume.files.plans.now ++ c.in-Some-Resume.files.schedule.now ∷ c.in-Some-Resume.files.opening.now ∷ [])
+    (ap names_of (ap (λ (x : Parsed). Some (named x)) (sym c.in-Some-Resume.field-0-is) ∙ c.in-Some-Resume.ensures.is)) c.requires
+
+pub resume-made-requires-clause-plans : goal.resume-made-requires-clause-plans
+resume-made-requires-clause-plans g c =
+    middle_served (λ name. IsTrue (g.S.Shelf.serves c.args.shelf.now name)) (names_of (command_of (map string_bytes c.args.words.now)))
+    c.in-Some-Resume.files.topology.now (map string_bytes c.in-Some-Resume.files.plans.now) c.in-Some-Resume.files.schedule.now
+    c.in-Some-Resume.files.opening.now
+    (ap names_of (ap (λ (x : Parsed). Some (named x)) (sym c.in-Some-Resume.field-0-is) ∙ c.in-Some-Resume.ensures.is)) c.requires
+
+pub resume-made-requires-clause-schedule : goal.resume-made-requires-clause-schedule
+resume-made-requires-clause-schedule g c =
+    name_served (λ name. IsTrue (g.S.Shelf.serves c.args.shelf.now name)) (names_of (command_of (map string_bytes c.args.words.now)))
+    c.in-Some-Resume.files.topology.now (map string_bytes c.in-Some-Resume.files.plans.now) c.in-Some-Resume.files.schedule.now
+    c.in-Some-Resume.files.opening.now
+    (ap names_of (ap (λ (x : Parsed). Some (named x)) (sym c.in-Some-Resume.field-0-is) ∙ c.in-Some-Resume.ensures.is)) c.requires
+
+pub resume-made-requires-clause-opening : goal.resume-made-requires-clause-opening
+resume-made-requires-clause-opening g c =
+    last_served (λ name. IsTrue (g.S.Shelf.serves c.args.shelf.now name)) (names_of (command_of (map string_bytes c.args.words.now)))
+    c.in-Some-Resume.files.topology.now (map string_bytes c.in-Some-Resume.files.plans.now) c.in-Some-Resume.files.schedule.now
+    c.in-Some-Resume.files.opening.now
+    (ap names_of (ap (λ (x : Parsed). Some (named x)) (sym c.in-Some-Resume.field-0-is) ∙ c.in-Some-Resume.ensures.is)) c.requires
+
+pub returns-in-Some-Resume-clause-outcome : goal.returns-in-Some-Resume-clause-outcome
+returns-in-Some-Resume-clause-outcome g c =
+    let files = c.in-Some-Resume.files in
+    made_meets _ _ (Some (Resume files.topology.now (map string_bytes files.plans.now) files.left files.schedule.now files.opening.now)) c.resume-made.result _ _ _
+    (ap (λ (x : Parsed). Some (named x)) (sym c.in-Some-Resume.field-0-is) ∙ c.in-Some-Resume.ensures.is) c.resume-made.ensures.makes
+    c.write_answer-in-Some-Resume.ensures.writes
+
+pub returns-in-Some-Resume-clause-shelf : goal.returns-in-Some-Resume-clause-shelf
+returns-in-Some-Resume-clause-shelf g c =
+    keeps_for g.S.Shelf _ _ _ _ c.write_answer-in-Some-Resume.ensures.shelf.1 c.write_answer-in-Some-Resume.ensures.shelf.0 c.resume-made.ensures.shelf
 
 pub returns-in-None-clause-outcome : goal.returns-in-None-clause-outcome
 returns-in-None-clause-outcome g c = usage_meets _ _ _ _ _ c.in-None.ensures.is c.usage.ensures.outcome

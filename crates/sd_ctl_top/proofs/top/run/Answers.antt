@@ -1,7 +1,8 @@
-use Rattle.std.proofs.Common.{map, refl, string_bytes}
+use Rattle.std.proofs.Common.{inl, map, refl, string_bytes}
 use Rattle.sd_cmd_files.specs.declared.Status.TheVariants.{ShelfFault, SinkFault}
 use Rattle.sd_cmd_files.specs.declared.command_error.IoError.TheVariants as stop
-use Rattle.sd_ctl_top.proofs.Meeting.{ended_is, ended_rises, stopped_is, stopped_rises}
+use Rattle.sd_ctl_top.specs.Words.{command_of}
+use Rattle.sd_ctl_top.proofs.Meeting.{ended_is, ended_rises, never_stopped, stopped_is, stopped_rises}
 use Rattle.sd_ctl_top.proofs.top.run.Goals as goal
 
 pub returns-in-Ok-clause-outcome : goal.returns-in-Ok-clause-outcome
@@ -17,6 +18,10 @@ returns-in-Ok-clause-shelf g c =
 pub returns-in-Ok-clause-sink : goal.returns-in-Ok-clause-sink
 returns-in-Ok-clause-sink g c =
     ended_rises (map string_bytes c.args.words.now) c.in-Ok.status SinkFault _ _ _ c.in-Ok.ensures.gives refl (c.in-Ok.ensures.sink.steady (λ e. cc))
+
+pub returns-in-Ok-clause-complete : goal.returns-in-Ok-clause-complete
+returns-in-Ok-clause-complete g c =
+    λ shelf sink. inl (never_stopped (command_of (map string_bytes c.args.words.now)) c.in-Ok.status c.in-Ok.ensures.gives)
 
 pub returns-in-Err-clause-shelf : goal.returns-in-Err-clause-shelf
 returns-in-Err-clause-shelf g c = stopped_rises c.in-Err.stop stop.Shelf c.status.result _ _ c.status.ensures c.in-Err.ensures.shelf.count

@@ -1,0 +1,8 @@
+use Rattle.std.proofs.Common.{ap, ◌∙◌}
+use Rattle.sd_fleet.specs.FleetState.world.Registers.{Registers}
+use Rattle.sd_ctl_resume.proofs.Takings.{counted}
+use Rattle.sd_ctl_resume.proofs.taking.count.Goals as goal
+
+pub returns-clause-count : goal.returns-clause-count
+returns-clause-count c =
+    λ setting events played. c.events.ensures ∙ ap (λ (w : Registers). w.events) c.world.ensures.world ∙ counted c.args.fleet.now setting events played

@@ -1,0 +1,68 @@
+-- What is printed of a comparison. As schedules do, it gives devices, links and messages their numbers.
+use Rattle.std.specs.Prelude.{ℕ, List, [], ◌∷◌, Option, None, Some, codes, decimal}
+use Rattle.sd_num.specs.Texts.{text_of}
+use Rattle.sd_topo.specs.declared.Thing.{Thing}
+use Rattle.sd_topo.specs.declared.Thing.TheVariants.{Device, Link}
+use Rattle.sd_resume.specs.declared.differences.Difference.{Difference}
+use Rattle.sd_resume.specs.declared.differences.Difference.TheVariants as difference
+use Rattle.sd_resume.specs.declared.differences.Register.{Register}
+use Rattle.sd_resume.specs.declared.differences.Register.TheVariants as register
+
+-- the opening stands for the schedule, and so many events they have
+abbrev pub agree_line : ℕ → ℕ → List ℕ
+agree_line one other = text_of (codes "agree" ∷ decimal one ∷ decimal other ∷ [])
+
+-- a register
+abbrev pub register_word : Register → List ℕ
+register_word register.Duty = codes "duty"
+register_word register.Given = codes "given"
+register_word register.Mode = codes "mode"
+register_word register.Sealed = codes "sealed"
+register_word register.Rates = codes "rates"
+register_word register.Stamp = codes "stamp"
+register_word register.Last = codes "last"
+register_word register.Sent = codes "sent"
+register_word register.Estimate = codes "estimate"
+
+-- what is failed
+abbrev pub thing_word : Thing → List ℕ
+thing_word (Device d) = codes "device"
+thing_word (Link l) = codes "link"
+
+-- in what they differ
+abbrev pub word_of : Difference → List ℕ
+word_of difference.Network = codes "network"
+word_of difference.Window = codes "window"
+word_of difference.Time = codes "time"
+word_of difference.Plan = codes "plan"
+word_of difference.End = codes "end"
+word_of difference.Messages = codes "messages"
+word_of difference.Sent = codes "opening-sends"
+word_of (difference.OnItsWay number) = codes "message"
+word_of (difference.Up d) = codes "up"
+word_of (difference.Failed thing) = thing_word thing
+word_of (difference.Reading d) = codes "counter"
+word_of (difference.Register d x) = register_word x
+
+-- the number of the device or the link
+abbrev pub thing_number : Thing → ℕ
+thing_number (Device d) = d
+thing_number (Link l) = l
+
+-- the number behind the word, if there is one
+abbrev pub number_of : Difference → Option ℕ
+number_of (difference.OnItsWay number) = Some number
+number_of (difference.Up d) = Some d
+number_of (difference.Failed thing) = Some (thing_number thing)
+number_of (difference.Reading d) = Some d
+number_of (difference.Register d x) = Some d
+number_of _ = None
+
+-- a word, and a number if there is one
+abbrev pub line_with : List ℕ → Option ℕ → List ℕ
+line_with word None = text_of (codes "differ" ∷ word ∷ [])
+line_with word (Some n) = text_of (codes "differ" ∷ word ∷ decimal n ∷ [])
+
+-- the line of a difference
+abbrev pub differ_line : Difference → List ℕ
+differ_line what = line_with (word_of what) (number_of what)

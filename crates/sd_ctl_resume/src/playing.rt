@@ -1,0 +1,80 @@
+//! A text that is played through a fleet, line by line.
+ghost use Rattle.std.specs.Prelude.{◌≡◌, [], Err, IsTrue, IfErr, IfSome, OnOk};
+ghost use Rattle.sd_outside.specs.Shelves.{KeepsShelf};
+ghost use Rattle.sd_fleet.specs.History.World.{Setting};
+ghost use Rattle.sd_cmd_files.specs.Texts.{texts_of};
+ghost use Rattle.sd_cmd_files.specs.Writes.{IsAllowed};
+ghost use Rattle.sd_cmd_files.specs.planfiles.Refusing.{Nothing};
+ghost use Rattle.sd_cmd_files.specs.planfiles.SetupError.{made_of};
+ghost use Rattle.sd_ctl_resume.specs.Parts.{AfterPart, part_work};
+ghost use Rattle.sd_ctl_resume.specs.Played.{HasPlayed, HasRead, IsInputRefused};
+
+use crate::taking::take_line;
+use sd_cmd_files::CommandError;
+use sd_cmd_files::planfiles::SetupError;
+use sd_core::Device;
+use sd_fleet::Fleet;
+use sd_outside::Shelf;
+use sd_stream::{Buffer, LineReader};
+use std::alloc::Global;
+
+/// A text: what it is called where it is refused, and the name of its file.
+#[derive(Clone, Copy)]
+pub(crate) struct Text<'w> {
+    pub word: &'w str,
+    pub name: &'w str,
+}
+
+/// Begins a text, and plays it through a fleet.
+pub(crate) fn play<S: Shelf>(
+    alloc: Global,
+    shelf: &mut S,
+    fleet: &mut Fleet<Device>,
+    text: Text<'_>,
+) -> Result<(), SetupError>
+    requires name { IsTrue (S.serves shelf.old text.name.now) }
+    ensures read { OnOk result ((setting : Setting) → HasPlayed fleet.old setting []
+        → IfSome (S.held shelf.old) (λ held.
+        HasRead text.entry.word.now setting (texts_of held text.entry.name.now) fleet.new)) }
+    ensures makes { IfErr result (λ early. (setting : Setting) → HasPlayed fleet.old setting []
+        → IfSome (S.held shelf.old) (λ held. IsAllowed
+        (AfterPart (part_work text.entry.word.now setting)
+        (texts_of held text.entry.name.now) Nothing) (made_of early))) }
+    ensures gives { IfErr result IsInputRefused }
+    ensures shelf { KeepsShelf S.Shelf (result ≡ Err (SetupError.Stopped CommandError.Shelf))
+        shelf.old shelf.new }
+{
+    match shelf.begin(text.name) {
+        Ok(()) => play_begun(alloc, shelf, fleet, text.word),
+        Err(_) => Err(SetupError::Stopped(CommandError::Shelf)),
+    }
+}
+
+/// Goes through the begun text of a shelf.
+fn play_begun<S: Shelf>(
+    alloc: Global,
+    shelf: &mut S,
+    fleet: &mut Fleet<Device>,
+    word: &str,
+) -> Result<(), SetupError>
+    requires begun { IsTrue (S.begun shelf.old) }
+    ensures read { OnOk result ((setting : Setting) → HasPlayed fleet.old setting []
+        → IfSome (S.rest shelf.old) (λ text. HasRead word.now setting text fleet.new)) }
+    ensures makes { IfErr result (λ early. (setting : Setting) → HasPlayed fleet.old setting []
+        → IfSome (S.rest shelf.old)
+        (λ text. IsAllowed (AfterPart (part_work word.now setting) text Nothing)
+        (made_of early))) }
+    ensures gives { IfErr result IsInputRefused }
+    ensures shelf { KeepsShelf S.Shelf (result ≡ Err (SetupError.Stopped CommandError.Shelf))
+        shelf.old shelf.new }
+{
+    let buffer = Buffer::new(alloc)?;
+    let mut reader = LineReader::over(shelf, buffer);
+    'lines: loop {
+        match take_line(alloc, &mut reader, fleet, word) {
+            Ok(true) => {}
+            Ok(false) => return Ok(()),
+            Err(early) => return Err(early),
+        }
+    }
+}
