@@ -38,9 +38,9 @@ use Rattle.sd_ctl_resume.specs.Parts.{AfterLines, AfterPart, part_work}
 use Rattle.sd_ctl_resume.specs.Played.{HasPlayed, HasRead, IsInputRefused}
 use Rattle.sd_ctl_resume.specs.Resumes.{AfterBoth}
 
--- the texts of a shelf, where they are told
-abbrev Held : Type 0
-Held = Option (List ℕ → Option (List ℕ))
+-- the texts of a shelf
+abbrev Told : Type 0
+Told = List ℕ → Option (List ℕ)
 
 -- Plans
 
@@ -77,14 +77,14 @@ early_plans net place front (text ∷ texts) Then bytes status written =
     )
     by (Err why) others tells = tells
 
-module _ (net : Network) (names : List (List ℕ)) (Then : (List ℕ → List ℕ) → List Plan → Allowed) (held : Held) (made : Result Answer CommandError) where
+module _ (net : Network) (names : List (List ℕ)) (Then : (List ℕ → List ℕ) → List Plan → Allowed) (held : Option Told) (made : Result Answer CommandError) where
   -- a plan that is refused
   pub told_unplanned : (early : SetupError) → made ≡ made_of early
       → IfSome held (λ h. IsAllowed (AfterAllPlans net (map (λ name. texts_of h name) names) Nothing) (made_of early))
       → IfSome held (λ h. IsAllowed (AfterAllPlans net (map (λ name. texts_of h name) names) (Then (texts_of h))) made)
   told_unplanned early is makes = by held makes
     where
-      by : (o : Held) → IfSome o (λ h. IsAllowed (AfterAllPlans net (map (λ name. texts_of h name) names) Nothing) (made_of early))
+      by : (o : Option Told) → IfSome o (λ h. IsAllowed (AfterAllPlans net (map (λ name. texts_of h name) names) Nothing) (made_of early))
           → IfSome o (λ h. IsAllowed (AfterAllPlans net (map (λ name. texts_of h name) names) (Then (texts_of h))) made)
       by None told = tt
       by (Some h) told =
@@ -94,13 +94,13 @@ module _ (net : Network) (names : List (List ℕ)) (Then : (List ℕ → List �
           (early_plans net 1 [] (map (λ name. texts_of h name) names) (Then (texts_of h))) told)
 
   -- plans that are all read and accepted
-  pub told_planned : (later : Held) (plans : List Plan) → later ≡ held → IfSome held (λ h. AreRead net 1 (map (λ name. texts_of h name) names) plans)
+  pub told_planned : (later : Option Told) (plans : List Plan) → later ≡ held → IfSome held (λ h. AreRead net 1 (map (λ name. texts_of h name) names) plans)
       → Each (IsAccepted net) plans → IfSome later (λ h. IsAllowed (Then (texts_of h) plans) made)
       → IfSome held (λ h. IsAllowed (AfterAllPlans net (map (λ name. texts_of h name) names) (Then (texts_of h))) made)
   told_planned later plans same read accepted makes =
-      by held read (subst (λ (o : Held). IfSome o (λ h. IsAllowed (Then (texts_of h) plans) made)) same makes)
+      by held read (subst (λ (o : Option Told). IfSome o (λ h. IsAllowed (Then (texts_of h) plans) made)) same makes)
     where
-      by : (o : Held) → IfSome o (λ h. AreRead net 1 (map (λ name. texts_of h name) names) plans) → IfSome o (λ h. IsAllowed (Then (texts_of h) plans) made)
+      by : (o : Option Told) → IfSome o (λ h. AreRead net 1 (map (λ name. texts_of h name) names) plans) → IfSome o (λ h. IsAllowed (Then (texts_of h) plans) made)
           → IfSome o (λ h. IsAllowed (AfterAllPlans net (map (λ name. texts_of h name) names) (Then (texts_of h))) made)
       by None are told = tt
       by (Some h) are told =
@@ -181,31 +181,31 @@ module _ (net : Network) (plans : List Plan) (left : ℕ) where
         (over_both one (reading first_work schedule).taken read.played) also.played)
 
   -- the same of texts that are told or not
-  module _ (schedule opening : List ℕ) (held : Held) (made : Result Answer CommandError) where
+  module _ (schedule opening : List ℕ) (held : Option Told) (made : Result Answer CommandError) where
     pub told_first_stopped : (early : SetupError) → made ≡ made_of early
         → IfSome held (λ h. IsAllowed (AfterPart first_work (texts_of h schedule) Nothing) (made_of early))
         → IfSome held (λ h. IsAllowed (AfterBoth net plans left (texts_of h schedule) (texts_of h opening)) made)
     told_first_stopped early is makes = by held makes
       where
-        by : (o : Held) → IfSome o (λ h. IsAllowed (AfterPart first_work (texts_of h schedule) Nothing) (made_of early))
+        by : (o : Option Told) → IfSome o (λ h. IsAllowed (AfterPart first_work (texts_of h schedule) Nothing) (made_of early))
             → IfSome o (λ h. IsAllowed (AfterBoth net plans left (texts_of h schedule) (texts_of h opening)) made)
         by None told = tt
         by (Some h) told = first_stopped (texts_of h schedule) (texts_of h opening) made early is told
 
-    pub told_second_stopped : (later : Held) (early : SetupError) (one : DeviceFleet) → later ≡ held → made ≡ made_of early
+    pub told_second_stopped : (later : Option Told) (early : SetupError) (one : DeviceFleet) → later ≡ held → made ≡ made_of early
         → IfSome held (λ h. HasRead (codes "schedule") (setting_over net plans) (texts_of h schedule) one)
         → IfSome later (λ h. IsAllowed (AfterPart second_work (texts_of h opening) Nothing) (made_of early))
         → IfSome held (λ h. IsAllowed (AfterBoth net plans left (texts_of h schedule) (texts_of h opening)) made)
     told_second_stopped later early one same is read makes =
-        by held read (subst (λ (o : Held). IfSome o (λ h. IsAllowed (AfterPart second_work (texts_of h opening) Nothing) (made_of early))) same makes)
+        by held read (subst (λ (o : Option Told). IfSome o (λ h. IsAllowed (AfterPart second_work (texts_of h opening) Nothing) (made_of early))) same makes)
       where
-        by : (o : Held) → IfSome o (λ h. HasRead (codes "schedule") (setting_over net plans) (texts_of h schedule) one)
+        by : (o : Option Told) → IfSome o (λ h. HasRead (codes "schedule") (setting_over net plans) (texts_of h schedule) one)
             → IfSome o (λ h. IsAllowed (AfterPart second_work (texts_of h opening) Nothing) (made_of early))
             → IfSome o (λ h. IsAllowed (AfterBoth net plans left (texts_of h schedule) (texts_of h opening)) made)
         by None was told = tt
         by (Some h) was told = second_stopped (texts_of h schedule) (texts_of h opening) made early one is was told
 
-    pub told_both : (later : Held) (one other : DeviceFleet) → later ≡ held
+    pub told_both : (later : Option Told) (one other : DeviceFleet) → later ≡ held
         → IfSome held (λ h. HasRead (codes "schedule") (setting_over net plans) (texts_of h schedule) one)
         → IfSome later (λ h. HasRead (codes "opening") (setting_over net (drop left plans)) (texts_of h opening) other)
         → ((events others : List Event) → HasPlayed one (whole net (take left plans) (drop left plans)) events
@@ -214,9 +214,9 @@ module _ (net : Network) (plans : List Plan) (left : ℕ) where
         → IfSome held (λ h. IsAllowed (AfterBoth net plans left (texts_of h schedule) (texts_of h opening)) made)
     told_both later one other same read also compares =
         by held read
-        (subst (λ (o : Held). IfSome o (λ h. HasRead (codes "opening") (setting_over net (drop left plans)) (texts_of h opening) other)) same also)
+        (subst (λ (o : Option Told). IfSome o (λ h. HasRead (codes "opening") (setting_over net (drop left plans)) (texts_of h opening) other)) same also)
       where
-        by : (o : Held) → IfSome o (λ h. HasRead (codes "schedule") (setting_over net plans) (texts_of h schedule) one)
+        by : (o : Option Told) → IfSome o (λ h. HasRead (codes "schedule") (setting_over net plans) (texts_of h schedule) one)
             → IfSome o (λ h. HasRead (codes "opening") (setting_over net (drop left plans)) (texts_of h opening) other)
             → IfSome o (λ h. IsAllowed (AfterBoth net plans left (texts_of h schedule) (texts_of h opening)) made)
         by None was is = tt
