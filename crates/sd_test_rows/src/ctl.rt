@@ -60,8 +60,12 @@ fn other_words_are_usage(rt: HostRuntime) -> Result<(), Fail> {
         &["resume", "topology", "plan", "schedule", "opening"],
         &["resume", "topology", "schedule", "/", "opening"],
         &["resume", "topology", "plan", "schedule", "/", "opening"],
-        &["resume", "topology", "plan", "schedule", "/", "other", "opening"],
-        &["resume", "topology", "plan", "schedule", "/", "plan", "plan", "opening"],
+        &[
+            "resume", "topology", "plan", "schedule", "/", "other", "opening",
+        ],
+        &[
+            "resume", "topology", "plan", "schedule", "/", "plan", "plan", "opening",
+        ],
     ];
     let texts = [("topology", FABRIC.as_bytes())];
     for words in cases {

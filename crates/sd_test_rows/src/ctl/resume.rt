@@ -116,7 +116,10 @@ fn a_refused_line_is_named(rt: HostRuntime) -> Result<(), Fail> {
     ];
     let line = "input opening 1 NoEnd\n";
     assert_writes(&rt, &WORDS, &texts, (line, Status::InputRefused))?;
-    let texts = [("topology", TRIANGLE.as_bytes()), ("plan", b"no plan".as_slice())];
+    let texts = [
+        ("topology", TRIANGLE.as_bytes()),
+        ("plan", b"no plan".as_slice()),
+    ];
     let line = "input plan 1 NotJson\n";
     assert_writes(&rt, &WORDS, &texts, (line, Status::InputRefused))
 }
