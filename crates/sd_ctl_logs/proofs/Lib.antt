@@ -1,0 +1,4 @@
+mod Rows
+pub mod Ends
+pub mod Joining
+pub mod Laws

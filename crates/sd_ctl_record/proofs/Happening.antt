@@ -1,0 +1,70 @@
+-- An event happens to a recorder, or is refused.
+use Rattle.std.specs.Prelude.{◌≡◌, true, false, List, ◌∷◌, ◌++◌, Option, Some, None}
+use Rattle.std.proofs.Common.{append_assoc, sym, ◌∙◌, ap, subst, inl, inr}
+use Rattle.sd_msg.specs.Books.{AreNumbered}
+use Rattle.sd_core.specs.contracts.device.DeviceNode.TheImpl.{ghosts as device}
+use Rattle.sd_core.specs.declared.registers.Registers.{Registers}
+use Rattle.sd_sched.specs.declared.Event.{Event}
+use Rattle.sd_fleet.specs.History.World.{Setting}
+use Rattle.sd_fleet.specs.History.Steps.{Step, events_of, flight_count}
+use Rattle.sd_fleet.specs.History.Open.{unspent}
+use Rattle.sd_fleet.specs.History.Chronicle.{chronicle}
+use Rattle.sd_fleet.specs.History.Nodes.{IsRun, NodeStep, steps_of}
+use Rattle.sd_fleet.specs.History.Refusals.{refusal}
+use Rattle.sd_fleet.specs.History.declared.ApplyFault.{ApplyFault}
+use Rattle.sd_fleet.proofs.History.Accepting.{run_is_accepted}
+use Rattle.sd_fleet.specs.Standing as fleets
+use Rattle.sd_fleet.specs.declared.Outcome.{Outcome}
+use Rattle.sd_fleet.specs.declared.fleet.Fleet.{Fleet}
+use Rattle.sd_ctl_record.specs.Printed.{line_bytes, schedule_text}
+use Rattle.sd_ctl_record.specs.Recorded.{add, add_unless, is_refusal}
+use Rattle.sd_ctl_record.specs.Standing.{Came, HoldsSince}
+use Rattle.sd_ctl_record.specs.declared.recorder.Recorder.{Recorder}
+use Rattle.sd_ctl_record.proofs.Standing.{passed_after, steps_are}
+
+-- an event that happened to the fleet, once there was room, is one more
+pub happened : (old new : Recorder) (ready : Fleet Registers device) (e : Event) (outcome : Outcome)
+    → ((setting : Setting) (run : List (NodeStep Registers)) → fleets.StandsFor device old.fleet setting run → fleets.StandsFor device ready setting run)
+    → fleets.HasHappened device ready new.fleet e outcome → new.passed ≡ old.passed → new.text.items ≡ old.text.items ++ line_bytes e
+    → (setting : Setting) (start events : List Event) → HoldsSince old setting start events
+    → Came new setting start (add setting e events) None
+happened old new ready e outcome prepared happens same printed setting start events h =
+    let run = h.stands.run in
+    let it = happens.accepted setting run (prepared setting run h.stands.fleet) in
+    let is : IsRun device setting (it.next ∷ run) = it.stands.is_run in
+    let steps : steps_of run ≡ chronicle setting events = steps_are old setting events h.stands in
+    let free : refusal setting (chronicle setting events) e ≡ None =
+    ap (λ (s : List Step). refusal setting s e) (sym steps) ∙ ap (refusal setting (steps_of run)) (sym it.happens) ∙ is.1 in
+    let passed : AreNumbered old.passed (flight_count (it.next.step ∷ steps_of run)) (unspent (it.next.step ∷ steps_of run) 0) =
+    passed_after setting it.next.step (steps_of run) old.passed (run_is_accepted device setting (it.next ∷ run) is) h.stands.passed in (
+      e ∷ events,
+      ap (λ (o : Option ApplyFault). add_unless o e events) free,
+      record {
+        stands =
+            record {
+              net = h.stands.net;
+              run = it.next ∷ run;
+              fleet = it.stands;
+              happened = ap (λ (x : Event). x ∷ events_of (steps_of run)) it.happens ∙ ap (λ (es : List Event). e ∷ es) h.stands.happened;
+              passed = subst (λ n. AreNumbered n (flight_count (it.next.step ∷ steps_of run)) (unspent (it.next.step ∷ steps_of run) 0)) (sym same) passed;
+            };
+        text =
+            ap (λ t. t ++ line_bytes e) h.text ∙ append_assoc (schedule_text start) old.text.items (line_bytes e)
+            ∙ ap (λ t. schedule_text start ++ t) (sym printed);
+      },
+    )
+
+-- one that the fleet refused is told
+pub refused : (old : Recorder) (e : Event) (why : ApplyFault)
+    → ((setting : Setting) (run : List (NodeStep Registers)) → fleets.StandsFor device old.fleet setting run → fleets.IsFault why setting (steps_of run) e)
+    → is_refusal why ≡ true
+    → (new : Recorder) (setting : Setting) (start events : List Event) → HoldsSince old setting start events
+    → Came new setting start (add setting e events) (Some why)
+refused old e why told other new setting start events h =
+    let run = h.stands.run in
+    let fault : refusal setting (steps_of run) e ≡ Some why = elim (told setting run h.stands.fleet) [ inl it ↦ it | inr memory ↦ absurd (never (sym (ap is_refusal memory.0) ∙ other)) ] in
+    ap (λ (o : Option ApplyFault). add_unless o e events)
+    (ap (λ (s : List Step). refusal setting s e) (sym (steps_are old setting events h.stands)) ∙ fault)
+  where
+    never : false ≡ true → ⊥
+    never same = cc

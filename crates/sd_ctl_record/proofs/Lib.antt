@@ -1,0 +1,9 @@
+pub mod Looking
+pub mod Standing
+pub mod Found
+pub mod Happening
+pub mod Losing
+pub mod Laws
+pub mod Entering
+pub mod Taking
+pub mod Working

@@ -1,0 +1,66 @@
+-- Messages that are lost, one after the other.
+use Rattle.std.specs.Prelude.{◌≡◌, ℕ, suc, List, Option, Some, None, Err, refl}
+use Rattle.std.proofs.Common.{sym, ◌∙◌, ap, subst}
+use Rattle.sd_sched.specs.declared.Event.{Event}
+use Rattle.sd_sched.specs.declared.Event.TheVariants.{Lose}
+use Rattle.sd_fleet.specs.History.World.{Setting}
+use Rattle.sd_fleet.specs.History.Chronicle.{chronicle}
+use Rattle.sd_fleet.specs.History.declared.ApplyFault.{ApplyFault}
+use Rattle.sd_ctl_record.specs.Losing.{next_lost}
+use Rattle.sd_ctl_record.specs.Recorded.{Events, add, go_on, lose_next, lose_up_to}
+use Rattle.sd_ctl_record.specs.Standing.{Came, HoldsSince}
+use Rattle.sd_ctl_record.specs.declared.finding.Ending.{Ending}
+use Rattle.sd_ctl_record.specs.declared.recorder.Recorder.{Recorder}
+
+-- so many losses more make it what is meant
+pub record StillTo (r : Recorder) (setting : Setting) (start : List Event) (reference n : ℕ) (meant : Events) : Type 0 where
+  pub events : List Event
+  pub holds : HoldsSince r setting start events
+  pub rest : lose_up_to setting reference n events ≡ meant
+
+pub begins : (r : Recorder) (setting : Setting) (start : List Event) (reference n : ℕ) (events : List Event) → HoldsSince r setting start events
+    → StillTo r setting start reference n (lose_up_to setting reference n events)
+begins r setting start reference n events h = record { events = events; holds = h; rest = refl }
+
+-- with the count in another form
+pub counted : (r : Recorder) (setting : Setting) (start : List Event) (reference m n : ℕ) (meant : Events) → m ≡ n
+    → StillTo r setting start reference m meant
+    → StillTo r setting start reference n meant
+counted r setting start reference m n meant same still = subst (λ (k : ℕ). StillTo r setting start reference k meant) same still
+
+module _ (old new : Recorder) (setting : Setting) (start : List Event) (reference n : ℕ) (meant : Events)
+    (still : StillTo old setting start reference (suc n) meant) where
+  -- the loss that comes next decides
+  next_is : (o : Option Ending) → next_lost reference (chronicle setting still.events) ≡ o
+      → lose_next setting o (lose_up_to setting reference n) still.events ≡ meant
+  unfolding lose_up_to
+  next_is o is = ap (λ (p : Option Ending). lose_next setting p (lose_up_to setting reference n) still.events) (sym is) ∙ still.rest
+
+  -- one message is lost
+  pub one_more : (ending : Ending) → next_lost reference (chronicle setting still.events) ≡ Some ending
+      → Came new setting start (add setting (Lose ending.last ending.number) still.events) None
+      → StillTo new setting start reference n meant
+  one_more ending is lost =
+      let (events, came, holds) = lost in
+      record {
+        events = events;
+        holds = holds;
+        rest = sym (ap (λ (r : Events). go_on r (lose_up_to setting reference n)) came) ∙ next_is (Some ending) is;
+      }
+
+  -- its loss is refused
+  pub refused_loss : (ending : Ending) (why : ApplyFault) → next_lost reference (chronicle setting still.events) ≡ Some ending
+      → Came new setting start (add setting (Lose ending.last ending.number) still.events) (Some why)
+      → meant ≡ Err why
+  refused_loss ending why is came =
+      sym (next_is (Some ending) is) ∙ ap (λ (r : Events). go_on r (lose_up_to setting reference n)) came
+
+  -- none is lost any more
+  pub no_more : next_lost reference (chronicle setting still.events) ≡ None → Came old setting start meant None
+  no_more is = (still.events, sym (next_is None is), still.holds)
+
+-- as many were lost as may be
+pub all_lost : (r : Recorder) (setting : Setting) (start : List Event) (reference : ℕ) (meant : Events) → StillTo r setting start reference 0 meant
+    → Came r setting start meant None
+unfolding lose_up_to
+all_lost r setting start reference meant still = (still.events, sym still.rest, still.holds)

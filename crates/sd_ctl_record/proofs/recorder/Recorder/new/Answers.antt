@@ -1,0 +1,14 @@
+use Rattle.std.proofs.Common.{arith, refl, sym, subst, []}
+use Rattle.sd_topo.specs.Limits.{IsNetwork}
+use Rattle.sd_ctl_record.proofs.recorder.Recorder.new.Goals as goal
+
+pub returns : goal.returns
+returns c =
+    λ setting net plans.
+    record {
+      net = subst IsNetwork (sym net) c.args.topo.now.is_network;
+      run = [];
+      fleet = c.in_ok-fleet.ensures.stands setting net plans;
+      happened = refl;
+      passed = omega arith;
+    }

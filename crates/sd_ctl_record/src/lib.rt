@@ -1,0 +1,22 @@
+//! A schedule is recorded from the entries of logs, in the order of their references.
+//!
+//! A fleet is driven, so that a recorder knows the number of each message that an entry names, and
+//! which messages are lost: those that no entry has received by the last moment at which they can
+//! be. A line `lose` at that moment is printed for each, before the entry that shows that it is
+//! past.
+#![tactic(auto)]
+
+mod finding;
+mod log;
+mod reasons;
+mod recorder;
+mod recording;
+mod whole;
+mod work;
+
+pub use log::record_log;
+pub use recorder::Recorder;
+pub use sd_cmd_files::{IoError, Status};
+pub use sd_fleet::ApplyFault;
+pub use whole::Refused;
+pub use work::{History, Recording};

@@ -1,0 +1,60 @@
+//! Why a line of a log is refused, as it is printed.
+ghost use Rattle.std.specs.Prelude.{◌≡◌, ◌≤◌, length};
+ghost use Rattle.sd_outside.specs.Printed.{printed};
+ghost use Rattle.sd_ctl_record.specs.Reasons.{apply_name, line_reason};
+
+use crate::ApplyFault;
+use sd_outside::LineBuffer;
+use sd_sched::LineFault;
+
+/// Prints why bytes are no line of a log, in at most 64 bytes.
+pub(crate) fn print_line_fault(out: &mut LineBuffer, fault: LineFault)
+    ensures text { printed out.new ≡ line_reason fault }
+    ensures short { length (printed out.new) ≤ 64 }
+{
+    out.clear();
+    match fault {
+        LineFault::UnknownWord => out.push(b"UnknownWord"),
+        LineFault::FieldCount => out.push(b"FieldCount"),
+        LineFault::Number(field) => {
+            out.push(b"Number ");
+            out.push_number(u128::from(field));
+        }
+    }
+}
+
+/// The name of a refusal of the fleet.
+fn name_of(fault: ApplyFault) -> &'static [u8]
+    ensures name { result.now ≡ apply_name fault }
+    ensures short { length result.now ≤ 64 }
+{
+    match fault {
+        ApplyFault::UnknownDevice => b"UnknownDevice",
+        ApplyFault::UnknownLink => b"UnknownLink",
+        ApplyFault::DeadDevice => b"DeadDevice",
+        ApplyFault::DeadLink => b"DeadLink",
+        ApplyFault::UnknownMessage => b"UnknownMessage",
+        ApplyFault::SpentMessage => b"SpentMessage",
+        ApplyFault::WrongDevice => b"WrongDevice",
+        ApplyFault::TimeFalls => b"TimeFalls",
+        ApplyFault::CounterFalls => b"CounterFalls",
+        ApplyFault::NotStarted => b"NotStarted",
+        ApplyFault::StartedTwice => b"StartedTwice",
+        ApplyFault::NoPlanLeft => b"NoPlanLeft",
+        ApplyFault::WindowOrder => b"WindowOrder",
+        ApplyFault::AfterEnd => b"AfterEnd",
+        ApplyFault::NotFailed => b"NotFailed",
+        ApplyFault::NotMember => b"NotMember",
+        ApplyFault::TooManyEvents => b"TooManyEvents",
+        ApplyFault::Memory => b"Memory",
+    }
+}
+
+/// Prints why the fleet refuses an event, in at most 64 bytes.
+pub(crate) fn print_apply_fault(out: &mut LineBuffer, fault: ApplyFault)
+    ensures text { printed out.new ≡ apply_name fault }
+    ensures short { length (printed out.new) ≤ 64 }
+{
+    out.clear();
+    out.push(name_of(fault));
+}
