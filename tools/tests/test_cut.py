@@ -4,7 +4,7 @@ import os
 import unittest
 from unittest import mock
 
-from support import PROGRAM, TOOLS, directory, needs_sundial, run, sundial
+from support import EXAMPLES, PROGRAM, SEARCH, TOOLS, directory, needs_sundial, run, sundial
 
 import histories
 from histories import PLANS, TRIANGLE, History
@@ -157,6 +157,27 @@ class Words(unittest.TestCase):
                 tool.feed(line)
             status, rest = tool.end()
         self.assertEqual((status, [first, *rest.splitlines()]), (0, whole))
+
+    @unittest.skipUnless(SEARCH.is_file(), "the program sundialctl is not built (SUNDIALCTL names it)")
+    def test_cuts_are_certified(self):
+        with directory() as path, mock.patch.dict(os.environ, {"SUNDIALCTL": str(SEARCH.resolve())}):
+            for number in range(4):
+                (path / "schedule").write_text("".join(History(number, rounds=60).lines))
+                words = [TRIANGLE, *PLANS, path / "schedule", "--every", "40", "--certify"]
+                status, out, err = run("sundial-cut", main, words)
+                self.assertEqual((status, out), (0, ""))
+                self.assertRegex(err, r"sundial-cut: (\d) of \1 cuts are certified\n")
+            triangle = EXAMPLES / "triangle"
+            words = [triangle / name for name in ("topology.toml", "plan.json", "plan-2.json", "schedule.txt")]
+            err = run("sundial-cut", main, [*words, "--every", "10", "--certify"])[2]
+            self.assertIn("0 of 1 cuts are certified\nsundial-cut: the cut before line 104 is not: differ device 0\n", err)
+
+    def test_certify_needs_the_program_and_the_times(self):
+        err = run("sundial-cut", main, [TRIANGLE, *PLANS, "schedule", "--certify"])[2]
+        self.assertIn("--certify needs sundialctl", err)
+        with mock.patch.dict(os.environ, {"SUNDIALCTL": "sundialctl"}):
+            err = run("sundial-cut", main, [TRIANGLE, *PLANS, "schedule", "--certify", "--move"])[2]
+        self.assertIn("--certify compares times", err)
 
     def test_run_needs_the_program(self):
         err = run("sundial-cut", main, [TRIANGLE, *PLANS, "schedule", "--run"])[2]

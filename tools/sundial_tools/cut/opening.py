@@ -6,7 +6,7 @@ from math import gcd
 from typing import Dict, Iterable, List, NamedTuple, Optional, Sequence, Tuple
 
 from sundial_tools.cut.marks import Mark, Marks, Thing
-from sundial_tools.fleet.device import ACTING, MILLION, PRIMARY
+from sundial_tools.fleet.device import ACTING, MILLION, PRIMARY, Device
 from sundial_tools.fleet.fleet import Fleet
 from sundial_tools.schedule import Event
 
@@ -107,12 +107,20 @@ def exact_fix(marks: Marks, device: int, mark: Mark, readings: Iterable[Kept]) -
 
     The estimate is older than the start. The fix stands at a counter at which `ppm` parts of the time since the
     estimate are whole picoseconds: the growth up to it and the growth since it then add up. It has to be between two
-    `readings` of the device, and is given a reference on the line between them.
+    `readings` of the device, and is given a reference on the line between them. Whole microseconds come first, since
+    `sundialctl resume` advances estimates by these.
     """
     if marks.set_lines.get(device, 0) > mark.line:
         return None
-    state = marks.fleet.devices[device]
-    step = MILLION // gcd(state.ppm, MILLION)
+    state, told = marks.fleet.devices[device], list(readings)
+    for step in (MILLION, MILLION // gcd(state.ppm, MILLION)):
+        fix = _fix_by(state, device, mark, told, step)
+        if fix:
+            return fix
+    raise Refused("no counter gives a device's estimate")
+
+
+def _fix_by(state: Device, device: int, mark: Mark, readings: Sequence[Kept], step: int) -> Optional[Kept]:
     first = mark.counter + (state.counter - mark.counter) % step
     line, before_ref, before_counter = float(mark.line), mark.ref, mark.counter
     for after in readings:
@@ -127,7 +135,7 @@ def exact_fix(marks: Marks, device: int, mark: Mark, readings: Iterable[Kept]) -
             if before_ref <= held <= after_ref:
                 return Kept(line + 0.5, Event("fix", held, device, counter, clock, eps))
         line, before_ref, before_counter = after.line, after_ref, after_counter
-    raise Refused("no counter gives a device's estimate")
+    return None
 
 
 def opening_of_marks(marks: Marks, now: Round, last: Optional[Round], kept: Sequence[Kept]) -> Opening:
