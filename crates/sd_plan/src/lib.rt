@@ -14,7 +14,7 @@ pub use flags::present;
 pub use hops::{backup_of, primary_of};
 pub use index::{Span, WalkIndex};
 pub use indexed::IndexedPlan;
-pub use lists::{DeviceList, RowList, ThingList, empty_lists};
+pub use lists::{DeviceList, List, RowList, ThingList, empty_lists};
 pub use paths::{epath, path};
 use sd_num::{Bounds, Rates};
 pub use structure::{Rule, structure_breach};

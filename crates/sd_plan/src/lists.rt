@@ -7,39 +7,39 @@ use sd_topo::Thing;
 use std::alloc::Global;
 use std::marker::Model;
 
-/// A list of device or link numbers.
+/// A list of items of one type.
 #[derive(Drop)]
-pub struct DeviceList {
-    items: Vec<u32>,
+pub struct List<T> {
+    items: Vec<T>,
 }
 
-impl Model for DeviceList {
-    ghost use Rattle.std.specs.Prelude.{ℕ, List};
+impl<T> Model for List<T> {
+    ghost use Rattle.std.specs.Prelude.{List};
 
-    ghost Value = { List ℕ };
+    ghost Value = { List T };
 
     ghost view = { λ l. l.items.items };
 }
 
-impl DeviceList {
+impl<T: Drop> List<T> {
     /// The empty list.
-    pub fn new(alloc: Global) -> DeviceList
+    pub fn new(alloc: Global) -> List<T>
         ensures { result ≡ [] }
     {
-        DeviceList {
+        List {
             items: Vec::new(alloc),
         }
     }
 
-    /// The list of some numbers.
-    pub fn from_vec(items: Vec<u32>) -> DeviceList
+    /// The list of some items.
+    pub fn from_vec(items: Vec<T>) -> List<T>
         ensures { result ≡ items.items }
     {
-        DeviceList { items }
+        List { items }
     }
 
-    /// Adds a number at the end.
-    pub fn push(&mut self, _alloc: Global, item: u32) -> Result<(), NoMemory>
+    /// Adds an item at the end.
+    pub fn push(&mut self, _alloc: Global, item: T) -> Result<(), NoMemory>
         ensures added { OnOk result (self.new ≡ self.old ++ (item ∷ [])) }
         ensures same { OnErr result (self.new ≡ self.old) }
     {
@@ -49,139 +49,39 @@ impl DeviceList {
         }
     }
 
-    /// The numbers in their order.
-    pub fn as_slice(&self) -> &[u32]
+    /// The items in their order.
+    pub fn as_slice(&self) -> &[T]
         ensures { result.now ≡ self.now }
     {
         self.items.as_slice()
     }
 
-    /// The numbers in their order, without memory.
-    pub fn into_vec(self) -> Vec<u32>
+    /// The items in their order, without memory.
+    pub fn into_vec(self) -> Vec<T>
         ensures { result.items ≡ self }
     {
         self.items
     }
 }
 
+/// A list of device or link numbers.
+pub type DeviceList = List<u32>;
+
+/// Perhaps a row for each device.
+pub type RowList = List<Option<PlanRow>>;
+
+/// Devices and links one after another, as those of a path.
+pub type ThingList = List<Thing>;
+
 /// So many empty lists.
-pub fn empty_lists(alloc: Global, count: u32) -> Result<Vec<DeviceList>, NoMemory>
+pub fn empty_lists<T: Drop>(alloc: Global, count: u32) -> Result<Vec<List<T>>, NoMemory>
     ensures { IfOk result (λ lists. lists.items ≡ replicate count []) }
 {
     let mut lists = Vec::new(alloc);
     for _ in 0..count {
-        let Ok(()) = lists.push(DeviceList::new(alloc)) else {
+        let Ok(()) = lists.push(List::new(alloc)) else {
             return Err(NoMemory);
         };
     }
     Ok(lists)
-}
-
-/// Perhaps a row for each device.
-#[derive(Drop)]
-pub struct RowList {
-    items: Vec<Option<PlanRow>>,
-}
-
-impl Model for RowList {
-    ghost use Rattle.std.specs.Prelude.{List, Option};
-    ghost use Rattle.sd_plan.specs.declared.PlanRow.{PlanRow};
-
-    ghost Value = { List (Option PlanRow) };
-
-    ghost view = { λ l. l.items.items };
-}
-
-impl RowList {
-    /// The empty list.
-    pub fn new(alloc: Global) -> RowList
-        ensures { result ≡ [] }
-    {
-        RowList {
-            items: Vec::new(alloc),
-        }
-    }
-
-    /// The list of some rows.
-    pub fn from_vec(items: Vec<Option<PlanRow>>) -> RowList
-        ensures { result ≡ items.items }
-    {
-        RowList { items }
-    }
-
-    /// Adds a row, or that there is none, at the end.
-    pub fn push(&mut self, _alloc: Global, item: Option<PlanRow>) -> Result<(), NoMemory>
-        ensures added { OnOk result (self.new ≡ self.old ++ (item ∷ [])) }
-        ensures same { OnErr result (self.new ≡ self.old) }
-    {
-        match self.items.push(item) {
-            Ok(()) => Ok(()),
-            Err(_) => Err(NoMemory),
-        }
-    }
-
-    /// The rows in the order of their devices.
-    pub fn as_slice(&self) -> &[Option<PlanRow>]
-        ensures { result.now ≡ self.now }
-    {
-        self.items.as_slice()
-    }
-
-    /// The rows in their order, without memory.
-    pub fn into_vec(self) -> Vec<Option<PlanRow>>
-        ensures { result.items ≡ self }
-    {
-        self.items
-    }
-}
-
-/// Devices and links one after another, as those of a path.
-#[derive(Drop)]
-pub struct ThingList {
-    items: Vec<Thing>,
-}
-
-impl Model for ThingList {
-    ghost use Rattle.std.specs.Prelude.{List};
-    ghost use Rattle.sd_topo.specs.declared.Thing.{Thing};
-
-    ghost Value = { List Thing };
-
-    ghost view = { λ l. l.items.items };
-}
-
-impl ThingList {
-    /// The empty list.
-    pub fn new(alloc: Global) -> ThingList
-        ensures { result ≡ [] }
-    {
-        ThingList {
-            items: Vec::new(alloc),
-        }
-    }
-
-    /// Adds a thing at the end.
-    pub fn push(&mut self, _alloc: Global, item: Thing) -> Result<(), NoMemory>
-        ensures added { OnOk result (self.new ≡ self.old ++ (item ∷ [])) }
-        ensures same { OnErr result (self.new ≡ self.old) }
-    {
-        match self.items.push(item) {
-            Ok(()) => Ok(()),
-            Err(_) => Err(NoMemory),
-        }
-    }
-
-    /// The things in their order.
-    pub fn as_slice(&self) -> &[Thing]
-        ensures { result.now ≡ self.now }
-    {
-        self.items.as_slice()
-    }
-
-    /// The things in their order, without memory.
-    pub fn into_vec(self) -> Vec<Thing>
-        ensures { result.items ≡ self }
-    {
-        self.items
-    }
 }

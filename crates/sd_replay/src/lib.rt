@@ -12,16 +12,18 @@ mod faults;
 mod judging;
 pub mod lines;
 mod monitors;
-mod plans;
 mod replay;
 mod sights;
 mod trouble;
 
 pub use faults::ReplayFault;
-pub use plans::PlanList;
 pub use replay::Replay;
 pub use sd_fleet::ApplyFault;
+use sd_plan::{List, Plan};
 pub use sd_sched::{Event, LineFault};
+
+/// A list of plans, the first in force at first.
+pub type PlanList = List<Plan>;
 
 /// How much happened in a history, and how much of it was a breach of a premise or an alarm.
 #[derive(Clone, Copy, Debug, PartialEq, Eq)]

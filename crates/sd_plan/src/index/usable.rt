@@ -10,14 +10,15 @@ ghost use Rattle.sd_plan.specs.Usable.{usable_before, usable_below};
 
 use crate::flags::present;
 use crate::table::duties::is_member;
-use crate::table::ends::{EndList, no_ends};
-use crate::{End, Plan};
+use crate::table::ends::EndList;
+use crate::{End, Plan, empty_lists};
 use sd_num::NoMemory;
 use sd_topo::Topology;
 use std::alloc::Global;
 
 /// Adds one end of a link to the usable ends of the other, if it is a member.
 fn add_usable(
+    alloc: Global,
     rows: &mut [EndList],
     topo: &Topology,
     plan: &Plan,
@@ -33,16 +34,20 @@ fn add_usable(
         ≡ slice_index_or rows.old d [] ++ usable_below plan.now link at other d) }
 {
     if is_member(topo, plan, other) {
-        rows[at as usize].push(End {
-            link,
-            device: other,
-        })?;
+        rows[at as usize].push(
+            alloc,
+            End {
+                link,
+                device: other,
+            },
+        )?;
     }
     Ok(())
 }
 
 /// Adds what a link makes usable to its two ends.
 fn add_link(
+    alloc: Global,
     rows: &mut [EndList],
     topo: &Topology,
     plan: &Plan,
@@ -62,8 +67,8 @@ fn add_link(
         return Ok(());
     }
     let link = topo.link(l);
-    add_usable(rows, topo, plan, l, link.end_a, link.end_b)?;
-    add_usable(rows, topo, plan, l, link.end_b, link.end_a)
+    add_usable(alloc, rows, topo, plan, l, link.end_a, link.end_b)?;
+    add_usable(alloc, rows, topo, plan, l, link.end_b, link.end_a)
 }
 
 /// The usable links of each device, ascending, with their other ends.
@@ -79,9 +84,9 @@ pub(super) fn usable_ends(
         (device_numbers (network topo.now))) }
 {
     let links = present(alloc, topo.links(), plan.absent.links.as_slice())?;
-    let mut rows = no_ends(alloc, topo.devices())?;
+    let mut rows = empty_lists(alloc, topo.devices())?;
     for l in 0..topo.links() {
-        add_link(&mut rows, topo, plan, l, links[l as usize])?;
+        add_link(alloc, &mut rows, topo, plan, l, links[l as usize])?;
     }
     Ok(rows)
 }

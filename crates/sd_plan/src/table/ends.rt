@@ -1,5 +1,5 @@
 //! What lies below each device.
-ghost use Rattle.std.specs.Prelude.{◌≡◌, ℕ, ◌+◌, ◌++◌, ◌<◌, length, map, [], ◌∷◌, None, replicate, slice_index_or, OnOk, OnErr, IfOk};
+ghost use Rattle.std.specs.Prelude.{◌≡◌, ℕ, ◌+◌, ◌++◌, ◌<◌, length, map, [], None, slice_index_or, OnOk, IfOk};
 ghost use Rattle.sd_topo.specs.Network.{device_numbers};
 ghost use Rattle.sd_topo.specs.Topologies.{network};
 ghost use Rattle.sd_plan.specs.Plans.{Fits};
@@ -8,52 +8,13 @@ ghost use Rattle.sd_plan.specs.Structure.{structure_breach};
 ghost use Rattle.sd_plan.specs.Tables.{ends_before, end_below};
 
 use crate::hops::{backup_of, primary_of};
-use crate::{End, Hop, Plan};
+use crate::{End, Hop, List, Plan, empty_lists};
 use sd_num::NoMemory;
 use sd_topo::Topology;
 use std::alloc::Global;
-use std::marker::Model;
 
 /// The ends below one device.
-#[derive(Drop)]
-pub(crate) struct EndList {
-    items: Vec<End>,
-}
-
-impl Model for EndList {
-    ghost use Rattle.std.specs.Prelude.{List};
-    ghost use Rattle.sd_plan.specs.declared.End.{End};
-
-    ghost Value = { List End };
-
-    ghost view = { λ l. l.items.items };
-}
-
-impl EndList {
-    fn new(alloc: Global) -> EndList
-        ensures { result ≡ [] }
-    {
-        EndList {
-            items: Vec::new(alloc),
-        }
-    }
-
-    pub(crate) fn push(&mut self, item: End) -> Result<(), NoMemory>
-        ensures added { OnOk result (self.new ≡ self.old ++ (item ∷ [])) }
-        ensures same { OnErr result (self.new ≡ self.old) }
-    {
-        match self.items.push(item) {
-            Ok(()) => Ok(()),
-            Err(_) => Err(NoMemory),
-        }
-    }
-
-    pub(crate) fn as_slice(&self) -> &[End]
-        ensures { result.now ≡ self.now }
-    {
-        self.items.as_slice()
-    }
-}
+pub(crate) type EndList = List<End>;
 
 /// Whether a hop leads to a parent over a link.
 fn leads_to(hop: Option<Hop>, parent: u32, link: u32) -> bool
@@ -76,6 +37,7 @@ fn follows_over(plan: &Plan, parent: u32, link: u32, child: u32) -> bool
 
 /// Adds one end of a link to the ends below the other, if it follows this over it.
 fn add_end(
+    alloc: Global,
     rows: &mut [EndList],
     plan: &Plan,
     link: u32,
@@ -88,29 +50,25 @@ fn add_end(
         ≡ slice_index_or rows.old d [] ++ end_below plan.now link parent child d) }
 {
     if follows_over(plan, parent, link, child) {
-        rows[parent as usize].push(End {
-            link,
-            device: child,
-        })?;
+        rows[parent as usize].push(
+            alloc,
+            End {
+                link,
+                device: child,
+            },
+        )?;
     }
     Ok(())
 }
 
-/// A list for each device, with nothing in it.
-pub(crate) fn no_ends(alloc: Global, count: u32) -> Result<Vec<EndList>, NoMemory>
-    ensures { IfOk result (λ rows. rows.items ≡ replicate count []) }
-{
-    let mut rows = Vec::new(alloc);
-    for _ in 0..count {
-        let Ok(()) = rows.push(EndList::new(alloc)) else {
-            return Err(NoMemory);
-        };
-    }
-    Ok(rows)
-}
-
 /// Adds what lies below the two ends of a link.
-fn add_link(rows: &mut [EndList], topo: &Topology, plan: &Plan, l: u32) -> Result<(), NoMemory>
+fn add_link(
+    alloc: Global,
+    rows: &mut [EndList],
+    topo: &Topology,
+    plan: &Plan,
+    l: u32,
+) -> Result<(), NoMemory>
     requires fits { Fits (network topo.now) plan.now }
     requires structured { structure_breach (network topo.now) plan.now ≡ None }
     requires link { l < length (network topo.now).links }
@@ -120,8 +78,8 @@ fn add_link(rows: &mut [EndList], topo: &Topology, plan: &Plan, l: u32) -> Resul
         (device_numbers (network topo.now))) }
 {
     let link = topo.link(l);
-    add_end(rows, plan, l, link.end_a, link.end_b)?;
-    add_end(rows, plan, l, link.end_b, link.end_a)
+    add_end(alloc, rows, plan, l, link.end_a, link.end_b)?;
+    add_end(alloc, rows, plan, l, link.end_b, link.end_a)
 }
 
 /// What lies below each device, by ascending link.
@@ -135,9 +93,9 @@ pub(super) fn all_ends(
     ensures { IfOk result (λ rows. rows.items
         ≡ map (duties.ends_of (network topo.now) plan.now) (device_numbers (network topo.now))) }
 {
-    let mut rows = no_ends(alloc, topo.devices())?;
+    let mut rows = empty_lists(alloc, topo.devices())?;
     for l in 0..topo.links() {
-        add_link(&mut rows, topo, plan, l)?;
+        add_link(alloc, &mut rows, topo, plan, l)?;
     }
     Ok(rows)
 }
