@@ -7,8 +7,11 @@ use Rattle.std.proofs.lemmas.List.Folds.{list_all-append}
 use Rattle.sd_history.specs.Sched.Num.Lists.{map_or, same_number, find_map_or, leading, has}
 use Rattle.sd_history.specs.Core.Topo.Network.{Network, rates_of, device_numbers, link_numbers, joins}
 use Rattle.sd_history.specs.Core.Topo.Joined.{joined_within}
+use Rattle.sd_history.specs.Core.Topo.declared.Thing.{Thing}
 use Rattle.sd_history.specs.Core.Topo.declared.Thing.TheVariants as thing
 use Rattle.sd_history.specs.Core.Domain.Domains.{within_one}
+use Rattle.sd_history.specs.Core.Domain.Things.{same_thing}
+use Rattle.sd_domain.proofs.Within.{within_one_same}
 use Rattle.sd_history.specs.Core.Plan.declared.Plan.{Plan}
 use Rattle.sd_history.specs.Core.Plan.Plans.{is_member, members}
 use Rattle.sd_history.specs.Msg.declared.Flight.{Flight}
@@ -330,8 +333,13 @@ module _ (shift : Shift) (net : Network) (front plans : List Plan) (behind : shi
 
   fails_within_alike : fails_within_one (whole net front plans) (raised_seen shift s) one ≡ fails_within_one (setting_over net plans) s other
   fails_within_alike =
-      ap (λ w. is_some (within_one net (option_to_list w.failure ++ failures_since_closing one))) words
-      ∙ ap (λ xs. is_some (within_one net (option_to_list (failure_of s.event) ++ xs))) agree.failures
+      ap (λ w. is_some (within_one net (option_to_list w.failure ++ failures_since_closing one))) words ∙ ap is_some (by (failure_of s.event))
+    where
+      by : (o : Option Thing)
+          → within_one net (option_to_list o ++ failures_since_closing one) ≡ within_one net (option_to_list o ++ failures_since_closing other)
+      by None = within_one_same net (failures_since_closing one) (failures_since_closing other) agree.failures
+      by (Some y) =
+          within_one_same net (y ∷ failures_since_closing one) (y ∷ failures_since_closing other) (λ x. ap (λ b. same_thing x y || b) (agree.failures x))
 
   begins_on : begins_orderly (whole net front plans) (raised_seen shift s) one ≡ true → begins_orderly (setting_over net plans) s other ≡ true
   begins_on is =
@@ -455,14 +463,20 @@ module _ (shift : Shift) (net : Network) (front plans : List Plan) (behind : shi
       go false true false f w' f' on is' = cc
       go false false w f w' f' on is' = on is'
 
-  failures_kept : failures_since_closing (raised_seen shift s ∷ one) ≡ failures_since_closing (s ∷ other)
-  failures_kept = go s.closed
+  failures_kept : (y : Thing) → list_any (same_thing y) (failures_since_closing (raised_seen shift s ∷ one))
+      ≡ list_any (same_thing y) (failures_since_closing (s ∷ other))
+  failures_kept y = go s.closed
     where
+      on : (o : Option Thing)
+          → list_any (same_thing y) (cons_option o (failures_since_closing one)) ≡ list_any (same_thing y) (cons_option o (failures_since_closing other))
+      on None = agree.failures y
+      on (Some z) = ap (λ b. same_thing y z || b) (agree.failures y)
+
       go : (c : Bool)
-          → filter_map (λ (x : Seen). failure_of x.event) (if not c then raised_seen shift s ∷ leading (λ x. not x.closed) one else [])
-          ≡ filter_map (λ (x : Seen). failure_of x.event) (if not c then s ∷ leading (λ x. not x.closed) other else [])
+          → list_any (same_thing y) (filter_map (λ (x : Seen). failure_of x.event) (if not c then raised_seen shift s ∷ leading (λ x. not x.closed) one else []))
+          ≡ list_any (same_thing y) (filter_map (λ (x : Seen). failure_of x.event) (if not c then s ∷ leading (λ x. not x.closed) other else []))
       go true = refl
-      go false = ap (λ w. cons_option w.failure (failures_since_closing one)) words ∙ ap (cons_option (failure_of s.event)) agree.failures
+      go false = ap (λ w. list_any (same_thing y) (cons_option w.failure (failures_since_closing one))) words ∙ on (failure_of s.event)
 
   -- With the event, each premise that holds of the first holds of the second.
   pub premises_agree_after : PremisesAgree (whole net front plans) (setting_over net plans) (raised_seen shift s ∷ one) (s ∷ other)

@@ -19,7 +19,9 @@ use Rattle.sd_history.specs.Core.Standing.{registers_of}
 use Rattle.sd_history.specs.Clock.declared.Estimate.{Estimate}
 use Rattle.sd_history.specs.Msg.declared.Flight.{Flight}
 use Rattle.sd_history.specs.Sched.declared.Event.{Event}
+use Rattle.std.specs.List.{list_any}
 use Rattle.sd_history.specs.Core.Topo.declared.Thing.{Thing}
+use Rattle.sd_history.specs.Core.Domain.Things.{same_thing}
 use Rattle.sd_history.specs.Sched.Honesty.{keeps_reading}
 use Rattle.sd_history.specs.World.{Setting, Seen, is_up, has_failed, latest_reading, is_untouched, latest_reference, window, epoch_in_force}
 use Rattle.sd_history.specs.Steps.{Step, seen_of, events_of, answers_in, flights, flight_count}
@@ -403,7 +405,7 @@ honest =
       ticks = λ d up. ticks_of d (known opening_events opening_happens d up);
       members = refl;
       untouched = λ d is. fresh_is d ∙ sym (fresh_is_other d) ∙ is;
-      failures = none ∙ sym none_other;
+      failures = λ x. ap (list_any (same_thing x)) (none ∙ sym none_other);
     }
   where
     none : failures_since_closing seen ≡ []

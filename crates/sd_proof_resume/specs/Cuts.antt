@@ -4,7 +4,9 @@ use Rattle.sd_history.specs.Core.Topo.Network.{Network, rates_of}
 use Rattle.sd_history.specs.Core.Plan.declared.Plan.{Plan}
 use Rattle.sd_history.specs.Core.declared.registers.Registers.{Registers}
 use Rattle.sd_history.specs.Core.contracts.device.DeviceNode.TheImpl.{ghosts}
-use Rattle.std.specs.List.{list_all}
+use Rattle.std.specs.List.{list_all, list_any}
+use Rattle.sd_history.specs.Core.Topo.declared.Thing.{Thing}
+use Rattle.sd_history.specs.Core.Domain.Things.{same_thing}
 use Rattle.sd_history.specs.Core.Plan.Plans.{members}
 use Rattle.sd_history.specs.Msg.declared.Flight.{Flight}
 use Rattle.sd_history.specs.Sched.Honesty.{keeps_reading}
@@ -47,4 +49,4 @@ pub record IsHonestOpening (part : Setting) (one other : List Seen) : Type 0 whe
   pub ticks : (d : ℕ) → is_up other d ≡ true → latest_tick one d ≤ latest_tick other d
   pub members : list_all (λ d. not (is_untouched other d)) (members part.net (plan_numbered part 1)) ≡ true
   pub untouched : (d : ℕ) → is_untouched other d ≡ true → is_untouched one d ≡ true
-  pub failures : failures_since_closing one ≡ failures_since_closing other
+  pub failures : (x : Thing) → list_any (same_thing x) (failures_since_closing one) ≡ list_any (same_thing x) (failures_since_closing other)

@@ -1,6 +1,8 @@
 -- When each premise that the second of two histories breaks is broken in the first, and goes on so.
 use Rattle.std.specs.Prelude.{◌≡◌, ℕ, ◌≤◌, true, not, List}
-use Rattle.std.specs.List.{list_all}
+use Rattle.std.specs.List.{list_all, list_any}
+use Rattle.sd_history.specs.Core.Topo.declared.Thing.{Thing}
+use Rattle.sd_history.specs.Core.Domain.Things.{same_thing}
 use Rattle.sd_history.specs.Core.Plan.Plans.{members}
 use Rattle.sd_history.specs.World.{Setting, Seen, is_up, is_untouched, plan_numbered, latest_reference, latest_reading}
 use Rattle.sd_history.specs.Premises.{start_holds, drift_holds, delay_holds, tick_holds, domain_holds, renew_holds, latest_tick, failures_since_closing}
@@ -21,4 +23,4 @@ pub record PremisesAgree (whole part : Setting) (one other : List Seen) : Type 0
   pub ticks : (d : ℕ) → is_up other d ≡ true → latest_tick one d ≤ latest_tick other d
   pub members : list_all (λ d. not (is_untouched other d)) (members part.net (plan_numbered part 1)) ≡ true
   pub untouched : (d : ℕ) → is_untouched other d ≡ true → is_untouched one d ≡ true
-  pub failures : failures_since_closing one ≡ failures_since_closing other
+  pub failures : (x : Thing) → list_any (same_thing x) (failures_since_closing one) ≡ list_any (same_thing x) (failures_since_closing other)
