@@ -1,5 +1,5 @@
 -- The result: behind an opening all later events are as behind the history that it opens.
-use Rattle.std.specs.Prelude.{◌≡◌, ℕ, suc, ◌+◌, ◌<◌, ◌≤◌, Bool, true, false, ◌||◌, List, [], ◌∷◌, ◌++◌, length, map, filter, nat_eq, Option, Some, None, option_and_then, refl}
+use Rattle.std.specs.Prelude.{◌≡◌, ℕ, suc, ◌+◌, ◌<◌, ◌≤◌, Bool, true, false, ◌&&◌, ◌||◌, not, List, [], ◌∷◌, ◌++◌, length, map, filter, nat_eq, Option, Some, None, option_and_then, refl}
 use Rattle.std.proofs.Common.{arith, sym, ◌∙◌, ap, subst, inl, inr}
 use Rattle.std.proofs.lemmas.Bool.{eqb-true, eq-eqb}
 use Rattle.sd_history.specs.Sched.Num.Lists.{map_or, same_number}
@@ -29,7 +29,7 @@ use Rattle.sd_history.proofs.flights.Finds.{found_number}
 use Rattle.sd_history.proofs.flights.Leaving.{unused}
 use Rattle.sd_history.proofs.flights.Sending.{counted}
 use Rattle.sd_proof_resume.specs.Shifts.{Shift, raised_event}
-use Rattle.sd_proof_resume.specs.Law.{whole, HistoriesAgree, AllMayFollow, SaysAlike, NoMoreBroken}
+use Rattle.sd_proof_resume.specs.Law.{whole, HistoriesAgree, AllMayFollow, SaysAlike, NoMoreBroken, BreaksNoMore, LeavesBroken}
 use Rattle.sd_proof_resume.specs.Cuts.{IsOpening, NoneOnItsWay, IsHonestOpening}
 use Rattle.sd_proof_resume.specs.Premised.{PremisesAgree}
 use Rattle.sd_proof_resume.specs.Losses.{ArePast, LossesAgree}
@@ -109,6 +109,14 @@ unreceived setting steps_ n are past = go (was_received (seen_of steps_) n) refl
 all_past : (setting : Setting) (steps_ : List Step) → AreSteps setting steps_ → ArePast (seen_of steps_)
 all_past setting [] are = refl
 all_past setting (s ∷ earlier) are = past_after s.seen (seen_of earlier) (time_goes_on setting earlier s.seen.event are.1) (all_past setting earlier are.0)
+
+-- what breaks in a part is broken in the whole, if what holds in the whole holds in the part
+broken_there : (whole_holds part_holds before : Bool) → (whole_holds ≡ true → part_holds ≡ true) → (not part_holds && not before) ≡ true → not whole_holds ≡ true
+broken_there false part_holds before on broke = refl
+broken_there true true before on broke = cc
+broken_there true false before on broke =
+    let holds : false ≡ true = on refl in
+    cc
 
 module _ (shift : Shift) (net : Network) (front plans : List Plan) (first second : List (NodeStep Registers))
     (is : IsOpening shift net front plans first second) where
@@ -228,9 +236,7 @@ module _ (shift : Shift) (net : Network) (front plans : List Plan) (first second
         above n count none some = omega (arith, none, some)
 
     -- What breaks behind the opening breaks in the whole.
-    pub breaks_no_more : (later : List Event) → AllMayFollow (setting_over net plans) other later → IsAdmitted (setting_over net plans) (later ++ other)
-        → NoMoreBroken (whole net front plans) (setting_over net plans)
-        (seen_of (chronicle (whole net front plans) (map (raised_event shift) later ++ one))) (seen_of (chronicle (setting_over net plans) (later ++ other)))
+    pub breaks_no_more : BreaksNoMore shift (whole net front plans) (setting_over net plans) one other
     breaks_no_more later may admitted =
         let p : PremisesAgree (whole net front plans) (setting_over net plans)
         (seen_of (chronicle (whole net front plans) (map (raised_event shift) later ++ one))) (seen_of (chronicle (setting_over net plans) (later ++ other))) =
@@ -253,4 +259,20 @@ module _ (shift : Shift) (net : Network) (front plans : List Plan) (first second
               (seen_of (chronicle (setting_over net plans) (later ++ other))) l.flights (whole net front plans) (setting_over net plans) refl;
           domain = p.domain;
           renew = p.renew;
+        }
+
+    -- A later event that breaks a premise behind the opening leaves it broken in the whole.
+    pub leaves_broken : LeavesBroken shift (whole net front plans) (setting_over net plans) one other
+    leaves_broken e later may admitted =
+        let more : NoMoreBroken (whole net front plans) (setting_over net plans)
+        (seen_of (chronicle (whole net front plans) (raised_event shift e ∷ (map (raised_event shift) later ++ one))))
+        (seen_of (chronicle (setting_over net plans) (e ∷ (later ++ other)))) = breaks_no_more (e ∷ later) may admitted in
+        record {
+          start = broken_there _ _ _ more.start;
+          drift = broken_there _ _ _ more.drift;
+          delay = broken_there _ _ _ more.delay;
+          tick = broken_there _ _ _ more.tick;
+          loss = broken_there _ _ _ more.loss;
+          domain = broken_there _ _ _ more.domain;
+          renew = broken_there _ _ _ more.renew;
         }

@@ -8,11 +8,12 @@ use Rattle.sd_history.specs.Core.contracts.device.DeviceNode.TheImpl.{ghosts}
 use Rattle.sd_history.specs.Sched.declared.Event.{Event}
 use Rattle.sd_history.specs.Sched.Events.{reference_of, message_of}
 use Rattle.sd_history.specs.World.{Setting, Seen, setting_over}
-use Rattle.sd_history.specs.Steps.{Step, events_of}
+use Rattle.sd_history.specs.Steps.{Step, events_of, seen_of}
 use Rattle.sd_history.specs.Chronicle.{chronicle}
 use Rattle.sd_history.specs.Nodes.{NodeStep, steps_of}
-use Rattle.sd_history.specs.Admitted.{IsAdmittedRun}
-use Rattle.sd_history.specs.Premises.{start_holds, drift_holds, delay_holds, tick_holds, loss_holds, domain_holds, renew_holds}
+use Rattle.sd_history.specs.Admitted.{IsAdmittedRun, IsAdmitted}
+use Rattle.sd_history.specs.declared.BrokenSet.{BrokenSet}
+use Rattle.sd_history.specs.Premises.{start_holds, drift_holds, delay_holds, tick_holds, loss_holds, domain_holds, renew_holds, broken_in, breaks}
 use Rattle.sd_history.specs.Lines.{Line, first_on_loop, roots, asked_report, loop_lines, root_lines, report_lines}
 use Rattle.sd_proof_resume.specs.Shifts.{Shift, raised_event}
 use Rattle.sd_proof_resume.specs.Agreement.{MayFollow, Agree}
@@ -66,3 +67,26 @@ pub record NoMoreBroken (whole part : Setting) (one other : List Seen) : Type 0 
   pub loss : loss_holds whole one ≡ true → loss_holds part other ≡ true
   pub domain : domain_holds whole one ≡ true → domain_holds part other ≡ true
   pub renew : renew_holds whole one ≡ true → renew_holds part other ≡ true
+
+-- behind the second no premise is broken that holds behind the first
+abbrev pub BreaksNoMore : Shift → (whole part : Setting) → (one other : List Event) → Type 0
+BreaksNoMore shift whole part one other =
+    (later : List Event) → AllMayFollow part other later → IsAdmitted part (later ++ other)
+    → NoMoreBroken whole part (seen_of (chronicle whole (map (raised_event shift) later ++ one))) (seen_of (chronicle part (later ++ other)))
+
+-- each premise of the one set is in the other
+pub record AreAmong (some all : BrokenSet) : Type 0 where
+  pub start : some.start ≡ true → all.start ≡ true
+  pub drift : some.drift ≡ true → all.drift ≡ true
+  pub delay : some.delay ≡ true → all.delay ≡ true
+  pub tick : some.tick ≡ true → all.tick ≡ true
+  pub loss : some.loss ≡ true → all.loss ≡ true
+  pub domain : some.domain ≡ true → all.domain ≡ true
+  pub renew : some.renew ≡ true → all.renew ≡ true
+
+-- each premise that a later event breaks behind the second is broken behind the first too: with that event, or before it
+abbrev pub LeavesBroken : Shift → (whole part : Setting) → (one other : List Event) → Type 0
+LeavesBroken shift whole part one other =
+    (e : Event) (later : List Event) → AllMayFollow part other (e ∷ later) → IsAdmitted part (e ∷ (later ++ other))
+    → AreAmong (breaks part (seen_of (chronicle part (e ∷ (later ++ other)))))
+    (broken_in whole (seen_of (chronicle whole (raised_event shift e ∷ (map (raised_event shift) later ++ one)))))

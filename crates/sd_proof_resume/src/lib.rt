@@ -13,11 +13,12 @@
 //! |---|---|
 //! | `admits_the_same` | the rules admit the same later events behind both |
 //! | `says_the_same` | each of them has the same alarms and the same report |
-//! | `breaks_no_more` | each premise that breaks behind the opening is broken behind the first |
+//! | `breaks_no_more` | each premise that is broken behind the opening is broken behind the first |
+//! | `leaves_broken` | where an event breaks a premise behind the opening, it is broken behind the first |
 //! | `nothing_else_comes` | what is accepted behind the first is a raised event |
 //!
-//! The last two ask more: an honest opening (`IsHonestOpening`), and that no message is on its way
-//! (`NoneOnItsWay`).
+//! The two on premises ask for an honest opening (`IsHonestOpening`). The last asks that no message
+//! is on its way (`NoneOnItsWay`).
 //!
 //! They speak of later events that are no start, and of commits by devices that act as root
 //! (`AllMayFollow`): a fresh device that becomes root would begin with term 1 in both.
