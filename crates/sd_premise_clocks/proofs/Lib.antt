@@ -1,4 +1,5 @@
 pub mod Drifting
+pub mod Fewer
 pub mod Queueing
 pub mod Seeing
 pub mod Lives
