@@ -215,6 +215,41 @@ impl Premises {
         note_held(&mut self.broken, held)
     }
 
+    /// The topology of the devices and links.
+    pub fn topology(&self) -> &Topology
+        ensures { result.now ≡ self.now.topology }
+    {
+        &self.topology
+    }
+
+    /// The world in which events were seen.
+    pub fn world(&self) -> &World
+        ensures { result.now ≡ self.now.world }
+    {
+        &self.world
+    }
+
+    /// The readings of devices.
+    pub fn drift(&self) -> &DriftMonitor
+        ensures { result.now ≡ self.now.drift }
+    {
+        &self.drift
+    }
+
+    /// The ticks of devices.
+    pub fn ticks(&self) -> &TickMonitor
+        ensures { result.now ≡ self.now.tick }
+    {
+        &self.tick
+    }
+
+    /// What failed.
+    pub fn failures(&self) -> &DomainMonitor
+        ensures { result.now ≡ self.now.domain }
+    {
+        &self.domain
+    }
+
     /// Which premises are broken so far.
     pub fn broken(&self) -> BrokenSet
         ensures { (setting : Setting) (seen : List Sight) → StandsFor self.now setting seen

@@ -2,10 +2,11 @@
 //! A life begins with a start or join.
 ghost use Rattle.std.specs.Prelude.{◌≡◌, ℕ, ◌<◌, ◌∷◌, [], List, length, IsTrue, IfOk, if◌then◌else◌};
 ghost use Rattle.std.specs.Option.{ForSome};
+ghost use Rattle.sd_topo.specs.Network.{rates_of};
 ghost use Rattle.sd_topo.specs.Topologies.{network};
 ghost use Rattle.sd_sched.specs.Events.{device_of};
 ghost use Rattle.sd_fleet_state.specs.History.World.{Setting, Seen as Sight};
-ghost use Rattle.sd_fleet_state.specs.History.Premises.{drift_holds};
+ghost use Rattle.sd_fleet_state.specs.History.Premises.{drift_holds, readings};
 ghost use Rattle.sd_fleet_state.specs.History.Refusals.{makes_some};
 ghost use Rattle.sd_fleet_state.specs.History.Open.{may_be_seen};
 ghost use Rattle.sd_premise_clocks.specs.Sights.{sight_of};
@@ -111,6 +112,15 @@ impl DriftMonitor {
             });
         }
         Ok(DriftMonitor { lives, holds: true })
+    }
+
+    /// How far the counter of a device lay off the reference at least in its present life.
+    pub fn offsets(&self, device: u32) -> Offsets
+        requires { device < length self.now.lives }
+        ensures { (setting : Setting) (seen : List Sight) → DriftStands setting self.now seen
+            → result ≡ least_offsets (rates_of setting.net device).ppm (readings seen device) }
+    {
+        self.lives[device as usize].offsets
     }
 
     /// Sees one event more, and tells whether the premise holds still.

@@ -20,6 +20,7 @@ mod ticks;
 
 pub use delay::DelayMonitor;
 pub use drift::DriftMonitor;
+pub use offsets::Offsets;
 pub use present_rows::PresentRows;
 pub use seen::Seen;
 pub use start::StartMonitor;

@@ -1,6 +1,6 @@
 //! How far a counter lies off the reference. A reading keeps the rates with each earlier one of its
 //! life exactly where neither of its offsets is beyond the least of the life by more than the grain.
-ghost use Rattle.std.specs.Prelude.{◌≡◌, ℕ, List, IsTrue};
+ghost use Rattle.std.specs.Prelude.{◌≡◌, ◌&&◌, ℕ, List, IsTrue, nat_le};
 ghost use Rattle.sd_premise_clocks.specs.Readings.{pair_of, is_after_each, keeps_rates_with, no_offsets, offsets_at, lesser, are_within, least_offsets};
 
 use sd_num::Rates;
@@ -64,6 +64,13 @@ impl Offsets {
         let grain = u128::from(grain) * MILLION;
         further.lead.saturating_sub(self.lead) <= grain
             && further.lag.saturating_sub(self.lag) <= grain
+    }
+
+    /// Whether the others allow each further reading that these allow.
+    pub fn are_at_most(self, other: Offsets) -> bool
+        ensures { result ≡ (nat_le self.lead other.lead && nat_le self.lag other.lag) }
+    {
+        self.lead <= other.lead && self.lag <= other.lag
     }
 
     /// Those of the life with a further reading.

@@ -12,7 +12,7 @@ ghost use Rattle.sd_fleet_state.specs.world.Standing.{Stands};
 ghost use Rattle.sd_premise_clocks.specs.Sights.{sight_of};
 ghost use Rattle.sd_premise_clocks.specs.Kinds.{IsTick, IsReceipt};
 ghost use Rattle.sd_premise_clocks.specs.Memberships.{AreMembers};
-ghost use Rattle.sd_premise_clocks.specs.Owing.{owed_at};
+ghost use Rattle.sd_premise_clocks.specs.Owing.{is_awaited as is_awaited_seen, owed_at};
 ghost use Rattle.sd_premise_clocks.specs.Tickings.{AreOwed, TickStands, TellOf};
 
 use crate::queue::Queue;
@@ -129,6 +129,24 @@ impl TickMonitor {
             limit: topo.params().tick,
             holds: true,
         })
+    }
+
+    /// The reference of the latest tick, start or join of a device, in ps, and 0 before the first.
+    pub fn latest(&self, device: u32) -> u64
+        requires { device < length self.now.owed }
+        ensures { (setting : Setting) (seen : List Sight) → TickStands setting self.now seen
+            → result ≡ latest_tick seen device }
+    {
+        self.ticks.latest(device)
+    }
+
+    /// Whether a device is a member of the first plan that was neither started, joined nor failed.
+    pub fn is_awaited(&self, device: u32) -> bool
+        requires { device < length self.now.owed }
+        ensures { (setting : Setting) (seen : List Sight) → TickStands setting self.now seen
+            → result ≡ is_awaited_seen setting seen device }
+    {
+        self.ticks.is_awaited(device)
     }
 
     /// Sees one event more, of which the world knows already, and tells whether the premise holds

@@ -1,5 +1,5 @@
 //! When each device ticked last, and since when each owes a tick.
-ghost use Rattle.std.specs.Prelude.{◌≡◌, ℕ, ◌<◌, ◌∷◌, [], List, length, is_none, IfOk};
+ghost use Rattle.std.specs.Prelude.{◌≡◌, ℕ, ◌<◌, ◌∷◌, [], List, length, is_none, slice_index_or, IfOk};
 ghost use Rattle.std.specs.Option.{ForSome};
 ghost use Rattle.sd_sched.specs.Events.{device_of};
 ghost use Rattle.sd_topo.specs.Topologies.{network};
@@ -7,7 +7,7 @@ ghost use Rattle.sd_fleet_state.specs.History.World.{Setting, Seen as Sight};
 ghost use Rattle.sd_fleet_state.specs.History.Premises.{is_current_member};
 ghost use Rattle.sd_fleet_state.specs.world.Standing.{Stands};
 ghost use Rattle.sd_premise_clocks.specs.Memberships.{AreMembers};
-ghost use Rattle.sd_premise_clocks.specs.Owing.{state_after, ticks_after, ticked_at, owed_at, TicksStand};
+ghost use Rattle.sd_premise_clocks.specs.Owing.{no_state, state_after, ticks_after, ticked_at, owed_at, TicksStand};
 
 use crate::PresentRows;
 use sd_fleet_state::world::World;
@@ -102,6 +102,22 @@ impl Ticks {
         ensures { result ≡ length self.now.states }
     {
         self.states.len() as u32
+    }
+
+    /// The reference of the latest tick, start or join of a device, in ps, and 0 before the first.
+    pub fn latest(&self, d: u32) -> u64
+        requires { d < length self.now.states }
+        ensures { result ≡ (slice_index_or self.now.states d no_state).latest }
+    {
+        self.states[d as usize].latest
+    }
+
+    /// Whether a device is a member of the first plan that was neither started, joined nor failed.
+    pub fn is_awaited(&self, d: u32) -> bool
+        requires { d < length self.now.states }
+        ensures { result ≡ (slice_index_or self.now.states d no_state).awaited }
+    {
+        self.states[d as usize].awaited
     }
 
     /// Whether there was no event yet.

@@ -70,6 +70,13 @@ impl DomainMonitor {
         self.holds
     }
 
+    /// What failed since the latest closing of a window, mended or not.
+    pub fn failed(&self) -> &Failure
+        ensures { result.now ≡ self.now.failed }
+    {
+        &self.failed
+    }
+
     /// The thing fails, if there is one, and all that failed is judged.
     fn fail(&mut self, topo: &Topology, thing: Option<Thing>)
         requires { IfSome thing (HasRoom self.old.failed) }
