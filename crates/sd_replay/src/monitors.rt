@@ -59,6 +59,13 @@ impl Monitors {
         })
     }
 
+    /// The premises.
+    pub(crate) fn premises(&self) -> &Premises
+        ensures { result.now ≡ self.now.premises }
+    {
+        &self.premises
+    }
+
     /// Makes room for an event that sends so many messages. Only this takes memory.
     #[inline(always)]
     pub(crate) fn ready(&mut self, alloc: Global, sent: usize) -> Result<(), NoMemory>

@@ -13,6 +13,7 @@ ghost use Rattle.sd_msg.specs.Observed.{ReportAt};
 ghost use Rattle.sd_fleet.specs.Room.{ends_in, most_sent_in};
 ghost use Rattle.sd_fleet.specs.Standing as fleets;
 ghost use Rattle.sd_premise.specs.FleetState.membership.Plans.{AreSound};
+ghost use Rattle.sd_premise.specs.Standing as premises;
 ghost use Rattle.sd_history.specs.Steps.{Step, seen_of};
 ghost use Rattle.sd_history.specs.Nodes.{NodeStep, steps_of};
 ghost use Rattle.sd_history.specs.Refusals.{refusal, after_end};
@@ -29,6 +30,7 @@ use sd_fleet::{Fleet, Outcome, Sent};
 use sd_msg::{Flight, Observer};
 use sd_num::NoMemory;
 use sd_plan::Plan;
+use sd_premise::Premises;
 use sd_sched::{Event, read_line};
 use sd_topo::Topology;
 use std::alloc::Global;
@@ -418,6 +420,16 @@ impl<N: Node, V: Observer> Replay<N, V> {
             → fleets.StandsFor N.Node result.now setting run }
     {
         &self.fleet
+    }
+
+    /// The premises that are judged.
+    pub fn premises(&self) -> &Premises
+        ensures lent { result.now ≡ self.now.monitors.premises }
+        ensures stands { (setting : Setting) (run : List (NodeStep N))
+            → StandsFor N.Node V.Observer self.now setting run
+            → premises.StandsFor result.now setting (seen_of (steps_of run)) }
+    {
+        self.monitors.premises()
     }
 
     /// The observer of the reports.
