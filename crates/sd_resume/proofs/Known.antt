@@ -1,53 +1,64 @@
--- What is failed in accepted steps is a device or a link of the network.
+-- What an event names is a device or a link of the network, and so is what is failed in accepted steps.
 use Rattle.std.specs.Prelude.{◌≡◌, ℕ, ◌<◌, Bool, true, false, List, [], ◌∷◌, length, nat_eq, nat_le, Option, Some, None, refl}
-use Rattle.std.proofs.Common.{ap, subst, sym}
+use Rattle.std.proofs.Common.{ap, subst, sym, ◌∙◌}
+use Rattle.std.proofs.Math.Bool.{or-false}
 use Rattle.std.proofs.lemmas.Bool.{leb-false, eqb-true}
 use Rattle.sd_topo.specs.declared.Thing.{Thing}
 use Rattle.sd_topo.specs.declared.Thing.TheVariants.{Device, Link}
 use Rattle.sd_fleet.specs.History.Sched.Num.Lists.{map_or}
 use Rattle.sd_fleet.specs.History.Sched.declared.Event.{Event}
 use Rattle.sd_fleet.specs.History.Sched.declared.Event.TheVariants as event
-use Rattle.sd_fleet.specs.History.Sched.Events.{link_of}
+use Rattle.sd_fleet.specs.History.Sched.Events.{device_of, link_of}
 use Rattle.sd_fleet.specs.History.Things.{mended}
-use Rattle.sd_fleet.specs.History.World.{Setting, fails, is_thing, has_failed}
+use Rattle.sd_fleet.specs.History.World.{Setting, makes, fails, is_thing, has_failed}
 use Rattle.sd_fleet.specs.History.Steps.{Step, seen_of}
-use Rattle.sd_fleet.specs.History.Refusals.{refusal}
+use Rattle.sd_fleet.specs.History.Refusals.{refusal, unknown_device, unknown_link}
 use Rattle.sd_fleet.specs.History.Accepted.{AreSteps}
 use Rattle.sd_fleet.proofs.History.Among.{first, later}
 use Rattle.sd_fleet.proofs.History.Admitted.{rule_holds, accepted_is_admitted}
-use Rattle.sd_fleet.proofs.History.Known.{named_is_known, up_case}
+use Rattle.sd_fleet.proofs.History.Known.{up_case}
 
 -- the network has the thing
 abbrev pub IsKnown : Setting → Thing → Type 0
 IsKnown setting (Device d) = d < length setting.net.devices
 IsKnown setting (Link l) = l < length setting.net.links
 
-link_is_known : (setting : Setting) (steps : List Step) (e : Event) (l : ℕ) → refusal setting steps e ≡ None → link_of e ≡ Some l
-    → l < length setting.net.links
-link_is_known setting steps e l none named =
-    go (link_of e) named (rule_holds setting steps e _ (accepted_is_admitted setting steps e none) (later first) refl)
-  where
-    go : (o : Option ℕ) → o ≡ Some l → map_or o false (λ x. nat_le (length setting.net.links) x) ≡ false → l < length setting.net.links
-    go None same h = cc
-    go (Some x) same h =
-        subst (λ n. n < length setting.net.links) (ap (λ o. map_or o x (λ z. z)) same) (leb-false (length setting.net.links) x h)
+-- a number that is named and not beyond the last
+known_number : (bound : ℕ) (o : Option ℕ) (n : ℕ) → map_or o false (λ x. nat_le bound x) ≡ false → o ≡ Some n → n < bound
+known_number bound None n known same = cc
+known_number bound (Some x) n known same = subst (λ k. k < bound) (ap (λ o. map_or o x (λ z. z)) same) (leb-false bound x known)
 
--- what an accepted event fails is known
-failing_is_known : (setting : Setting) (steps : List Step) (e : Event) (x : Thing) → refusal setting steps e ≡ None → fails x e ≡ true → IsKnown setting x
-failing_is_known setting steps (event.FailDevice r d) (Device k) none is =
-    named_is_known setting steps (event.FailDevice r d) k none (ap Some (same d k is))
-  where
-    same : (a b : ℕ) → nat_eq b a ≡ true → a ≡ b
-    same a b is' = sym (eqb-true b a is')
-failing_is_known setting steps (event.FailLink r l) (Link k) none is =
-    link_is_known setting steps (event.FailLink r l) k none (ap Some (same l k is))
-  where
-    same : (a b : ℕ) → nat_eq b a ≡ true → a ≡ b
-    same a b is' = sym (eqb-true b a is')
-failing_is_known setting steps (event.FailDevice r d) (Link k) none is = cc
-failing_is_known setting steps (event.FailLink r l) (Device k) none is = cc
-failing_is_known setting steps _ x none is = cc
+-- the event names nothing that the network has not
+pub record NamesKnown (setting : Setting) (e : Event) : Type 0 where
+  pub device : unknown_device setting e ≡ false
+  pub link : unknown_link setting e ≡ false
 
+pub device_is_known : (setting : Setting) (e : Event) (d : ℕ) → NamesKnown setting e → device_of e ≡ Some d → d < length setting.net.devices
+device_is_known setting e d known named = known_number (length setting.net.devices) (device_of e) d known.device named
+
+-- what it makes is known
+pub making_is_known : (setting : Setting) (e : Event) (d : ℕ) → NamesKnown setting e → makes d e ≡ true → d < length setting.net.devices
+making_is_known setting (event.Start r m c clock eps) d known is =
+    device_is_known setting (event.Start r m c clock eps) d known (ap Some (eqb-true m d (sym (or-false (nat_eq m d)) ∙ is)))
+making_is_known setting (event.Join r m c clock eps) d known is =
+    device_is_known setting (event.Join r m c clock eps) d known (ap Some (eqb-true m d is))
+making_is_known setting _ d known is = cc
+
+-- what it fails is known
+pub failing_is_known : (setting : Setting) (e : Event) (x : Thing) → NamesKnown setting e → fails x e ≡ true → IsKnown setting x
+failing_is_known setting (event.FailDevice r d) (Device k) known is = device_is_known setting (event.FailDevice r d) k known (ap Some (sym (eqb-true k d is)))
+failing_is_known setting (event.FailLink r l) (Link k) known is =
+    known_number (length setting.net.links) (link_of (event.FailLink r l)) k known.link (ap Some (sym (eqb-true k l is)))
+failing_is_known setting (event.FailDevice r d) (Link k) known is = cc
+failing_is_known setting (event.FailLink r l) (Device k) known is = cc
+failing_is_known setting _ x known is = cc
+
+accepted_names_known : (setting : Setting) (steps : List Step) (e : Event) → refusal setting steps e ≡ None → NamesKnown setting e
+accepted_names_known setting steps e none =
+    let admits = accepted_is_admitted setting steps e none in
+    record { device = rule_holds setting steps e _ admits first refl; link = rule_holds setting steps e _ admits (later first) refl }
+
+-- what is failed in accepted steps is known
 pub failed_is_known : (setting : Setting) (steps : List Step) (x : Thing) → AreSteps setting steps → has_failed (seen_of steps) x ≡ true → IsKnown setting x
 failed_is_known setting [] x is failed = cc
 failed_is_known setting (s ∷ earlier) x is failed =
@@ -57,5 +68,5 @@ failed_is_known setting (s ∷ earlier) x is failed =
   where
     go : (b : Bool) → fails x s.seen.event ≡ b → (b ≡ false → has_failed (seen_of earlier) x ≡ true)
         → (has_failed (seen_of earlier) x ≡ true → IsKnown setting x) → IsKnown setting x
-    go true now before rest = failing_is_known setting earlier s.seen.event x is.1 now
+    go true now before rest = failing_is_known setting s.seen.event x (accepted_names_known setting earlier s.seen.event is.1) now
     go false now before rest = rest (before refl)

@@ -6,3 +6,4 @@ pub mod Alike
 pub mod Apart
 pub mod Sending
 pub mod Opening
+pub mod Honest

@@ -6,3 +6,4 @@ pub mod Worlds
 pub mod Fleets
 pub mod Messages
 pub mod Differences
+pub mod Honesty

@@ -1,4 +1,4 @@
-//! In what two fleets may differ.
+//! In what two fleets may differ, and in what an opening may not be honest.
 use sd_topo::Thing;
 
 /// A register of a device, in the normal form of all of them.
@@ -51,4 +51,22 @@ pub enum Difference {
     Reading { device: u32 },
     /// This register of the device.
     Register { device: u32, register: Register },
+}
+
+/// In what an opening is not honest for the first of two histories.
+#[derive(Clone, Copy, Debug, PartialEq, Eq)]
+pub enum Dishonesty {
+    /// A premise of the opening is broken.
+    Broken,
+    /// The readings of the device allow less: an offset of its present life in the first is greater
+    /// than the opening's.
+    Drift { device: u32 },
+    /// The latest tick of the device is earlier in the opening.
+    Tick { device: u32 },
+    /// A member of the opening's first plan that the opening has neither made nor failed.
+    Awaited { device: u32 },
+    /// The first has made or failed the device, and the opening has not.
+    Untouched { device: u32 },
+    /// It failed since the latest closing in one of the two, and not in the other.
+    FailedSince { thing: Thing },
 }
