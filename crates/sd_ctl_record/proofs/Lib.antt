@@ -7,3 +7,4 @@ pub mod Laws
 pub mod Entering
 pub mod Taking
 pub mod Working
+pub mod Recordings

@@ -10,3 +10,4 @@ pub mod Whole
 pub mod Reasons
 pub mod Works
 pub mod Doing
+pub mod Recordings

@@ -6,6 +6,7 @@
 //! past.
 #![tactic(auto)]
 
+mod command;
 mod finding;
 mod log;
 mod reasons;
@@ -14,6 +15,7 @@ mod recording;
 mod whole;
 mod work;
 
+pub use command::{RecordFiles, record_files};
 pub use log::record_log;
 pub use recorder::Recorder;
 pub use sd_cmd_files::{IoError, Status};
