@@ -2,5 +2,6 @@ pub mod Judged
 pub mod Makes
 pub mod Meeting
 pub mod Openings
+pub mod Recordings
 pub mod Served
 pub mod Settings

@@ -4,10 +4,10 @@ use Rattle.std.specs.Prelude.{IfSome, IsTrue}
 use Rattle.sd_outside.specs.Causes.{RisesFor}
 use Rattle.sd_outside.specs.Pieces.{Pieces, piece_of}
 use Rattle.sd_cmd_files.proofs.work.Leaving.{at_once, leaves_once}
-use Rattle.sd_cmd_files.specs.Answering.{AtOnce, InWrites}
+use Rattle.sd_cmd_files.specs.Answering.{Allowed, AtOnce, InWrites}
 use Rattle.sd_cmd_files.specs.Statuses.{is_among, stop_of}
 use Rattle.sd_cmd_files.specs.Stops.{status_of}
-use Rattle.sd_cmd_files.specs.Texts.{texts_of}
+use Rattle.sd_cmd_files.specs.Texts.{Texts, texts_of}
 use Rattle.sd_cmd_files.specs.Writes.{IsAllowed, HasOutput, WritesOnce}
 use Rattle.sd_cmd_files.specs.declared.Status.{Status}
 use Rattle.sd_cmd_files.specs.declared.Status.TheVariants.{ShelfFault, SinkFault, Memory}
@@ -17,19 +17,25 @@ use Rattle.sd_cmd_files.specs.declared.command_error.IoError.{IoError}
 use Rattle.sd_cmd_files.specs.declared.command_error.IoError.TheVariants as stop
 use Rattle.sd_cmd_files.specs.work.Ending.{LeavesAt}
 use Rattle.sd_cmd_files.specs.work.Leaving.{Leaves}
-use Rattle.sd_ctl_top.specs.Promise.{AnswersOf, IsUsageLine, MeetsOutcome, MeetsResult, statuses_of}
+use Rattle.sd_ctl_top.specs.Promise.{IsUsageLine, MeetsOutcome, MeetsResult, task_of}
 use Rattle.sd_ctl_top.specs.Words.{Command, command_of}
-use Rattle.sd_ctl_top.specs.Words.Command.{Search, Renew, Bounds, Resume}
+use Rattle.sd_ctl_top.specs.Words.Command.{Search, Renew, Bounds, Resume, Record}
 
--- the command of the words writes by one write what it has made
-pub made_meets : (held : Option (List ℕ → Option (List ℕ))) (words : List (List ℕ)) (command : Option Command) (made : Result Answer CommandError)
-    (old new : Option Pieces) (result : Result Status IoError) → command ≡ command_of words
-    → IfSome held (λ h. IsAllowed (AnswersOf command (texts_of h)) made) → WritesOnce (HasOutput made) old new result → MeetsResult held words old new result
+-- the command of the words meets its task
+pub meets : (held : Option (List ℕ → Option (List ℕ))) (words : List (List ℕ)) (command : Option Command) (old new : Option Pieces)
+    (result : Result Status IoError) → command ≡ command_of words
+    → IfSome held (λ h. LeavesAt (task_of command).in_steps ((task_of command).Writes (texts_of h)) old new result) → MeetsResult held words old new result
 unfolding MeetsResult
-made_meets None words command made old new result is makes writes = tt
-made_meets (Some h) words command made old new result is makes writes =
-    subst (λ (c : Option Command). LeavesAt false (InWrites AtOnce (AnswersOf c (texts_of h))) old new result) is
-    (leaves_once (AnswersOf command (texts_of h)) made old new result makes writes)
+meets None words command old new result is leaves = tt
+meets (Some h) words command old new result is leaves =
+    subst (λ (c : Option Command). LeavesAt (task_of c).in_steps ((task_of c).Writes (texts_of h)) old new result) is leaves
+
+-- what was made is written by one write
+pub made_once : (held : Option (List ℕ → Option (List ℕ))) (Answers : Texts → Allowed) (made : Result Answer CommandError) (old new : Option Pieces)
+    (result : Result Status IoError) → IfSome held (λ h. IsAllowed (Answers (texts_of h)) made) → WritesOnce (HasOutput made) old new result
+    → IfSome held (λ h. LeavesAt false (InWrites AtOnce (Answers (texts_of h))) old new result)
+made_once None Answers made old new result makes writes = tt
+made_once (Some h) Answers made old new result makes writes = leaves_once (Answers (texts_of h)) made old new result makes writes
 
 usage_leaves : (old new : Option Pieces) (result : Result Status IoError) → WritesOnce IsUsageLine old new result
     → LeavesAt false (InWrites AtOnce IsUsageLine) old new result
@@ -41,13 +47,14 @@ usage_leaves old new (Err stop.Memory) kept = kept
 -- words that are no command
 pub usage_meets : (held : Option (List ℕ → Option (List ℕ))) (words : List (List ℕ)) (old new : Option Pieces) (result : Result Status IoError)
     → None ≡ command_of words → WritesOnce IsUsageLine old new result → MeetsResult held words old new result
-unfolding MeetsResult
-usage_meets None words old new result is writes = tt
-usage_meets (Some h) words old new result is writes =
-    subst (λ (c : Option Command). LeavesAt false (InWrites AtOnce (AnswersOf c (texts_of h))) old new result) is (usage_leaves old new result writes)
+usage_meets held words old new result is writes = meets held words None old new result is (by held)
+  where
+    by : (o : Option (List ℕ → Option (List ℕ))) → IfSome o (λ h. LeavesAt false (InWrites AtOnce IsUsageLine) old new result)
+    by None = tt
+    by (Some h) = usage_leaves old new result writes
 
 -- no command answers a status of a run that was stopped
-pub never_stopped : (command : Option Command) (status : Status) → IsTrue (is_among (statuses_of command) status) → stop_of status ≡ None
+pub never_stopped : (command : Option Command) (status : Status) → IsTrue (is_among (task_of command).gives status) → stop_of status ≡ None
 never_stopped None ShelfFault among = cc
 never_stopped None SinkFault among = cc
 never_stopped None Memory among = cc
@@ -63,15 +70,20 @@ never_stopped (Some (Bounds topology plan budget)) Memory among = cc
 never_stopped (Some (Resume topology plans left schedule opening)) ShelfFault among = cc
 never_stopped (Some (Resume topology plans left schedule opening)) SinkFault among = cc
 never_stopped (Some (Resume topology plans left schedule opening)) Memory among = cc
+never_stopped (Some (Record topology plans log)) ShelfFault among = cc
+never_stopped (Some (Record topology plans log)) SinkFault among = cc
+never_stopped (Some (Record topology plans log)) Memory among = cc
 never_stopped _ _ among = refl
 
 -- a run that ended
 pub ended_is : (held : Option (List ℕ → Option (List ℕ))) (words : List (List ℕ)) (old new : Option Pieces) (status : Status)
-    → IsTrue (is_among (statuses_of (command_of words)) status) → MeetsResult held words old new (Ok status) → MeetsOutcome held words old new status
+    → IsTrue (is_among (task_of (command_of words)).gives status) → MeetsResult held words old new (Ok status) → MeetsOutcome held words old new status
 unfolding MeetsResult MeetsOutcome
 ended_is None words old new status among meets = tt
 ended_is (Some h) words old new status among meets =
-    subst (λ (why : Option IoError). Leaves why false (InWrites AtOnce (AnswersOf (command_of words) (texts_of h))) old new status)
+    subst
+    (λ (why : Option IoError).
+    Leaves why (task_of (command_of words)).in_steps ((task_of (command_of words)).Writes (texts_of h)) old new status)
     (sym (never_stopped (command_of words) status among)) meets
 
 -- a run that was stopped
@@ -85,7 +97,7 @@ stopped_is (Some h) words old new stop.Memory status is meets = rw is meets
 
 -- the count of a run that ended stays
 pub ended_rises : (words : List (List ℕ)) (status blamed : Status) (why : IoError) (before now : ℕ)
-    → IsTrue (is_among (statuses_of (command_of words)) status) → stop_of blamed ≡ Some why → now ≡ before → RisesFor (status ≡ blamed) before now
+    → IsTrue (is_among (task_of (command_of words)).gives status) → stop_of blamed ≡ Some why → now ≡ before → RisesFor (status ≡ blamed) before now
 ended_rises words status blamed why before now among stops same =
     record {
       later = omega (arith, same);

@@ -39,3 +39,11 @@ module _ (Serves : List ℕ → Type 0) (names : List (List ℕ)) where
 
     pub last_served : Serves last
     last_served = All-head Serves last [] (All-tail Serves name (last ∷ []) others)
+
+  -- so is each in the middle, and the one behind them
+  module _ (first : List ℕ) (middle : List (List ℕ)) (last : List ℕ) (is : first ∷ (middle ++ last ∷ []) ≡ names) (all : All Serves names) where
+    pub inner_served : All Serves middle
+    inner_served = all_before middle (last ∷ []) (behind_first first (middle ++ last ∷ []) is all)
+
+    pub end_served : Serves last
+    end_served = All-head Serves last [] (all_behind middle (last ∷ []) (behind_first first (middle ++ last ∷ []) is all))

@@ -1,5 +1,5 @@
 -- What `search` and `renew` of the second program write and answer for the texts of their files.
-use Rattle.std.specs.Prelude.{◌≡◌, ℕ, List, [], ◌∷◌, not, Option, None, Some, if◌then◌else◌}
+use Rattle.std.specs.Prelude.{◌≡◌, ℕ, List, [], not, Option, None, Some, if◌then◌else◌}
 use Rattle.sd_num.specs.Lists.{has}
 use Rattle.sd_topo.specs.Network.{Network}
 use Rattle.sd_plan.specs.declared.Absent.{Absent}

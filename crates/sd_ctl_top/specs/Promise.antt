@@ -1,7 +1,7 @@
 -- What `run` of the second program promises.
-use Rattle.std.specs.Prelude.{◌≡◌, false, ℕ, List, [], ◌∷◌, map, Option, None, Some, IfSome, Result, codes}
+use Rattle.std.specs.Prelude.{◌≡◌, ℕ, Bool, true, false, List, [], ◌∷◌, map, Option, None, Some, IfSome, Result, codes}
 use Rattle.sd_outside.specs.Pieces.{Pieces}
-use Rattle.sd_cmd_files.specs.Answering.{Allowed, AtOnce, InWrites}
+use Rattle.sd_cmd_files.specs.Answering.{Allowed, AtOnce, InWrites, MayWrite}
 use Rattle.sd_cmd_files.specs.Statuses.{stop_of}
 use Rattle.sd_cmd_files.specs.Texts.{Texts, texts_of}
 use Rattle.sd_cmd_files.specs.declared.Status.{Status}
@@ -9,42 +9,62 @@ use Rattle.sd_cmd_files.specs.declared.Status.TheVariants.{Done, PlanRefused, Us
 use Rattle.sd_cmd_files.specs.declared.command_error.IoError.{IoError}
 use Rattle.sd_cmd_files.specs.work.Ending.{LeavesAt}
 use Rattle.sd_cmd_files.specs.work.Leaving.{Leaves}
+use Rattle.sd_ctl_record.specs.Recordings.{IsRecording}
 use Rattle.sd_ctl_resume.specs.Resumes.{IsResuming}
 use Rattle.sd_ctl_top.specs.Bounded.{IsBounding}
 use Rattle.sd_ctl_top.specs.Findings.{IsRenewing, IsSearch}
 use Rattle.sd_ctl_top.specs.Words.{Command, command_of}
-use Rattle.sd_ctl_top.specs.Words.Command.{Search, Renew, Bounds, Resume}
+use Rattle.sd_ctl_top.specs.Words.Command.{Search, Renew, Bounds, Resume, Record}
 
 -- the usage line, with its status
 abbrev pub IsUsageLine : Allowed
 IsUsageLine bytes status =
     (bytes
-    ≡ codes "usage: sundialctl search TOPOLOGY BASE HOLD SEED STEPS | renew TOPOLOGY PLAN ABSENT BASE HOLD SEED STEPS | bounds TOPOLOGY PLAN BASE HOLD | resume TOPOLOGY PLAN.. SCHEDULE / PLAN.. OPENING\n")
+    ≡ codes "usage: sundialctl search TOPOLOGY BASE HOLD SEED STEPS | renew TOPOLOGY PLAN ABSENT BASE HOLD SEED STEPS | bounds TOPOLOGY PLAN BASE HOLD | resume TOPOLOGY PLAN.. SCHEDULE / PLAN.. OPENING | record TOPOLOGY PLAN.. LOG\n")
     × (status ≡ Usage)
 
--- what a command writes, with its status, over the texts of its files
-abbrev pub AnswersOf : Option Command → Texts → Allowed
-AnswersOf None texts = IsUsageLine
-AnswersOf (Some (Search topology settings)) texts = IsSearch (texts topology)
-AnswersOf (Some (Renew topology plan absent settings)) texts = IsRenewing (texts topology) (texts plan) (texts absent)
-AnswersOf (Some (Bounds topology plan budget)) texts = IsBounding (texts topology) (texts plan) budget
-AnswersOf (Some (Resume topology plans left schedule opening)) texts =
-    IsResuming (texts topology) (map texts plans) left (texts schedule) (texts opening)
+-- what is promised of a command
+pub record Task : Type 1 where
+  -- what it writes, write by write, with its status, over the texts of its files
+  pub Writes : Texts → MayWrite
+  -- the statuses that it answers, whatever its files are
+  pub gives : List Status
+  -- whether it writes step by step; else it writes once, when all of its work is done
+  pub in_steps : Bool
 
--- the statuses that a command answers, whatever its files are
-abbrev pub statuses_of : Option Command → List Status
-statuses_of None = Usage ∷ []
-statuses_of (Some (Search topology settings)) = Done ∷ PlanRefused ∷ InputRefused ∷ []
-statuses_of (Some (Renew topology plan absent settings)) = Done ∷ PlanRefused ∷ InputRefused ∷ []
-statuses_of (Some (Bounds topology plan budget)) = Done ∷ PlanRefused ∷ InputRefused ∷ []
-statuses_of (Some (Resume topology plans left schedule opening)) = Done ∷ PlanRefused ∷ InputRefused ∷ Broken ∷ []
+-- a command that writes once, when its files are read whole
+abbrev pub once : List Status → (Texts → Allowed) → Task
+once statuses Answers = record { Writes = λ texts. InWrites AtOnce (Answers texts); gives = statuses; in_steps = false }
 
--- what a run wrote over what the shelf holds, where that is told, is what its command writes, by one write; and nothing where it was stopped before
+-- a command that reads its last file line by line, and writes as it goes
+abbrev pub line_by_line : List Status → (Texts → MayWrite) → Task
+line_by_line statuses Writes = record { Writes = Writes; gives = statuses; in_steps = true }
+
+-- each command, and words that are none
+abbrev pub task_of : Option Command → Task
+task_of None = once (Usage ∷ []) (λ texts. IsUsageLine)
+task_of (Some (Search topology settings)) = once (Done ∷ PlanRefused ∷ InputRefused ∷ []) (λ texts. IsSearch (texts topology))
+task_of (Some (Renew topology plan absent settings)) =
+    once (Done ∷ PlanRefused ∷ InputRefused ∷ []) (λ texts. IsRenewing (texts topology) (texts plan) (texts absent))
+task_of (Some (Bounds topology plan budget)) =
+    once (Done ∷ PlanRefused ∷ InputRefused ∷ []) (λ texts. IsBounding (texts topology) (texts plan) budget)
+task_of (Some (Resume topology plans left schedule opening)) =
+    once (Done ∷ PlanRefused ∷ InputRefused ∷ Broken ∷ [])
+    (λ texts. IsResuming (texts topology) (map texts plans) left (texts schedule) (texts opening))
+task_of (Some (Record topology plans log)) =
+    line_by_line (Done ∷ PlanRefused ∷ InputRefused ∷ []) (λ texts. IsRecording (texts topology) (map texts plans) (texts log))
+
+-- what a run wrote, with its status, is what the task allows
+abbrev pub Meets : Task → Texts → Option Pieces → Option Pieces → Status → Type 0
+Meets task texts old new status = Leaves (stop_of status) task.in_steps (task.Writes texts) old new status
+
+-- What a run wrote over what the shelf holds, where that is told, is what its command writes. Where it was stopped before, one that writes once has written
+-- nothing, and one that writes step by step the whole lines of its first steps.
 unfoldable pub MeetsOutcome : Option (List ℕ → Option (List ℕ)) → List (List ℕ) → Option Pieces → Option Pieces → Status → Type 0
-MeetsOutcome held words old new status =
-    IfSome held (λ h. Leaves (stop_of status) false (InWrites AtOnce (AnswersOf (command_of words) (texts_of h))) old new status)
+MeetsOutcome held words old new status = IfSome held (λ h. Meets (task_of (command_of words)) (texts_of h) old new status)
 
 -- the same of a run that has not yet turned what stopped it into a status
 unfoldable pub MeetsResult : Option (List ℕ → Option (List ℕ)) → List (List ℕ) → Option Pieces → Option Pieces → Result Status IoError → Type 0
 MeetsResult held words old new result =
-    IfSome held (λ h. LeavesAt false (InWrites AtOnce (AnswersOf (command_of words) (texts_of h))) old new result)
+    IfSome held
+    (λ h. LeavesAt (task_of (command_of words)).in_steps ((task_of (command_of words)).Writes (texts_of h)) old new result)

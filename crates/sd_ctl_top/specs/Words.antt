@@ -13,6 +13,7 @@ pub data Command : Type 0 where
   Renew : (topology plan absent : List ℕ) (settings : Settings) → Command
   Bounds : (topology plan : List ℕ) (budget : Budget) → Command
   Resume : (topology : List ℕ) (plans : List (List ℕ)) (left : ℕ) (schedule opening : List ℕ) → Command
+  Record : (topology : List ℕ) (plans : List (List ℕ)) (log : List ℕ) → Command
 
 -- the number that was read, where it is not above the greatest
 abbrev pub if_at_most : ℕ → Result ℕ NumFault → Option ℕ
@@ -120,6 +121,16 @@ abbrev pub resume_of : List (List ℕ) → Option Command
 resume_of [] = None
 resume_of (topology ∷ others) = resume_at topology others (slash_from 0 others)
 
+-- the recording over a topology, of the words for its plans, of which there are 1 to 64, and for its log
+abbrev pub record_over : List ℕ → List (List ℕ) → Option Command
+record_over topology words =
+    if nat_lt (length words) 2 || nat_lt 65 (length words) then None else Some (Record topology (all_but_last words) (last_word words))
+
+-- the recording with all of the words
+abbrev pub record_of : List (List ℕ) → Option Command
+record_of [] = None
+record_of (topology ∷ others) = record_over topology others
+
 -- the command of the words, if they are in the table
 abbrev pub command_of : List (List ℕ) → Option Command
 command_of [] = None
@@ -128,6 +139,7 @@ command_of (word ∷ others) =
     else if bytes_eq word (codes "renew") then renewal_of others
     else if bytes_eq word (codes "bounds") then bounds_of others
     else if bytes_eq word (codes "resume") then resume_of others
+    else if bytes_eq word (codes "record") then record_of others
     else None
 
 -- the names of the files that a command reads, in the order of its work
@@ -137,3 +149,4 @@ names_of (Some (Search topology settings)) = topology ∷ []
 names_of (Some (Renew topology plan absent settings)) = topology ∷ plan ∷ absent ∷ []
 names_of (Some (Bounds topology plan budget)) = topology ∷ plan ∷ []
 names_of (Some (Resume topology plans left schedule opening)) = topology ∷ (plans ++ schedule ∷ opening ∷ [])
+names_of (Some (Record topology plans log)) = topology ∷ (plans ++ log ∷ [])

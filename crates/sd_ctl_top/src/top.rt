@@ -4,7 +4,7 @@ ghost use Rattle.sd_outside.specs.Causes.{RisesFor, Rose};
 ghost use Rattle.sd_outside.specs.Shelves.{KeepsShelf};
 ghost use Rattle.sd_cmd_files.specs.Statuses.{is_among, stop_of};
 ghost use Rattle.sd_cmd_files.specs.Writes.{WritesOnce};
-ghost use Rattle.sd_ctl_top.specs.Promise.{IsUsageLine, MeetsOutcome, MeetsResult, statuses_of};
+ghost use Rattle.sd_ctl_top.specs.Promise.{IsUsageLine, MeetsOutcome, MeetsResult, task_of};
 ghost use Rattle.sd_ctl_top.specs.Words as meaning;
 ghost use Rattle.sd_ctl_top.specs.Words.{names_of};
 
@@ -13,6 +13,7 @@ use crate::renewal::{RenewalFiles, renewal_answer};
 use crate::whole::whole_answer;
 use crate::words::{Command, command_of};
 use sd_cmd_files::{IoError, Status, write_answer};
+use sd_ctl_record::record_files;
 use sd_ctl_resume::resume;
 use sd_outside::{Shelf, Sink};
 use std::alloc::Global;
@@ -20,7 +21,7 @@ use std::alloc::Global;
 /// Does the work of the words that follow the program's name, and answers how it ended.
 ///
 /// The files that the words name are begun on the shelf, and what is printed goes to the sink by one
-/// write.
+/// write, or, of a recording, each step by one.
 pub fn run<S: Shelf, O: Sink>(alloc: Global, words: &[String], shelf: &mut S, out: &mut O) -> Status
     requires fresh { S.begun shelf.old ≡ false }
     requires serves { All (λ name. IsTrue (S.serves shelf.old name))
@@ -29,7 +30,8 @@ pub fn run<S: Shelf, O: Sink>(alloc: Global, words: &[String], shelf: &mut S, ou
     // Over a shelf that tells its texts: what the words write and answer. A plan is printed only
     // where the checker accepts it, and it leaves out just what is absent. No plan is printed only
     // where the checker refuses the greedy one too: what `sundial plan` prints, or `sundial renew`.
-    // It is printed that an opening agrees only where all later events are the same behind both.
+    // It is printed that an opening agrees only where all later events are the same behind both. Of
+    // a recording each line of the log has its lines of the schedule by one write.
     ensures outcome { MeetsOutcome (S.held shelf.old) (map string_bytes words.now)
         (O.written out.old) (O.written out.new) result }
 
@@ -37,7 +39,7 @@ pub fn run<S: Shelf, O: Sink>(alloc: Global, words: &[String], shelf: &mut S, ou
     // outside is blamed only where it failed in this call. Any other answer, out of memory too, is
     // given only where it did not fail.
     ensures gives { stop_of result ≡ None
-        → IsTrue (is_among (statuses_of (meaning.command_of (map string_bytes words.now)))
+        → IsTrue (is_among (task_of (meaning.command_of (map string_bytes words.now))).gives
         result) }
     ensures usage { meaning.command_of (map string_bytes words.now) ≡ None
         → (result ≡ Status.Usage) ⊎ (result ≡ Status.SinkFault) }
@@ -67,7 +69,7 @@ fn perform<S: Shelf, O: Sink>(
         (O.written out.old) (O.written out.new) result }
     ensures gives { IfOk result
         (λ status. IsTrue
-        (is_among (statuses_of (meaning.command_of (map string_bytes words.now))) status)) }
+        (is_among (task_of (meaning.command_of (map string_bytes words.now))).gives status)) }
     ensures usage { meaning.command_of (map string_bytes words.now) ≡ None
         → (result ≡ Ok Status.Usage) ⊎ (result ≡ Err IoError.Sink) }
     ensures shelf { KeepsShelf S.Shelf (result ≡ Err IoError.Shelf) shelf.old shelf.new }
@@ -108,6 +110,7 @@ fn perform<S: Shelf, O: Sink>(
             let made = resume(alloc, shelf, files);
             write_answer(alloc, &made, out)
         }
+        Some(Command::Record { files }) => record_files(alloc, shelf, files, out),
         None => usage(out),
     }
 }
@@ -119,7 +122,7 @@ fn usage<O: Sink>(out: &mut O) -> Result<Status, IoError>
     ensures sink { RisesFor (result ≡ Err IoError.Sink) (O.faults out.old) (O.faults out.new) }
 {
     match out.write(
-        b"usage: sundialctl search TOPOLOGY BASE HOLD SEED STEPS | renew TOPOLOGY PLAN ABSENT BASE HOLD SEED STEPS | bounds TOPOLOGY PLAN BASE HOLD | resume TOPOLOGY PLAN.. SCHEDULE / PLAN.. OPENING\n",
+        b"usage: sundialctl search TOPOLOGY BASE HOLD SEED STEPS | renew TOPOLOGY PLAN ABSENT BASE HOLD SEED STEPS | bounds TOPOLOGY PLAN BASE HOLD | resume TOPOLOGY PLAN.. SCHEDULE / PLAN.. OPENING | record TOPOLOGY PLAN.. LOG\n",
     ) {
         Ok(()) => Ok(Status::Usage),
         Err(_) => Err(IoError::Sink),

@@ -1,10 +1,11 @@
 //! What the words of the second program mean.
-ghost use Rattle.std.specs.Prelude.{◌≡◌, ◌≤◌, ◌<◌, ◌^◌, Some, drop, length, map, option_map, string_bytes, take, IfSome};
+ghost use Rattle.std.specs.Prelude.{◌≡◌, ◌≤◌, ◌<◌, ◌+◌, ◌^◌, Some, drop, length, map, option_map, string_bytes, take, IfSome};
 ghost use Rattle.std.specs.Str.{bytes_eq};
 ghost use Rattle.sd_ctl_search.specs.Drill.Budgets.{IsBudget};
 ghost use Rattle.sd_ctl_top.specs.Parsed.{IsGranted, named};
 ghost use Rattle.sd_ctl_top.specs.Words as meaning;
 
+use sd_ctl_record::RecordFiles;
 use sd_ctl_resume::Files;
 use sd_ctl_search::Settings;
 use sd_ctl_search::drill::Budget;
@@ -31,9 +32,12 @@ pub(crate) enum Command<'w> {
     Resume {
         files: Files<'w>,
     },
+    Record {
+        files: RecordFiles<'w>,
+    },
 }
 
-/// How many plans a schedule has at most.
+/// How many plans a schedule or a log has at most.
 const MOST_PLANS: usize = 64;
 
 /// The number of a word, up to the greatest.
@@ -240,7 +244,9 @@ fn words_from(words: &[String], place: usize) -> &[String]
 /// All words but the last.
 fn all_but_last(words: &[String]) -> &[String]
     requires { 1 ≤ length words.now }
-    ensures { map string_bytes result.now ≡ meaning.all_but_last (map string_bytes words.now) }
+    ensures are { map string_bytes result.now
+        ≡ meaning.all_but_last (map string_bytes words.now) }
+    ensures count { length result.now + 1 ≡ length words.now }
 {
     words_to(words, words.len() - 1)
 }
@@ -342,6 +348,37 @@ fn resume_of(words: &[String]) -> Option<Command<'_>>
     resume_among(topology.as_str(), others)
 }
 
+/// The recording over a topology, of the words for its plans and its log.
+fn record_over<'w>(topology: &'w str, words: &'w [String]) -> Option<Command<'w>>
+    ensures is { option_map named result
+        ≡ meaning.record_over topology.now (map string_bytes words.now) }
+    ensures granted { IfSome result IsGranted }
+{
+    if words.len() < 2 {
+        return None;
+    }
+    if words.len() > MOST_PLANS + 1 {
+        return None;
+    }
+    let files = RecordFiles {
+        topology,
+        plans: all_but_last(words),
+        log: last_word(words),
+    };
+    Some(Command::Record { files })
+}
+
+/// The recording of the words for a topology and what follows.
+fn record_of(words: &[String]) -> Option<Command<'_>>
+    ensures is { option_map named result ≡ meaning.record_of (map string_bytes words.now) }
+    ensures granted { IfSome result IsGranted }
+{
+    let [topology, others @ ..] = words else {
+        return None;
+    };
+    record_over(topology.as_str(), others)
+}
+
 /// The command of the words, if they are in the table.
 pub(crate) fn command_of(words: &[String]) -> Option<Command<'_>>
     ensures is { option_map named result ≡ meaning.command_of (map string_bytes words.now) }
@@ -358,6 +395,8 @@ pub(crate) fn command_of(words: &[String]) -> Option<Command<'_>>
         bounds_of(others)
     } else if word.as_str() == "resume" {
         resume_of(others)
+    } else if word.as_str() == "record" {
+        record_of(others)
     } else {
         None
     }

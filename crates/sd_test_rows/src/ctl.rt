@@ -8,12 +8,13 @@ use std::process::Abort;
 use std::test::Fail;
 
 mod bounds;
+mod recording;
 mod resume;
 mod searches;
 
 /// What is written for words that are no command's.
 const USAGE: &str =
-    "usage: sundialctl search TOPOLOGY BASE HOLD SEED STEPS | renew TOPOLOGY PLAN ABSENT BASE HOLD SEED STEPS | bounds TOPOLOGY PLAN BASE HOLD | resume TOPOLOGY PLAN.. SCHEDULE / PLAN.. OPENING\n";
+    "usage: sundialctl search TOPOLOGY BASE HOLD SEED STEPS | renew TOPOLOGY PLAN ABSENT BASE HOLD SEED STEPS | bounds TOPOLOGY PLAN BASE HOLD | resume TOPOLOGY PLAN.. SCHEDULE / PLAN.. OPENING | record TOPOLOGY PLAN.. LOG\n";
 
 /// A run of words over texts. The calls of the shelf that are listed fail, and so do the writes.
 fn run_over(
@@ -46,7 +47,7 @@ fn assert_writes(
 
 #[test]
 fn other_words_are_usage(rt: HostRuntime) -> Result<(), Fail> {
-    let cases: [&[&str]; 15] = [
+    let cases: [&[&str]; 18] = [
         &[],
         &["plan", "topology"],
         &["search", "topology", "1", "1", "1"],
@@ -56,6 +57,9 @@ fn other_words_are_usage(rt: HostRuntime) -> Result<(), Fail> {
         &["bounds", "topology", "plan", "1"],
         &["bounds", "topology", "plan", "1", "1", "1"],
         &["bounds", "topology", "plan", "1", "1152921504606846977"],
+        &["record"],
+        &["record", "topology"],
+        &["record", "topology", "log"],
         &["resume"],
         &["resume", "topology", "plan", "schedule", "opening"],
         &["resume", "topology", "schedule", "/", "opening"],

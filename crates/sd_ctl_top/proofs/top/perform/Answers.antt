@@ -1,12 +1,15 @@
-use Rattle.std.proofs.Common.{[], ◌∷◌, ◌++◌, ◌≡◌, List, ℕ, None, Some, ap, map, string_bytes, sym, ◌∙◌}
+use Rattle.std.proofs.Common.{[], ◌∷◌, ◌++◌, Some, ap, map, string_bytes, sym, ◌∙◌}
 use Rattle.std.specs.Prelude.{IsTrue}
 use Rattle.sd_cmd_files.proofs.Keeping.{keeps_for}
+use Rattle.sd_ctl_resume.specs.Resumes.{IsResuming}
+use Rattle.sd_ctl_top.specs.Bounded.{IsBounding}
+use Rattle.sd_ctl_top.specs.Findings.{IsRenewing, IsSearch}
 use Rattle.sd_ctl_top.specs.Parsed.{named}
 use Rattle.sd_ctl_top.specs.Words.{command_of, names_of}
-use Rattle.sd_ctl_top.specs.Words.Command.{Search, Renew, Bounds, Resume}
+use Rattle.sd_ctl_top.specs.Words.Command.{Search, Renew, Bounds, Resume, Record}
 use Rattle.sd_ctl_top.specs.declared.words.Command.{Command as Parsed}
-use Rattle.sd_ctl_top.proofs.Meeting.{made_meets, usage_meets}
-use Rattle.sd_ctl_top.proofs.Served.{first_served, last_served, middle_served, name_served, second_served, third_served}
+use Rattle.sd_ctl_top.proofs.Meeting.{made_once, meets, usage_meets}
+use Rattle.sd_ctl_top.proofs.Served.{end_served, first_served, inner_served, last_served, middle_served, name_served, second_served, third_served}
 use Rattle.sd_ctl_top.proofs.top.perform.Goals as goal
 
 pub whole_answer-made-requires-clause-topology : goal.whole_answer-made-requires-clause-topology
@@ -17,10 +20,10 @@ whole_answer-made-requires-clause-topology g c =
 
 pub returns-in-Some-Search-clause-outcome : goal.returns-in-Some-Search-clause-outcome
 returns-in-Some-Search-clause-outcome g c =
-    made_meets _ _ (Some (Search c.in-Some-Search.topology.now c.in-Some-Search.settings))
-    c.whole_answer-made.result _ _ _
-    (ap (λ (x : Parsed). Some (named x)) (sym c.in-Some-Search.field-0-is) ∙ c.in-Some-Search.ensures.is) c.whole_answer-made.ensures.makes
-    c.write_answer.ensures.writes
+    meets _ _ (Some (Search c.in-Some-Search.topology.now c.in-Some-Search.settings)) _ _ _
+    (ap (λ (x : Parsed). Some (named x)) (sym c.in-Some-Search.field-0-is) ∙ c.in-Some-Search.ensures.is)
+    (made_once _ (λ texts. IsSearch (texts c.in-Some-Search.topology.now)) c.whole_answer-made.result _ _ _ c.whole_answer-made.ensures.makes
+    c.write_answer.ensures.writes)
 
 pub returns-in-Some-Search-clause-shelf : goal.returns-in-Some-Search-clause-shelf
 returns-in-Some-Search-clause-shelf g c =
@@ -46,10 +49,11 @@ renewal_answer-made-requires-clause-absent g c =
 
 pub returns-in-Some-Renew-clause-outcome : goal.returns-in-Some-Renew-clause-outcome
 returns-in-Some-Renew-clause-outcome g c =
-    made_meets _ _ (Some (Renew c.in-Some-Renew.topology.now c.in-Some-Renew.plan.now c.in-Some-Renew.absent.now c.in-Some-Renew.settings))
-    c.renewal_answer-made.result _ _ _
-    (ap (λ (x : Parsed). Some (named x)) (sym c.in-Some-Renew.field-0-is) ∙ c.in-Some-Renew.ensures.is) c.renewal_answer-made.ensures.makes
-    c.write_answer-in-Some-Renew.ensures.writes
+    meets _ _ (Some (Renew c.in-Some-Renew.topology.now c.in-Some-Renew.plan.now c.in-Some-Renew.absent.now c.in-Some-Renew.settings)) _ _ _
+    (ap (λ (x : Parsed). Some (named x)) (sym c.in-Some-Renew.field-0-is) ∙ c.in-Some-Renew.ensures.is)
+    (made_once _
+    (λ texts. IsRenewing (texts c.in-Some-Renew.topology.now) (texts c.in-Some-Renew.plan.now) (texts c.in-Some-Renew.absent.now))
+    c.renewal_answer-made.result _ _ _ c.renewal_answer-made.ensures.makes c.write_answer-in-Some-Renew.ensures.writes)
 
 pub returns-in-Some-Renew-clause-shelf : goal.returns-in-Some-Renew-clause-shelf
 returns-in-Some-Renew-clause-shelf g c =
@@ -69,10 +73,10 @@ bounds_answer-made-requires-clause-plan g c =
 
 pub returns-in-Some-Bounds-clause-outcome : goal.returns-in-Some-Bounds-clause-outcome
 returns-in-Some-Bounds-clause-outcome g c =
-    made_meets _ _ (Some (Bounds c.in-Some-Bounds.topology.now c.in-Some-Bounds.plan.now c.in-Some-Bounds.budget))
-    c.bounds_answer-made.result _ _ _
-    (ap (λ (x : Parsed). Some (named x)) (sym c.in-Some-Bounds.field-0-is) ∙ c.in-Some-Bounds.ensures.is) c.bounds_answer-made.ensures.makes
-    c.write_answer-in-Some-Bounds.ensures.writes
+    meets _ _ (Some (Bounds c.in-Some-Bounds.topology.now c.in-Some-Bounds.plan.now c.in-Some-Bounds.budget)) _ _ _
+    (ap (λ (x : Parsed). Some (named x)) (sym c.in-Some-Bounds.field-0-is) ∙ c.in-Some-Bounds.ensures.is)
+    (made_once _ (λ texts. IsBounding (texts c.in-Some-Bounds.topology.now) (texts c.in-Some-Bounds.plan.now) c.in-Some-Bounds.budget)
+    c.bounds_answer-made.result _ _ _ c.bounds_answer-made.ensures.makes c.write_answer-in-Some-Bounds.ensures.writes)
 
 pub returns-in-Some-Bounds-clause-shelf : goal.returns-in-Some-Bounds-clause-shelf
 returns-in-Some-Bounds-clause-shelf g c =
@@ -109,13 +113,40 @@ resume-made-requires-clause-opening g c =
 pub returns-in-Some-Resume-clause-outcome : goal.returns-in-Some-Resume-clause-outcome
 returns-in-Some-Resume-clause-outcome g c =
     let files = c.in-Some-Resume.files in
-    made_meets _ _ (Some (Resume files.topology.now (map string_bytes files.plans.now) files.left files.schedule.now files.opening.now)) c.resume-made.result _ _ _
-    (ap (λ (x : Parsed). Some (named x)) (sym c.in-Some-Resume.field-0-is) ∙ c.in-Some-Resume.ensures.is) c.resume-made.ensures.makes
-    c.write_answer-in-Some-Resume.ensures.writes
+    meets _ _ (Some (Resume files.topology.now (map string_bytes files.plans.now) files.left files.schedule.now files.opening.now)) _ _ _
+    (ap (λ (x : Parsed). Some (named x)) (sym c.in-Some-Resume.field-0-is) ∙ c.in-Some-Resume.ensures.is)
+    (made_once _
+    (λ texts.
+    IsResuming (texts files.topology.now) (map texts (map string_bytes files.plans.now)) files.left (texts files.schedule.now) (texts files.opening.now))
+    c.resume-made.result _ _ _ c.resume-made.ensures.makes c.write_answer-in-Some-Resume.ensures.writes)
 
 pub returns-in-Some-Resume-clause-shelf : goal.returns-in-Some-Resume-clause-shelf
 returns-in-Some-Resume-clause-shelf g c =
     keeps_for g.S.Shelf _ _ _ _ c.write_answer-in-Some-Resume.ensures.shelf.1 c.write_answer-in-Some-Resume.ensures.shelf.0 c.resume-made.ensures.shelf
+
+pub record_files-requires-clause-topology : goal.record_files-requires-clause-topology
+record_files-requires-clause-topology g c =
+    first_served (λ name. IsTrue (g.S.Shelf.serves c.args.shelf.now name)) (names_of (command_of (map string_bytes c.args.words.now)))
+    c.in-Some-Record.files.topology.now (map string_bytes c.in-Some-Record.files.plans.now ++ c.in-Some-Record.files.log.now ∷ [])
+    (ap names_of (ap (λ (x : Parsed). Some (named x)) (sym c.in-Some-Record.field-0-is) ∙ c.in-Some-Record.ensures.is)) c.requires
+
+pub record_files-requires-clause-plans : goal.record_files-requires-clause-plans
+record_files-requires-clause-plans g c =
+    inner_served (λ name. IsTrue (g.S.Shelf.serves c.args.shelf.now name)) (names_of (command_of (map string_bytes c.args.words.now)))
+    c.in-Some-Record.files.topology.now (map string_bytes c.in-Some-Record.files.plans.now) c.in-Some-Record.files.log.now
+    (ap names_of (ap (λ (x : Parsed). Some (named x)) (sym c.in-Some-Record.field-0-is) ∙ c.in-Some-Record.ensures.is)) c.requires
+
+pub record_files-requires-clause-log : goal.record_files-requires-clause-log
+record_files-requires-clause-log g c =
+    end_served (λ name. IsTrue (g.S.Shelf.serves c.args.shelf.now name)) (names_of (command_of (map string_bytes c.args.words.now)))
+    c.in-Some-Record.files.topology.now (map string_bytes c.in-Some-Record.files.plans.now) c.in-Some-Record.files.log.now
+    (ap names_of (ap (λ (x : Parsed). Some (named x)) (sym c.in-Some-Record.field-0-is) ∙ c.in-Some-Record.ensures.is)) c.requires
+
+pub returns-in-Some-Record-clause-outcome : goal.returns-in-Some-Record-clause-outcome
+returns-in-Some-Record-clause-outcome g c =
+    let files = c.in-Some-Record.files in
+    meets _ _ (Some (Record files.topology.now (map string_bytes files.plans.now) files.log.now)) _ _ _
+    (ap (λ (x : Parsed). Some (named x)) (sym c.in-Some-Record.field-0-is) ∙ c.in-Some-Record.ensures.is) c.record_files.ensures.outcome
 
 pub returns-in-None-clause-outcome : goal.returns-in-None-clause-outcome
 returns-in-None-clause-outcome g c = usage_meets _ _ _ _ _ c.in-None.ensures.is c.usage.ensures.outcome

@@ -12,5 +12,5 @@ pub returns-clause-is : goal.returns-clause-is
 returns-clause-is c =
     c.resume_over.ensures.is
     ∙ over_parts string_bytes c.args.topology.now c.args.before.now c.args.behind.now (map string_bytes c.all_but_last.result.now) c.last_word.result.now
-    (map string_bytes c.all_but_last-2.result.now) c.last_word-2.result.now (omega arith) (omega arith) c.all_but_last.ensures c.last_word.ensures
-    c.all_but_last-2.ensures c.last_word-2.ensures
+    (map string_bytes c.all_but_last-2.result.now) c.last_word-2.result.now (omega arith) (omega arith) c.all_but_last.ensures.are c.last_word.ensures
+    c.all_but_last-2.ensures.are c.last_word-2.ensures
