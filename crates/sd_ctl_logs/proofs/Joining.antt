@@ -3,9 +3,7 @@ use Rattle.std.specs.Prelude.{◌≡◌, ℕ, ◌+◌, ◌<◌, ◌≤◌, Bool,
 use Rattle.std.proofs.Common.{arith, append_assoc, sym, ◌∙◌, ap}
 use Rattle.std.proofs.lemmas.List.{drop-drop, drop_all, drop_more}
 use Rattle.sd_sched.specs.Num.Lists.{leading}
-use Rattle.sd_ctl_logs.specs.Entries.{reference_in}
 use Rattle.sd_ctl_logs.specs.Merging.{comes_before, earlier_than, merge, merge_all}
-use Rattle.sd_ctl_logs.specs.declared.merging.Logged.{Logged}
 
 -- what leads a list is its front
 take_leading : {A : Type 0} (test : A → Bool) (xs : List A) → take (length (leading test xs)) xs ≡ leading test xs
@@ -51,46 +49,47 @@ pub all_lead : {A : Type 0} (test : A → Bool) (xs : List A) (i n : ℕ) → le
 all_lead test xs i n past before =
     let front : length (leading test (drop i xs)) ≡ 0 = ap (λ ys. length (leading test ys)) (drop_all i xs past) in omega (arith, front, before)
 
--- one entry of the first log more
-pub one_more : (first merged left whole : List Logged) (i : ℕ) (d : Logged) → i < length first → merged ++ merge (drop i first) left ≡ whole
-    → ((merged ++ take (length (earlier_than (get_or first i d) left)) left) ++ get_or first i d ∷ [])
-    ++ merge (drop (i + 1) first) (drop (length (earlier_than (get_or first i d) left)) left) ≡ whole
-one_more first merged left whole i d within before =
-    let x = get_or first i d in
-    let rest = merge (drop (i + 1) first) (drop (length (earlier_than x left)) left) in
-    append_assoc (merged ++ take (length (earlier_than x left)) left) (x ∷ []) rest
-    ∙ append_assoc merged (take (length (earlier_than x left)) left) (x ∷ rest)
-    ∙ ap (λ ys. merged ++ (ys ++ x ∷ rest)) (take_leading (comes_before (reference_in x.entry)) left)
-    ∙ sym (ap (λ ys. merged ++ merge ys left) (drop_more first i d within)) ∙ before
+module _ {A : Type 0} (at : A → ℕ) where
+  -- one entry of the first log more
+  pub one_more : (first merged left whole : List A) (i : ℕ) (d : A) → i < length first → merged ++ merge at (drop i first) left ≡ whole
+      → ((merged ++ take (length (earlier_than at (get_or first i d) left)) left) ++ get_or first i d ∷ [])
+      ++ merge at (drop (i + 1) first) (drop (length (earlier_than at (get_or first i d) left)) left) ≡ whole
+  one_more first merged left whole i d within before =
+      let x = get_or first i d in
+      let rest = merge at (drop (i + 1) first) (drop (length (earlier_than at x left)) left) in
+      append_assoc (merged ++ take (length (earlier_than at x left)) left) (x ∷ []) rest
+      ∙ append_assoc merged (take (length (earlier_than at x left)) left) (x ∷ rest)
+      ∙ ap (λ ys. merged ++ (ys ++ x ∷ rest)) (take_leading (comes_before at (at x)) left)
+      ∙ sym (ap (λ ys. merged ++ merge at ys left) (drop_more first i d within)) ∙ before
 
--- nothing of the first log is left
-pub at_last : (first merged left whole : List Logged) (i : ℕ) → length first ≤ i → merged ++ merge (drop i first) left ≡ whole → merged ++ left ≡ whole
-at_last first merged left whole i past before = sym (ap (λ ys. merged ++ merge ys left) (drop_all i first past)) ∙ before
+  -- nothing of the first log is left
+  pub at_last : (first merged left whole : List A) (i : ℕ) → length first ≤ i → merged ++ merge at (drop i first) left ≡ whole → merged ++ left ≡ whole
+  at_last first merged left whole i past before = sym (ap (λ ys. merged ++ merge at ys left) (drop_all i first past)) ∙ before
 
--- one log more, in front of those that were merged
-pub log_in_front : {V : Type 0} (items : V → List Logged) (logs : List V) (i : ℕ) (d : V) (merged before : List Logged) → i < length logs
-    → before ≡ merge_all (map items (drop (i + 1) logs))
-    → merged ≡ merge (items (get_or logs i d)) before
-    → merged ≡ merge_all (map items (drop i logs))
-log_in_front items logs i d merged before within is one =
-    one ∙ ap (merge (items (get_or logs i d))) is ∙ sym (ap (λ vs. merge_all (map items vs)) (drop_more logs i d within))
+  -- one log more, in front of those that were merged
+  pub log_in_front : {V : Type 0} (items : V → List A) (logs : List V) (i : ℕ) (d : V) (merged before : List A) → i < length logs
+      → before ≡ merge_all at (map items (drop (i + 1) logs))
+      → merged ≡ merge at (items (get_or logs i d)) before
+      → merged ≡ merge_all at (map items (drop i logs))
+  log_in_front items logs i d merged before within is one =
+      one ∙ ap (merge at (items (get_or logs i d))) is ∙ sym (ap (λ vs. merge_all at (map items vs)) (drop_more logs i d within))
 
--- the same, as it is taken
-pub one_taken : (first second merged front new whole rest : List Logged) (i taken count : ℕ) (d : Logged) → i < length first
-    → merged ++ merge (drop i first) (drop taken second) ≡ whole
-    → rest ≡ drop taken second
-    → count ≡ length (earlier_than (get_or first i d) rest)
-    → front ≡ merged ++ take count rest
-    → new ≡ front ++ get_or first i d ∷ []
-    → new ++ merge (drop (i + 1) first) (drop (taken + count) second) ≡ whole
-one_taken first second merged front new whole rest i taken count d within before is many front_is new_is =
-    let x = get_or first i d in
-    let left = drop taken second in
-    let number : count ≡ length (earlier_than x left) = many ∙ ap (λ ys. length (earlier_than x ys)) is in
-    let joined : front ≡ merged ++ take (length (earlier_than x left)) left =
-    front_is ∙ ap (λ ys. merged ++ take count ys) is ∙ ap (λ (n : ℕ). merged ++ take n left) number in
-    let tail : drop (taken + count) second ≡ drop (length (earlier_than x left)) left =
-    ap (λ (n : ℕ). drop (taken + n) second) number ∙ sym (drop-drop (length (earlier_than x left)) taken second) in
-    ap (λ ys. ys ++ merge (drop (i + 1) first) (drop (taken + count) second)) (new_is ∙ ap (λ ys. ys ++ x ∷ []) joined)
-    ∙ ap (λ zs. ((merged ++ take (length (earlier_than x left)) left) ++ x ∷ []) ++ merge (drop (i + 1) first) zs) tail
-    ∙ one_more first merged left whole i d within before
+  -- the same, as it is taken
+  pub one_taken : (first second merged front new whole rest : List A) (i taken count : ℕ) (d : A) → i < length first
+      → merged ++ merge at (drop i first) (drop taken second) ≡ whole
+      → rest ≡ drop taken second
+      → count ≡ length (earlier_than at (get_or first i d) rest)
+      → front ≡ merged ++ take count rest
+      → new ≡ front ++ get_or first i d ∷ []
+      → new ++ merge at (drop (i + 1) first) (drop (taken + count) second) ≡ whole
+  one_taken first second merged front new whole rest i taken count d within before is many front_is new_is =
+      let x = get_or first i d in
+      let left = drop taken second in
+      let number : count ≡ length (earlier_than at x left) = many ∙ ap (λ ys. length (earlier_than at x ys)) is in
+      let joined : front ≡ merged ++ take (length (earlier_than at x left)) left =
+      front_is ∙ ap (λ ys. merged ++ take count ys) is ∙ ap (λ (n : ℕ). merged ++ take n left) number in
+      let tail : drop (taken + count) second ≡ drop (length (earlier_than at x left)) left =
+      ap (λ (n : ℕ). drop (taken + n) second) number ∙ sym (drop-drop (length (earlier_than at x left)) taken second) in
+      ap (λ ys. ys ++ merge at (drop (i + 1) first) (drop (taken + count) second)) (new_is ∙ ap (λ ys. ys ++ x ∷ []) joined)
+      ∙ ap (λ zs. ((merged ++ take (length (earlier_than at x left)) left) ++ x ∷ []) ++ merge at (drop (i + 1) first) zs) tail
+      ∙ one_more first merged left whole i d within before

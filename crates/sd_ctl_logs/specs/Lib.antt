@@ -3,3 +3,4 @@ pub mod Entries
 pub mod Then
 pub mod Lines
 pub mod Merging
+pub mod Reasons

@@ -15,9 +15,11 @@
 mod entries;
 mod merging;
 mod reading;
+mod reasons;
 
 pub use merging::{Logged, merge, merge_all};
-pub use reading::read_entry;
+pub use reading::{TakenNumber, read_entry, take_number};
+pub use reasons::print_line_fault;
 pub use sd_sched::{Event, LineFault};
 
 /// A message as a log names it.

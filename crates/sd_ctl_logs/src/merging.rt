@@ -2,7 +2,7 @@
 ghost use Rattle.std.specs.Prelude.{◌≡◌, ◌≤◌, ◌++◌, [], ◌∷◌, drop, length, map, All, IfOk, OnOk};
 ghost use Rattle.sd_num.specs.Lists.{leading};
 ghost use Rattle.sd_ctl_logs.specs.Merging as words;
-ghost use Rattle.sd_ctl_logs.specs.Merging.{IsMerge, IsWithin, comes_before};
+ghost use Rattle.sd_ctl_logs.specs.Merging.{IsMerge, IsWithin, comes_before, logged_at};
 
 use crate::Entry;
 use sd_num::NoMemory;
@@ -20,7 +20,7 @@ pub struct Logged {
 
 /// How many entries at the front of a log come before a reference.
 fn count_before(log: &[Logged], reference: u64) -> usize
-    ensures count { result ≡ length (leading (comes_before reference) log.now) }
+    ensures count { result ≡ length (leading (comes_before logged_at reference) log.now) }
     ensures within { result ≤ length log.now }
 {
     for place in 0..log.len() {
@@ -62,8 +62,8 @@ fn rest_of(log: &[Logged], from: usize) -> &[Logged]
 /// Two logs as one: by reference, and of equal references those of the first log come first. The
 /// order within each log stays.
 pub fn merge(alloc: Global, first: &[Logged], second: &[Logged]) -> Result<Vec<Logged>, NoMemory>
-    ensures merges { IfOk result (λ merged. merged.items ≡ words.merge first.now second.now) }
-    ensures lawful { IfOk result (λ merged. IsMerge first.now second.now merged.items) }
+    ensures merges { IfOk result (λ merged. merged.items ≡ words.merge logged_at first.now second.now) }
+    ensures lawful { IfOk result (λ merged. IsMerge logged_at first.now second.now merged.items) }
     ensures within { IfOk result (λ merged. All IsWithin first.now → All IsWithin second.now
         → All IsWithin merged.items) }
 {
@@ -83,7 +83,7 @@ pub fn merge(alloc: Global, first: &[Logged], second: &[Logged]) -> Result<Vec<L
 /// Several logs as one: by reference, and of equal references those of the earlier log come first.
 pub fn merge_all(alloc: Global, logs: &[Vec<Logged>]) -> Result<Vec<Logged>, NoMemory>
     ensures merges { IfOk result
-        (λ merged. merged.items ≡ words.merge_all (map (λ log. log.items) logs.now)) }
+        (λ merged. merged.items ≡ words.merge_all logged_at (map (λ log. log.items) logs.now)) }
     ensures within { IfOk result (λ merged. All (λ log. All IsWithin log.items) logs.now
         → All IsWithin merged.items) }
 {

@@ -25,10 +25,10 @@ enum Kind {
 
 /// A number that was read.
 #[derive(Clone, Copy)]
-struct Taken<'a> {
-    number: u64,
+pub struct TakenNumber<'a> {
+    pub number: u64,
     /// What is left of the line behind it.
-    left: &'a [u8],
+    pub left: &'a [u8],
 }
 
 /// What a line without its newline says, or why it says nothing. Of a `recv` or a `lose` the first
@@ -71,7 +71,7 @@ fn read_plain(line: &[u8]) -> Result<Entry, LineFault>
 }
 
 /// Reads the number of the field behind the space at the front. The fields are counted from 1.
-fn take_number(left: &[u8], place: u8, most: u64) -> Result<Taken<'_>, LineFault>
+pub fn take_number(left: &[u8], place: u8, most: u64) -> Result<TakenNumber<'_>, LineFault>
     ensures number { IfOk result
         (λ taken. next_number place most left.now ≡ Ok (taken.number, taken.left.now)) }
     ensures fault { IfErr result (λ fault. next_number place most left.now ≡ Err fault) }
@@ -82,7 +82,7 @@ fn take_number(left: &[u8], place: u8, most: u64) -> Result<Taken<'_>, LineFault
         [_, bytes @ ..] => {
             let found = read_number(bytes, most);
             match found.number {
-                Some(number) => Ok(Taken {
+                Some(number) => Ok(TakenNumber {
                     number,
                     left: found.left,
                 }),

@@ -13,6 +13,7 @@ use Rattle.sd_fleet.specs.History.World.{Setting}
 use Rattle.sd_fleet.specs.History.declared.ApplyFault.{ApplyFault}
 use Rattle.sd_ctl_logs.specs.Entries.{event_with}
 use Rattle.sd_ctl_logs.specs.Lines.{entry_of_line}
+use Rattle.sd_ctl_logs.specs.Reasons.{line_reason}
 use Rattle.sd_ctl_logs.specs.declared.Entry.{Entry}
 use Rattle.sd_ctl_logs.specs.declared.Entry.TheVariants.{Loss, Plain, Receipt}
 use Rattle.sd_cmd_files.specs.Texts.{texts_of}
@@ -24,7 +25,7 @@ use Rattle.sd_cmd_files.specs.work.Works.{Work}
 use Rattle.sd_cmd_files.proofs.work.Whole.{append_whole, text_whole}
 use Rattle.sd_ctl_record.specs.Doing.{DoesRecord}
 use Rattle.sd_ctl_record.specs.Printed.{line_bytes, schedule_text}
-use Rattle.sd_ctl_record.specs.Reasons.{apply_name, line_reason}
+use Rattle.sd_ctl_record.specs.Reasons.{apply_name}
 use Rattle.sd_ctl_record.specs.Recorded.{record_entry}
 use Rattle.sd_ctl_record.specs.Standing.{Records, StandsFor}
 use Rattle.sd_ctl_record.specs.Works.{has_ended, in_words, latest, lines_since, record_work, said}

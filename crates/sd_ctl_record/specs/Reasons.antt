@@ -1,17 +1,8 @@
--- Why a line of a log is refused, as it is printed: in the words of a replay.
-use Rattle.std.specs.Prelude.{ℕ, List, ◌++◌, codes, decimal}
-use Rattle.sd_sched.specs.declared.LineFault.{LineFault}
-use Rattle.sd_sched.specs.declared.LineFault.TheVariants.{UnknownWord, FieldCount, Number}
+-- Why the fleet refuses an event, as it is printed: in the words of a replay.
+use Rattle.std.specs.Prelude.{ℕ, List, codes}
 use Rattle.sd_fleet.specs.History.declared.ApplyFault.{ApplyFault}
 use Rattle.sd_fleet.specs.History.declared.ApplyFault.TheVariants as apply
 
--- the line is none of a log
-abbrev pub line_reason : LineFault → List ℕ
-line_reason UnknownWord = codes "UnknownWord"
-line_reason FieldCount = codes "FieldCount"
-line_reason (Number field) = codes "Number " ++ decimal field
-
--- the fleet refuses its event
 abbrev pub apply_name : ApplyFault → List ℕ
 apply_name apply.UnknownDevice = codes "UnknownDevice"
 apply_name apply.UnknownLink = codes "UnknownLink"

@@ -5,11 +5,12 @@ use Rattle.sd_sched.specs.declared.Event.{Event}
 use Rattle.sd_sched.specs.declared.LineFault.{LineFault}
 use Rattle.sd_fleet.specs.History.World.{Setting}
 use Rattle.sd_ctl_logs.specs.Lines.{entry_of_line}
+use Rattle.sd_ctl_logs.specs.Reasons.{line_reason}
 use Rattle.sd_ctl_logs.specs.declared.Entry.{Entry}
 use Rattle.sd_cmd_files.specs.declared.Status.TheVariants.{Done}
 use Rattle.sd_cmd_files.specs.work.Works.{Work}
 use Rattle.sd_ctl_record.specs.Printed.{schedule_text}
-use Rattle.sd_ctl_record.specs.Reasons.{apply_name, line_reason}
+use Rattle.sd_ctl_record.specs.Reasons.{apply_name}
 use Rattle.sd_ctl_record.specs.Recorded.{Events, record_entry}
 
 -- the history that the lines have left so far

@@ -1,27 +1,10 @@
-//! Why a line of a log is refused, as it is printed.
+//! Why the fleet refuses an event, as it is printed.
 ghost use Rattle.std.specs.Prelude.{◌≡◌, ◌≤◌, length};
 ghost use Rattle.sd_outside.specs.Printed.{printed};
-ghost use Rattle.sd_ctl_record.specs.Reasons.{apply_name, line_reason};
+ghost use Rattle.sd_ctl_record.specs.Reasons.{apply_name};
 
 use crate::ApplyFault;
 use sd_outside::LineBuffer;
-use sd_sched::LineFault;
-
-/// Prints why bytes are no line of a log, in at most 64 bytes.
-pub(crate) fn print_line_fault(out: &mut LineBuffer, fault: LineFault)
-    ensures text { printed out.new ≡ line_reason fault }
-    ensures short { length (printed out.new) ≤ 64 }
-{
-    out.clear();
-    match fault {
-        LineFault::UnknownWord => out.push(b"UnknownWord"),
-        LineFault::FieldCount => out.push(b"FieldCount"),
-        LineFault::Number(field) => {
-            out.push(b"Number ");
-            out.push_number(u128::from(field));
-        }
-    }
-}
 
 /// The name of a refusal of the fleet.
 fn name_of(fault: ApplyFault) -> &'static [u8]

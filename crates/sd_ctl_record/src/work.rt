@@ -5,10 +5,10 @@ ghost use Rattle.sd_sched.specs.Events.{is_end_event};
 ghost use Rattle.sd_ctl_logs.specs.Entries.{event_with};
 
 use crate::Recorder;
-use crate::reasons::{print_apply_fault, print_line_fault};
+use crate::reasons::print_apply_fault;
 use sd_cmd_files::work::{LineWork, Taken};
 use sd_cmd_files::{IoError, Status};
-use sd_ctl_logs::{Entry, read_entry};
+use sd_ctl_logs::{Entry, print_line_fault, read_entry};
 use sd_num::NoMemory;
 use sd_outside::{LineBuffer, Sink};
 use sd_sched::Event;

@@ -1,0 +1,9 @@
+pub mod Order
+pub mod Putting
+pub mod Settling
+pub mod Keeping
+pub mod Picking
+pub mod Popping
+pub mod Growth
+pub mod Queueing
+pub mod Working

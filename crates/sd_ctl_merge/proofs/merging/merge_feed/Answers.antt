@@ -1,0 +1,8 @@
+use Rattle.sd_ctl_merge.specs.Works.{merge_work}
+use Rattle.sd_ctl_merge.proofs.Working.{does_nothing_yet, merge_whole}
+use Rattle.sd_ctl_merge.proofs.merging.merge_feed.Goals as goal
+
+pub returns-clause-outcome : goal.returns-clause-outcome
+returns-clause-outcome g c =
+    c.go_through.ensures.outcome (merge_work c.args.count)
+    (does_nothing_yet c.in_ok-work.work c.args.count c.in_ok-work.ensures.logs c.in_ok-work.ensures.begun) (merge_whole c.args.count)

@@ -1,0 +1,27 @@
+-- The merge of a feed, as a work over its text.
+use Rattle.std.specs.Prelude.{ℕ, true, List, Result, Ok, Err, codes}
+use Rattle.sd_outside.specs.Pieces.{piece_of}
+use Rattle.sd_cmd_files.specs.declared.Status.TheVariants.{Done}
+use Rattle.sd_cmd_files.specs.work.Works.{Work}
+use Rattle.sd_ctl_merge.specs.Feeds.{said}
+use Rattle.sd_ctl_merge.specs.Growing.{Said, newly_settled, waiting}
+use Rattle.sd_ctl_merge.specs.Lines.{text_of_lines}
+use Rattle.sd_ctl_merge.specs.Reasons.{reason}
+use Rattle.sd_ctl_merge.specs.declared.feed.FeedFault.{FeedFault}
+
+-- what a line says, or the words that say why it is refused
+abbrev pub in_words : Result Said FeedFault → Result Said (List ℕ)
+in_words (Ok s) = Ok s
+in_words (Err fault) = Err (reason fault)
+
+-- For each line of the feed the lines of logs are written that it has settled, and at its end those that wait: the logs have ended. It may end behind any line.
+abbrev pub merge_work : (count : ℕ) → Work Said
+merge_work count =
+    record {
+      name = codes "feed";
+      says = λ taken line. in_words (said count taken line);
+      ends = λ s. true;
+      bytes = λ taken s. text_of_lines (newly_settled count taken s);
+      last_pieces = λ taken. piece_of (text_of_lines (waiting count taken));
+      last_status = λ taken. Done;
+    }

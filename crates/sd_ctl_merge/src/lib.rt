@@ -1,0 +1,22 @@
+//! Logs of devices that grow side by side are merged by reference as they grow.
+//!
+//! A feed is a text that tells how they grow, line by line:
+//!
+//! ```text
+//! LOG ENTRY      the next line of the log of this number, in the compact form
+//! LOG past REF   this log brings nothing before the reference any more
+//! ```
+//!
+//! Before the next line of the feed is read, each line of a log is written that no log can bring
+//! an earlier one for.
+#![tactic(auto)]
+
+mod feed;
+mod logs;
+mod merger;
+mod merging;
+mod work;
+
+pub use merging::merge_feed;
+pub use sd_cmd_files::{IoError, Status};
+pub use sd_ctl_logs::LineFault;
