@@ -1,0 +1,10 @@
+-- The laws, in reading order.
+pub mod Lists
+pub mod Pasts
+pub mod Words
+pub mod Views
+pub mod Steps
+pub mod Refused
+pub mod Judged
+pub mod Told
+pub mod Laws

@@ -1,0 +1,179 @@
+-- A moved history has the moved lines and reports.
+use Rattle.std.specs.Prelude.{◌≡◌, ℕ, ◌+◌, Bool, true, false, ◌&&◌, List, [], ◌∷◌, ◌++◌, length, map, find, filter, nat_le, Option, Some, None, option_map, option_to_list, refl, if◌then◌else◌}
+use Rattle.std.specs.List.{list_any}
+use Rattle.std.proofs.Common.{arith, sym, ◌∙◌, ap}
+use Rattle.std.proofs.lemmas.Bool.Decides.{nat_tests}
+use Rattle.std.proofs.lemmas.List.{map-append, length-map}
+use Rattle.sd_history.specs.Sched.Num.Lists.{map_or, same_number, follow}
+use Rattle.sd_history.specs.Core.Topo.Network.{device_numbers}
+use Rattle.sd_history.specs.Clock.declared.Report.{Report}
+use Rattle.sd_history.specs.Clock.Estimates.{contains}
+use Rattle.sd_history.specs.Msg.Observed.{ReportAt}
+use Rattle.sd_history.specs.Sched.declared.Event.{Event}
+use Rattle.sd_history.specs.Sched.declared.Event.TheVariants as event
+use Rattle.sd_history.specs.Sched.Events.{reference_of}
+use Rattle.sd_history.specs.declared.BrokenSet.{BrokenSet}
+use Rattle.sd_history.specs.World.{Setting, is_counted}
+use Rattle.sd_history.specs.Steps.{Step, seen_of}
+use Rattle.sd_history.specs.Premises.{breaks}
+use Rattle.sd_history.specs.Lines.{Premise, Start, Drift, Delay, Tick, Loss, Domain, Renew, Line, Broken, RootsAlarm, Reported, IntervalAlarm, counted_parent, first_on_loop, roots, asked_report, broken_lines, loop_lines, root_lines, report_lines, lines_of, reports}
+use Rattle.sd_proof_translation.specs.Moves.{Move, moved_event, moved_report, moved_step, moved_line, moved_report_at}
+use Rattle.sd_proof_translation.proofs.Words.{reference_moved}
+use Rattle.sd_proof_translation.proofs.Views.{counted_same}
+use Rattle.sd_proof_translation.proofs.Steps.{of_steps, parent_same, acts_same}
+use Rattle.sd_proof_translation.proofs.Judged.{breaks_same}
+
+-- The lines that name no clock and no reference stay.
+module _ (time : ℕ) where
+  broken_line_same : (premise : Premise) (b : Bool) → map (moved_line time) (if b then Broken premise ∷ [] else []) ≡ (if b then Broken premise ∷ [] else [])
+  broken_line_same premise true = refl
+  broken_line_same premise false = refl
+
+  seven : (a b c d e f g : List Line) → map (moved_line time) (a ++ b ++ c ++ d ++ e ++ f ++ g)
+      ≡ map (moved_line time) a ++ map (moved_line time) b ++ map (moved_line time) c ++ map (moved_line time) d ++ map (moved_line time) e ++ map (moved_line time) f
+      ++ map (moved_line time) g
+  seven a b c d e f g = simp map-append
+
+  four : (a b c d : List Line) → map (moved_line time) (a ++ b ++ c ++ d)
+      ≡ map (moved_line time) a ++ map (moved_line time) b ++ map (moved_line time) c ++ map (moved_line time) d
+  four a b c d = simp map-append
+
+  broken_lines_same : (b : BrokenSet) → map (moved_line time) (broken_lines b) ≡ broken_lines b
+  broken_lines_same b =
+      seven (if b.start then Broken Start ∷ [] else []) (if b.drift then Broken Drift ∷ [] else []) (if b.delay then Broken Delay ∷ [] else [])
+      (if b.tick then Broken Tick ∷ [] else []) (if b.loss then Broken Loss ∷ [] else []) (if b.domain then Broken Domain ∷ [] else [])
+      (if b.renew then Broken Renew ∷ [] else [])
+      ∙ (λ i. broken_line_same Start b.start i ++ broken_line_same Drift b.drift i ++ broken_line_same Delay b.delay i ++ broken_line_same Tick b.tick i
+      ++ broken_line_same Loss b.loss i ++ broken_line_same Domain b.domain i ++ broken_line_same Renew b.renew i)
+
+  loop_lines_same : (before now : Option ℕ) → map (moved_line time) (loop_lines before now) ≡ loop_lines before now
+  loop_lines_same None (Some d) = refl
+  loop_lines_same None None = refl
+  loop_lines_same (Some e) now = refl
+
+  root_lines_same : (before now : List ℕ) → map (moved_line time) (root_lines before now) ≡ root_lines before now
+  root_lines_same before [] = refl
+  root_lines_same before (d ∷ []) = refl
+  root_lines_same before (d ∷ e ∷ others) = go (nat_le 2 (length before))
+    where
+      go : (b : Bool) → map (moved_line time) (if b then [] else RootsAlarm d e ∷ []) ≡ (if b then [] else RootsAlarm d e ∷ [])
+      go true = refl
+      go false = refl
+
+  -- a report contains its reference where the other does
+  contains_same : (report : Report) (reference : ℕ) → contains (moved_report time report) (reference + time) ≡ contains report reference
+  contains_same report reference = λ i. below report.clock reference report.eps i && below reference report.clock report.eps i
+    where
+      below : (a b eps : ℕ) → nat_le (a + time) (b + time + eps) ≡ nat_le a (b + eps)
+      below a b eps = grind (arith, nat_tests)
+
+  -- a device with its report
+  abbrev moved_asked : ℕ × Report → ℕ × Report
+  moved_asked told = (told.0, moved_report time told.1)
+
+  report_lines_moved : (reference : ℕ) (told : ℕ × Report)
+      → report_lines (reference + time) (moved_asked told) ≡ map (moved_line time) (report_lines reference told)
+  report_lines_moved reference told =
+      ap (λ b. Reported told.0 (moved_report time told.1) ∷ (if b then [] else IntervalAlarm told.0 (reference + time) ∷ [])) (contains_same told.1 reference)
+      ∙ go (contains told.1 reference)
+    where
+      go : (b : Bool) → (Reported told.0 (moved_report time told.1) ∷ (if b then [] else IntervalAlarm told.0 (reference + time) ∷ []))
+          ≡ map (moved_line time) (Reported told.0 told.1 ∷ (if b then [] else IntervalAlarm told.0 reference ∷ []))
+      go true = refl
+      go false = refl
+
+asked_moved : (move : Move) (s : Step) → asked_report (moved_step move s) ≡ option_map (moved_asked move.time) (asked_report s)
+asked_moved move s = go s.seen.event s.told.report
+  where
+    asked : (device : ℕ) (o : Option Report)
+        → option_map (λ (report : Report). (device, report)) (option_map (moved_report move.time) o)
+        ≡ option_map (moved_asked move.time) (option_map (λ (report : Report). (device, report)) o)
+    asked device None = refl
+    asked device (Some report) = refl
+
+    go : (e : Event) (o : Option Report)
+        → elim (moved_event move e) as (λ (x : Event). Option (ℕ × Report)) [
+          | event.Ask reference device counter ↦ option_map (λ (report : Report). (device, report)) (option_map (moved_report move.time) o)
+          | _ ↦ None
+        ] ≡ option_map (moved_asked move.time) (elim e as (λ (x : Event). Option (ℕ × Report)) [
+          | event.Ask reference device counter ↦ option_map (λ (report : Report). (device, report)) o
+          | _ ↦ None
+        ])
+    go (event.Ask reference device counter) o = asked device o
+    go (event.Start reference device counter clock eps) o = refl
+    go (event.Tick reference device counter) o = refl
+    go (event.Recv reference device counter message) o = refl
+    go (event.Lose reference message) o = refl
+    go (event.FailDevice reference device) o = refl
+    go (event.FailLink reference link) o = refl
+    go (event.Fix reference device counter clock eps) o = refl
+    go (event.Stage reference) o = refl
+    go (event.Give reference device) o = refl
+    go (event.Commit reference device counter) o = refl
+    go (event.Seal reference device) o = refl
+    go (event.Join reference device counter clock eps) o = refl
+    go (event.MendDevice reference device) o = refl
+    go (event.MendLink reference link) o = refl
+    go (event.End reference) o = refl
+
+module _ (move : Move) (setting : Setting) where
+  -- the alarms
+
+  counted_parent_same : (steps : List Step) → counted_parent setting (map (moved_step move) steps) ≡ counted_parent setting steps
+  counted_parent_same steps =
+      λ i. λ d. if of_steps move steps (is_counted setting) (counted_same move setting) i d then parent_same move steps i d else None
+
+  loop_same : (steps : List Step) → first_on_loop setting (map (moved_step move) steps) ≡ first_on_loop setting steps
+  loop_same steps =
+      λ i. find (λ d. list_any (λ n. same_number (follow (counted_parent_same steps i) (n + 1) d) d) (device_numbers setting.net)) (device_numbers setting.net)
+
+  roots_same : (steps : List Step) → roots setting (map (moved_step move) steps) ≡ roots setting steps
+  roots_same steps =
+      λ i. filter (λ d. of_steps move steps (is_counted setting) (counted_same move setting) i d && acts_same move steps i d) (device_numbers setting.net)
+
+  told_moved : (s : Step)
+      → map_or (asked_report (moved_step move s)) [] (report_lines (reference_of (moved_event move s.seen.event)))
+      ≡ map (moved_line move.time) (map_or (asked_report s) [] (report_lines (reference_of s.seen.event)))
+  told_moved s =
+      (λ i. map_or (asked_moved move s i) [] (report_lines (reference_moved move s.seen.event i))) ∙ go (asked_report s)
+    where
+      go : (o : Option (ℕ × Report))
+          → map_or (option_map (moved_asked move.time) o) [] (report_lines (reference_of s.seen.event + move.time))
+          ≡ map (moved_line move.time) (map_or o [] (report_lines (reference_of s.seen.event)))
+      go None = refl
+      go (Some told) = report_lines_moved move.time (reference_of s.seen.event) told
+
+  -- the lines of the latest event
+  pub lines_moved : (steps : List Step) → lines_of setting (map (moved_step move) steps) ≡ map (moved_line move.time) (lines_of setting steps)
+  lines_moved [] = refl
+  lines_moved (s ∷ earlier) =
+      (λ i. broken_lines (of_steps move (s ∷ earlier) (breaks setting) (breaks_same move setting) i)
+      ++ loop_lines (loop_same earlier i) (loop_same (s ∷ earlier) i)
+      ++ root_lines (roots_same earlier i) (roots_same (s ∷ earlier) i)
+      ++ told_moved s i)
+      ∙ (λ i. sym (broken_lines_same move.time (breaks setting (seen_of (s ∷ earlier)))) i
+      ++ sym (loop_lines_same move.time (first_on_loop setting earlier) (first_on_loop setting (s ∷ earlier))) i
+      ++ sym (root_lines_same move.time (roots setting earlier) (roots setting (s ∷ earlier))) i
+      ++ map (moved_line move.time) (map_or (asked_report s) [] (report_lines (reference_of s.seen.event))))
+      ∙ sym (four move.time (broken_lines (breaks setting (seen_of (s ∷ earlier)))) (loop_lines (first_on_loop setting earlier) (first_on_loop setting (s ∷ earlier)))
+      (root_lines (roots setting earlier) (roots setting (s ∷ earlier))) (map_or (asked_report s) [] (report_lines (reference_of s.seen.event))))
+
+-- a report as it is seen at a line and a reference
+abbrev seen_at : (line reference : ℕ) → ℕ × Report → ReportAt
+seen_at line reference told = record { line = line; device = told.0; reference = reference; report = told.1 }
+
+-- the reports of a history
+pub reports_moved : (move : Move) (steps : List Step) → reports (map (moved_step move) steps) ≡ map (moved_report_at move.time) (reports steps)
+reports_moved move [] = refl
+reports_moved move (s ∷ earlier) =
+    (λ i. reports_moved move earlier i ++ option_to_list (option_map
+    (seen_at (length-map earlier (moved_step move) i + 1) (reference_moved move s.seen.event i)) (asked_moved move s i)))
+    ∙ ap (λ latest. map (moved_report_at move.time) (reports earlier) ++ latest) (go (asked_report s))
+    ∙ sym (map-append (moved_report_at move.time) (reports earlier)
+    (option_to_list (option_map (seen_at (length earlier + 1) (reference_of s.seen.event)) (asked_report s))))
+  where
+    go : (o : Option (ℕ × Report))
+        → option_to_list (option_map (seen_at (length earlier + 1) (reference_of s.seen.event + move.time)) (option_map (moved_asked move.time) o))
+        ≡ map (moved_report_at move.time) (option_to_list (option_map (seen_at (length earlier + 1) (reference_of s.seen.event)) o))
+    go None = refl
+    go (Some told) = refl

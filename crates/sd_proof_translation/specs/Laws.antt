@@ -1,0 +1,52 @@
+-- What where a clock begins changes of a history: its counters and its times, and nothing else.
+use Rattle.std.specs.Prelude.{◌≡◌, ◌↔◌, ℕ, List, map}
+use Rattle.sd_history.specs.Sched.declared.Event.{Event}
+use Rattle.sd_history.specs.World.{Setting}
+use Rattle.sd_history.specs.Steps.{seen_of, flights}
+use Rattle.sd_history.specs.Refusals.{refusal}
+use Rattle.sd_history.specs.Chronicle.{chronicle, IsHistory}
+use Rattle.sd_history.specs.Admitted.{IsAdmitted}
+use Rattle.sd_history.specs.Premises.{broken_in}
+use Rattle.sd_history.specs.Lines.{lines_of, reports}
+use Rattle.sd_proof_translation.specs.Moves.{Move, moved_event, moved_flight, moved_told, moved_line, moved_report_at}
+use Rattle.sd_proof_translation.specs.Counters.{counters_moved}
+use Rattle.sd_proof_translation.specs.Times.{times_moved}
+
+-- Both are histories or neither is. At each event the device tells the same: what it sends, what it answers and what it reports. The same flights are
+-- sent, the same lines and reports come, and the same premises are broken.
+pub record SaysTheSame (setting : Setting) (one other : List Event) : Type 0 where
+  pub admitted : IsAdmitted setting one ↔ IsAdmitted setting other
+  pub accepted : IsHistory setting one ↔ IsHistory setting other
+  pub told : map (λ s. s.told) (chronicle setting one) ≡ map (λ s. s.told) (chronicle setting other)
+  pub flights : flights (chronicle setting one) ≡ flights (chronicle setting other)
+  pub lines : lines_of setting (chronicle setting one) ≡ lines_of setting (chronicle setting other)
+  pub reports : reports (chronicle setting one) ≡ reports (chronicle setting other)
+  pub broken : broken_in setting (seen_of (chronicle setting one)) ≡ broken_in setting (seen_of (chronicle setting other))
+
+-- The same, so much later: clocks that are sent and reported, times of flights, and references of lines and reports are greater by this much.
+pub record SaysTheSameLater (time : ℕ) (setting : Setting) (one other : List Event) : Type 0 where
+  pub admitted : IsAdmitted setting one ↔ IsAdmitted setting other
+  pub accepted : IsHistory setting one ↔ IsHistory setting other
+  pub told : map (λ s. s.told) (chronicle setting one) ≡ map (moved_told time) (map (λ s. s.told) (chronicle setting other))
+  pub flights : flights (chronicle setting one) ≡ map (moved_flight time) (flights (chronicle setting other))
+  pub lines : lines_of setting (chronicle setting one) ≡ map (moved_line time) (lines_of setting (chronicle setting other))
+  pub reports : reports (chronicle setting one) ≡ map (moved_report_at time) (reports (chronicle setting other))
+  pub broken : broken_in setting (seen_of (chronicle setting one)) ≡ broken_in setting (seen_of (chronicle setting other))
+
+-- Moved counters change nothing. One device is a case: the others are moved by 0.
+abbrev pub CountersChangeNothing : Setting → Type 0
+CountersChangeNothing setting = (by : ℕ → ℕ) (events : List Event) → SaysTheSame setting (map (counters_moved by) events) events
+
+-- Moved times change times alone.
+abbrev pub TimesChangeTimes : Setting → Type 0
+TimesChangeTimes setting = (by : ℕ) (events : List Event) → SaysTheSameLater by setting (map (times_moved by) events) events
+
+-- Both at once.
+abbrev pub MovesChangeTimes : Setting → Type 0
+MovesChangeTimes setting = (move : Move) (events : List Event) → SaysTheSameLater move.time setting (map (moved_event move) events) events
+
+-- What is refused is refused for the same cause.
+abbrev pub RefusedAlike : Setting → Type 0
+RefusedAlike setting =
+    (move : Move) (earlier : List Event) (e : Event)
+    → refusal setting (chronicle setting (map (moved_event move) earlier)) (moved_event move e) ≡ refusal setting (chronicle setting earlier) e
