@@ -1,5 +1,5 @@
 -- The laws: where a clock begins changes counters and times, and nothing else.
-use Rattle.std.specs.Prelude.{◌≡◌, ℕ, ◌+◌, List, map, Some, None, Option, option_map, refl}
+use Rattle.std.specs.Prelude.{Bool, [], ◌∷◌, find, ◌≡◌, ℕ, ◌+◌, List, map, Some, None, Option, option_map, refl}
 use Rattle.std.proofs.Common.{sym, ◌∙◌, ap, subst}
 use Rattle.std.proofs.lemmas.List.{map-id}
 use mathlib.Core.Path.{fun_ext}
@@ -12,90 +12,189 @@ use Rattle.sd_history.specs.Core.declared.Effect.{Effect}
 use Rattle.sd_history.specs.Core.declared.Effect.TheVariants.{Quiet, Send}
 use Rattle.sd_history.specs.Sched.declared.Event.{Event}
 use Rattle.sd_history.specs.Sched.declared.Event.TheVariants as event
+use Rattle.sd_history.specs.Sched.Num.Lists.{map_or}
+use Rattle.sd_history.specs.Sched.Events.{device_of}
+use Rattle.sd_history.specs.declared.ApplyFault.{ApplyFault}
 use Rattle.sd_history.specs.World.{Setting}
 use Rattle.sd_history.specs.Steps.{Step, Told, seen_of, flights}
-use Rattle.sd_history.specs.Chronicle.{chronicle}
+use Rattle.sd_history.specs.Refusals.{counter_falls, refusal}
+use Rattle.sd_history.specs.Chronicle.{chronicle, IsHistory}
+use Rattle.sd_history.specs.Admitted.{Admits, IsAdmitted}
 use Rattle.sd_history.specs.Premises.{broken_in}
 use Rattle.sd_history.specs.Lines.{Line, Broken, LoopAlarm, RootsAlarm, Reported, IntervalAlarm, lines_of, reports}
-use Rattle.sd_proof_translation.specs.Counters.{counters_moved}
-use Rattle.sd_proof_translation.specs.Times.{times_moved}
-use Rattle.sd_proof_translation.specs.Moves.{Move, moved_event, moved_report, moved_message, moved_flight, moved_effect, moved_told, moved_step, moved_line, moved_report_at}
+use Rattle.sd_proof_translation.specs.Counters.{life_of, number_of, counter_moved, counters_moved}
+use Rattle.sd_proof_translation.specs.Times.{time_moved, times_moved}
+use Rattle.sd_proof_translation.specs.Moves.{moved_event, moved_events, moved_report, moved_message, moved_flight, moved_effect, moved_told, moved_step, moved_line, moved_report_at}
 use Rattle.sd_proof_translation.specs.Laws.{SaysTheSame, SaysTheSameLater, CountersChangeNothing, TimesChangeTimes, MovesChangeTimes, RefusedAlike}
 use Rattle.sd_proof_translation.proofs.Lists.{map_mapped}
-use Rattle.sd_proof_translation.proofs.Steps.{of_steps, flights_moved, chronicle_moved}
-use Rattle.sd_proof_translation.proofs.Refused.{admitted_moved, admitted_unmoved, history_moved, history_unmoved, refusal_moved}
+use Rattle.sd_proof_translation.proofs.Views.{Marked, plain, moved}
+use Rattle.sd_proof_translation.proofs.Steps.{moved_steps_seen, plain_steps_seen, flights_moved, marked, plain_is, are_of_lives, number_before, chronicle_moved}
+use Rattle.sd_proof_translation.proofs.Readings.{falls_of_device}
+use Rattle.sd_proof_translation.proofs.Refused.{causes_but, causes_are, admits_moved, admits_unmoved, accepts_moved, accepts_unmoved}
 use Rattle.sd_proof_translation.proofs.Judged.{broken_same}
 use Rattle.sd_proof_translation.proofs.Told.{lines_moved, reports_moved}
 
-told_of_moved : (move : Move) (steps : List Step) → map (λ s. s.told) (map (moved_step move) steps) ≡ map (moved_told move.time) (map (λ s. s.told) steps)
-told_of_moved move steps = map_mapped (moved_step move) (λ s. s.told) steps ∙ sym (map_mapped (λ (s : Step). s.told) (moved_told move.time) steps)
+told_of_moved : (time : ℕ) (xs : List Marked) → map (λ s. s.told) (moved time xs) ≡ map (moved_told time) (map (λ s. s.told) (plain xs))
+told_of_moved time xs =
+    map_mapped (λ (x : Marked). moved_step time x.by x.step) (λ s. s.told) (λ x. moved_told time x.step.told) (λ x. refl) xs
+    ∙ sym (map_mapped (λ (x : Marked). x.step.told) (moved_told time) (λ x. moved_told time x.step.told) (λ x. refl) xs)
+    ∙ ap (map (moved_told time)) (sym (map_mapped (λ (x : Marked). x.step) (λ s. s.told) (λ x. x.step.told) (λ x. refl) xs))
+
+module _ (setting : Setting) (time : ℕ) (lives : ℕ → ℕ → ℕ) where
+  abbrev steps : List Event → List Marked
+  steps events = marked setting lives events
+
+  abbrev later : (e : Event) (earlier : List Event) → Event
+  later e earlier = moved_event time (number_of lives (e ∷ earlier)) e
+
+  admitted_moved : (events : List Event) → IsAdmitted setting events → IsAdmitted setting (moved_events time lives events)
+  admitted_moved [] all = tt
+  admitted_moved (e ∷ earlier) all = (
+    admitted_moved earlier all.0,
+    subst (λ (s : List Step). Admits setting s (later e earlier)) (sym (chronicle_moved time lives setting earlier))
+        (admits_moved time lives setting (steps earlier) (are_of_lives setting lives earlier) (number_of lives (e ∷ earlier)) e (number_before setting lives e earlier)
+        (subst (λ (s : List Step). Admits setting s e) (sym (plain_is setting lives earlier)) all.1)),
+  )
+
+  admitted_unmoved : (events : List Event) → IsAdmitted setting (moved_events time lives events) → IsAdmitted setting events
+  admitted_unmoved [] all = tt
+  admitted_unmoved (e ∷ earlier) all = (
+    admitted_unmoved earlier all.0,
+    subst (λ (s : List Step). Admits setting s e) (plain_is setting lives earlier)
+        (admits_unmoved time lives setting (steps earlier) (are_of_lives setting lives earlier) (number_of lives (e ∷ earlier)) e (number_before setting lives e earlier)
+        (subst (λ (s : List Step). Admits setting s (later e earlier)) (chronicle_moved time lives setting earlier) all.1)),
+  )
+
+  history_moved : (events : List Event) → IsHistory setting events → IsHistory setting (moved_events time lives events)
+  history_moved [] all = tt
+  history_moved (e ∷ earlier) all = (
+    history_moved earlier all.0,
+    ap (λ s. refusal setting s (later e earlier)) (chronicle_moved time lives setting earlier)
+        ∙ accepts_moved time lives setting (steps earlier) (are_of_lives setting lives earlier) (number_of lives (e ∷ earlier)) e (number_before setting lives e earlier)
+        (ap (λ s. refusal setting s e) (plain_is setting lives earlier) ∙ all.1),
+  )
+
+  history_unmoved : (events : List Event) → IsHistory setting (moved_events time lives events) → IsHistory setting events
+  history_unmoved [] all = tt
+  history_unmoved (e ∷ earlier) all = (
+    history_unmoved earlier all.0,
+    ap (λ s. refusal setting s e) (sym (plain_is setting lives earlier))
+        ∙ accepts_unmoved time lives setting (steps earlier) (are_of_lives setting lives earlier) (number_of lives (e ∷ earlier)) e (number_before setting lives e earlier)
+        (ap (λ s. refusal setting s (later e earlier)) (sym (chronicle_moved time lives setting earlier)) ∙ all.1),
+  )
+
+  broken_moved : (events : List Event)
+      → broken_in setting (seen_of (moved time (steps events))) ≡ broken_in setting (seen_of (plain (steps events)))
+  broken_moved events =
+      ap (broken_in setting) (moved_steps_seen time (steps events)) ∙ broken_same time lives setting (steps events) (are_of_lives setting lives events)
+      ∙ ap (broken_in setting) (sym (plain_steps_seen time (steps events)))
 
 -- counters and times
 pub moves_change_times : (setting : Setting) → MovesChangeTimes setting
-moves_change_times setting move events =
-    let moved : chronicle setting (map (moved_event move) events) ≡ map (moved_step move) (chronicle setting events) = chronicle_moved move setting events in
+moves_change_times setting time lives events =
+    let after : chronicle setting (moved_events time lives events) ≡ moved time (marked setting lives events) = chronicle_moved time lives setting events in
+    let before : plain (marked setting lives events) ≡ chronicle setting events = plain_is setting lives events in
     record {
-      admitted = (admitted_unmoved move setting events, admitted_moved move setting events);
-      accepted = (history_unmoved move setting events, history_moved move setting events);
-      told = ap (map (λ (s : Step). s.told)) moved ∙ told_of_moved move (chronicle setting events);
-      flights = ap flights moved ∙ flights_moved move (chronicle setting events);
-      lines = ap (lines_of setting) moved ∙ lines_moved move setting (chronicle setting events);
-      reports = ap reports moved ∙ reports_moved move (chronicle setting events);
-      broken =
-          ap (λ steps. broken_in setting (seen_of steps)) moved
-          ∙ of_steps move (chronicle setting events) (broken_in setting) (broken_same move setting);
+      admitted = (admitted_unmoved setting time lives events, admitted_moved setting time lives events);
+      accepted = (history_unmoved setting time lives events, history_moved setting time lives events);
+      told =
+          ap (map (λ (s : Step). s.told)) after ∙ told_of_moved time (marked setting lives events)
+          ∙ ap (λ steps. map (moved_told time) (map (λ (s : Step). s.told) steps)) before;
+      flights = ap flights after ∙ flights_moved time (marked setting lives events) ∙ ap (λ steps. map (moved_flight time) (flights steps)) before;
+      lines =
+          ap (lines_of setting) after ∙ lines_moved time setting lives (marked setting lives events) (are_of_lives setting lives events)
+          ∙ ap (λ steps. map (moved_line time) (lines_of setting steps)) before;
+      reports = ap reports after ∙ reports_moved time (marked setting lives events) ∙ ap (λ steps. map (moved_report_at time) (reports steps)) before;
+      broken = ap (λ steps. broken_in setting (seen_of steps)) after ∙ broken_moved setting time lives events ∙ ap (λ steps. broken_in setting (seen_of steps)) before;
     }
 
+-- where each device has one number, a refusal has the same cause
 pub refused_alike : (setting : Setting) → RefusedAlike setting
-refused_alike setting move earlier e = refusal_moved move setting e earlier
+refused_alike setting time by earlier e =
+    ap (λ steps. refusal setting steps later_event) (chronicle_moved time (λ d life. by d) setting earlier)
+    ∙ ap first_cause (causes_are time xs setting (map_or (device_of e) 0 by) e ∙ ap (causes_but time xs setting e) falls)
+    ∙ ap (λ steps. refusal setting steps e) (plain_is setting (λ d life. by d) earlier)
+  where
+    later_event : Event
+    later_event = moved_event time (map_or (device_of e) 0 by) e
+
+    xs : List Marked
+    xs = marked setting (λ d life. by d) earlier
+
+    first_cause : List (ApplyFault × Bool) → Option ApplyFault
+    first_cause cs = option_map (λ cause. cause.0) (find (λ cause. cause.1) cs)
+
+    falls : counter_falls (seen_of (moved time xs)) (moved_event time (map_or (device_of e) 0 by) e) ≡ counter_falls (seen_of (plain xs)) e
+    falls =
+        ap (λ seen. counter_falls seen later_event) (moved_steps_seen time xs)
+        ∙ falls_of_device time by xs (are_of_lives setting (λ d life. by d) earlier) e
+        ∙ ap (λ seen. counter_falls seen e) (sym (plain_steps_seen time xs))
 
 -- times alone
 
-times_are : (by : ℕ) (e : Event) → times_moved by e ≡ moved_event (record { time = by; counters = λ d. 0 }) e
-times_are by (event.Start reference device counter clock eps) = λ i. event.Start (reference + by) device (sym (add-zero counter) i) (clock + by) eps
-times_are by (event.Tick reference device counter) = λ i. event.Tick (reference + by) device (sym (add-zero counter) i)
-times_are by (event.Recv reference device counter message) = λ i. event.Recv (reference + by) device (sym (add-zero counter) i) message
-times_are by (event.Lose reference message) = refl
-times_are by (event.FailDevice reference device) = refl
-times_are by (event.FailLink reference link) = refl
-times_are by (event.Fix reference device counter clock eps) = λ i. event.Fix (reference + by) device (sym (add-zero counter) i) (clock + by) eps
-times_are by (event.Ask reference device counter) = λ i. event.Ask (reference + by) device (sym (add-zero counter) i)
-times_are by (event.Stage reference) = refl
-times_are by (event.Give reference device) = refl
-times_are by (event.Commit reference device counter) = λ i. event.Commit (reference + by) device (sym (add-zero counter) i)
-times_are by (event.Seal reference device) = refl
-times_are by (event.Join reference device counter clock eps) = λ i. event.Join (reference + by) device (sym (add-zero counter) i) (clock + by) eps
-times_are by (event.MendDevice reference device) = refl
-times_are by (event.MendLink reference link) = refl
-times_are by (event.End reference) = refl
+time_is : (by : ℕ) (e : Event) → time_moved by e ≡ moved_event by 0 e
+time_is by (event.Start reference device counter clock eps) = λ i. event.Start (reference + by) device (sym (add-zero counter) i) (clock + by) eps
+time_is by (event.Tick reference device counter) = λ i. event.Tick (reference + by) device (sym (add-zero counter) i)
+time_is by (event.Recv reference device counter message) = λ i. event.Recv (reference + by) device (sym (add-zero counter) i) message
+time_is by (event.Lose reference message) = refl
+time_is by (event.FailDevice reference device) = refl
+time_is by (event.FailLink reference link) = refl
+time_is by (event.Fix reference device counter clock eps) = λ i. event.Fix (reference + by) device (sym (add-zero counter) i) (clock + by) eps
+time_is by (event.Ask reference device counter) = λ i. event.Ask (reference + by) device (sym (add-zero counter) i)
+time_is by (event.Stage reference) = refl
+time_is by (event.Give reference device) = refl
+time_is by (event.Commit reference device counter) = λ i. event.Commit (reference + by) device (sym (add-zero counter) i)
+time_is by (event.Seal reference device) = refl
+time_is by (event.Join reference device counter clock eps) = λ i. event.Join (reference + by) device (sym (add-zero counter) i) (clock + by) eps
+time_is by (event.MendDevice reference device) = refl
+time_is by (event.MendLink reference link) = refl
+time_is by (event.End reference) = refl
+
+-- no counter is moved
+abbrev unmoved : ℕ → ℕ → ℕ
+unmoved d life = 0
+
+no_number : (e : Event) (earlier : List Event) → number_of unmoved (e ∷ earlier) ≡ 0
+no_number e earlier = go (device_of e)
+  where
+    go : (o : Option ℕ) → map_or o 0 (λ d. unmoved d (life_of (e ∷ earlier) d)) ≡ 0
+    go None = refl
+    go (Some d) = refl
+
+times_are : (time : ℕ) (events : List Event) → times_moved time events ≡ moved_events time unmoved events
+times_are time [] = refl
+times_are time (e ∷ earlier) = λ i. (time_is time e ∙ ap (λ by. moved_event time by e) (sym (no_number e earlier))) i ∷ times_are time earlier i
 
 pub times_moved_change_times : (setting : Setting) → TimesChangeTimes setting
-times_moved_change_times setting by events =
-    subst (λ (move : Event → Event). SaysTheSameLater by setting (map move events) events) (sym (fun_ext (times_are by)))
-    (moves_change_times setting (record { time = by; counters = λ d. 0 }) events)
+times_moved_change_times setting time events =
+    subst (λ (later : List Event). SaysTheSameLater time setting later events) (sym (times_are time events)) (moves_change_times setting time unmoved events)
 
 -- counters alone
 
-counters_are : (by : ℕ → ℕ) (e : Event) → counters_moved by e ≡ moved_event (record { time = 0; counters = by }) e
-counters_are by (event.Start reference device counter clock eps) =
-    λ i. event.Start (sym (add-zero reference) i) device (counter + by device) (sym (add-zero clock) i) eps
-counters_are by (event.Tick reference device counter) = λ i. event.Tick (sym (add-zero reference) i) device (counter + by device)
-counters_are by (event.Recv reference device counter message) = λ i. event.Recv (sym (add-zero reference) i) device (counter + by device) message
-counters_are by (event.Lose reference message) = λ i. event.Lose (sym (add-zero reference) i) message
-counters_are by (event.FailDevice reference device) = λ i. event.FailDevice (sym (add-zero reference) i) device
-counters_are by (event.FailLink reference link) = λ i. event.FailLink (sym (add-zero reference) i) link
-counters_are by (event.Fix reference device counter clock eps) =
-    λ i. event.Fix (sym (add-zero reference) i) device (counter + by device) (sym (add-zero clock) i) eps
-counters_are by (event.Ask reference device counter) = λ i. event.Ask (sym (add-zero reference) i) device (counter + by device)
-counters_are by (event.Stage reference) = λ i. event.Stage (sym (add-zero reference) i)
-counters_are by (event.Give reference device) = λ i. event.Give (sym (add-zero reference) i) device
-counters_are by (event.Commit reference device counter) = λ i. event.Commit (sym (add-zero reference) i) device (counter + by device)
-counters_are by (event.Seal reference device) = λ i. event.Seal (sym (add-zero reference) i) device
-counters_are by (event.Join reference device counter clock eps) =
-    λ i. event.Join (sym (add-zero reference) i) device (counter + by device) (sym (add-zero clock) i) eps
-counters_are by (event.MendDevice reference device) = λ i. event.MendDevice (sym (add-zero reference) i) device
-counters_are by (event.MendLink reference link) = λ i. event.MendLink (sym (add-zero reference) i) link
-counters_are by (event.End reference) = λ i. event.End (sym (add-zero reference) i)
+counter_is : (by : ℕ) (e : Event) → counter_moved by e ≡ moved_event 0 by e
+counter_is by (event.Start reference device counter clock eps) =
+    λ i. event.Start (sym (add-zero reference) i) device (counter + by) (sym (add-zero clock) i) eps
+counter_is by (event.Tick reference device counter) = λ i. event.Tick (sym (add-zero reference) i) device (counter + by)
+counter_is by (event.Recv reference device counter message) = λ i. event.Recv (sym (add-zero reference) i) device (counter + by) message
+counter_is by (event.Lose reference message) = λ i. event.Lose (sym (add-zero reference) i) message
+counter_is by (event.FailDevice reference device) = λ i. event.FailDevice (sym (add-zero reference) i) device
+counter_is by (event.FailLink reference link) = λ i. event.FailLink (sym (add-zero reference) i) link
+counter_is by (event.Fix reference device counter clock eps) =
+    λ i. event.Fix (sym (add-zero reference) i) device (counter + by) (sym (add-zero clock) i) eps
+counter_is by (event.Ask reference device counter) = λ i. event.Ask (sym (add-zero reference) i) device (counter + by)
+counter_is by (event.Stage reference) = λ i. event.Stage (sym (add-zero reference) i)
+counter_is by (event.Give reference device) = λ i. event.Give (sym (add-zero reference) i) device
+counter_is by (event.Commit reference device counter) = λ i. event.Commit (sym (add-zero reference) i) device (counter + by)
+counter_is by (event.Seal reference device) = λ i. event.Seal (sym (add-zero reference) i) device
+counter_is by (event.Join reference device counter clock eps) =
+    λ i. event.Join (sym (add-zero reference) i) device (counter + by) (sym (add-zero clock) i) eps
+counter_is by (event.MendDevice reference device) = λ i. event.MendDevice (sym (add-zero reference) i) device
+counter_is by (event.MendLink reference link) = λ i. event.MendLink (sym (add-zero reference) i) link
+counter_is by (event.End reference) = λ i. event.End (sym (add-zero reference) i)
+
+counters_are : (by : ℕ → ℕ → ℕ) (events : List Event) → counters_moved by events ≡ moved_events 0 by events
+counters_are by [] = refl
+counters_are by (e ∷ earlier) = λ i. counter_is (number_of by (e ∷ earlier)) e i ∷ counters_are by earlier i
 
 -- what is moved by 0 stays
 
@@ -145,8 +244,7 @@ all_stay {A = A} f stays xs = ap (λ (g : A → A). map g xs) (fun_ext stays) �
 
 pub counters_moved_change_nothing : (setting : Setting) → CountersChangeNothing setting
 counters_moved_change_nothing setting by events =
-    subst (λ (move : Event → Event). SaysTheSame setting (map move events) events) (sym (fun_ext (counters_are by)))
-    (now (moves_change_times setting (record { time = 0; counters = by }) events))
+    subst (λ (one : List Event). SaysTheSame setting one events) (sym (counters_are by events)) (now (moves_change_times setting 0 by events))
   where
     now : {one : List Event} → SaysTheSameLater 0 setting one events → SaysTheSame setting one events
     now h =

@@ -1,7 +1,7 @@
 -- Lists whose elements are mapped: what tests, searches and look-ups find in them.
 use Rattle.std.specs.Prelude.{◌≡◌, ℕ, ◌+◌, Bool, true, false, ◌||◌, List, [], ◌∷◌, ◌⊎◌, map, find, filter, filter_map, Option, Some, None, option_map, refl, if◌then◌else◌}
 use Rattle.std.specs.List.{list_any, cons_option}
-use Rattle.std.proofs.Common.{◌∙◌, ap, inl, inr}
+use Rattle.std.proofs.Common.{◌∙◌, inl, inr}
 use Rattle.sd_history.specs.Sched.Num.Lists.{map_or, find_map_or, leading}
 
 module _ {A B : Type 0} (g : A → B) where
@@ -9,18 +9,18 @@ module _ {A B : Type 0} (g : A → B) where
   any_mapped test like same [] = refl
   any_mapped test like same (x ∷ xs) = λ i. same x i || any_mapped test like same xs i
 
-  pub told_mapped : {C : Type 0} (f : B → Option C) (xs : List A) (default : C) → find_map_or f (map g xs) default ≡ find_map_or (λ x. f (g x)) xs default
-  told_mapped f [] default = refl
-  told_mapped f (x ∷ xs) default = ap (λ rest. map_or (f (g x)) rest (λ told. told)) (told_mapped f xs default)
+  pub told_mapped : {C : Type 0} (f : B → Option C) (like : A → Option C) → ((x : A) → f (g x) ≡ like x) → (xs : List A) (default : C)
+      → find_map_or f (map g xs) default ≡ find_map_or like xs default
+  told_mapped f like same [] default = refl
+  told_mapped f like same (x ∷ xs) default = λ i. map_or (same x i) (told_mapped f like same xs default i) (λ told. told)
 
-  pub leading_mapped : (test : B → Bool) (xs : List A) → leading test (map g xs) ≡ map g (leading (λ x. test (g x)) xs)
-  leading_mapped test [] = refl
-  leading_mapped test (x ∷ xs) = go (test (g x)) (leading_mapped test xs)
+  pub leading_mapped : (test : B → Bool) (like : A → Bool) → ((x : A) → test (g x) ≡ like x) → (xs : List A) → leading test (map g xs) ≡ map g (leading like xs)
+  leading_mapped test like same [] = refl
+  leading_mapped test like same (x ∷ xs) = (λ i. if same x i then g x ∷ leading_mapped test like same xs i else []) ∙ go (like x) (leading like xs)
     where
-      go : (b : Bool) → leading test (map g xs) ≡ map g (leading (λ y. test (g y)) xs)
-          → (if b then g x ∷ leading test (map g xs) else []) ≡ map g (if b then x ∷ leading (λ y. test (g y)) xs else [])
-      go true rest = ap (λ ys. g x ∷ ys) rest
-      go false rest = refl
+      go : (b : Bool) (ys : List A) → (if b then g x ∷ map g ys else []) ≡ map g (if b then x ∷ ys else [])
+      go true ys = refl
+      go false ys = refl
 
   pub find_mapped : (test : B → Bool) (like : A → Bool) → ((x : A) → test (g x) ≡ like x) → (xs : List A)
       → find test (map g xs) ≡ option_map g (find like xs)
@@ -31,35 +31,34 @@ module _ {A B : Type 0} (g : A → B) where
       go true o = refl
       go false o = refl
 
-  pub filter_mapped : (test : B → Bool) (xs : List A) → filter test (map g xs) ≡ map g (filter (λ x. test (g x)) xs)
-  filter_mapped test [] = refl
-  filter_mapped test (x ∷ xs) = go (test (g x)) (filter_mapped test xs)
+  pub filter_mapped : (test : B → Bool) (like : A → Bool) → ((x : A) → test (g x) ≡ like x) → (xs : List A) → filter test (map g xs) ≡ map g (filter like xs)
+  filter_mapped test like same [] = refl
+  filter_mapped test like same (x ∷ xs) =
+      (λ i. if same x i then g x ∷ filter_mapped test like same xs i else filter_mapped test like same xs i) ∙ go (like x) (filter like xs)
     where
-      go : (b : Bool) → filter test (map g xs) ≡ map g (filter (λ y. test (g y)) xs)
-          → (if b then g x ∷ filter test (map g xs) else filter test (map g xs))
-          ≡ map g (if b then x ∷ filter (λ y. test (g y)) xs else filter (λ y. test (g y)) xs)
-      go true rest = ap (λ ys. g x ∷ ys) rest
-      go false rest = rest
+      go : (b : Bool) (ys : List A) → (if b then g x ∷ map g ys else map g ys) ≡ map g (if b then x ∷ ys else ys)
+      go true ys = refl
+      go false ys = refl
 
-  pub map_mapped : {C : Type 0} (f : B → C) (xs : List A) → map f (map g xs) ≡ map (λ x. f (g x)) xs
-  map_mapped f [] = refl
-  map_mapped f (x ∷ xs) = ap (λ ys. f (g x) ∷ ys) (map_mapped f xs)
+  pub map_mapped : {C : Type 0} (f : B → C) (like : A → C) → ((x : A) → f (g x) ≡ like x) → (xs : List A) → map f (map g xs) ≡ map like xs
+  map_mapped f like same [] = refl
+  map_mapped f like same (x ∷ xs) = λ i. same x i ∷ map_mapped f like same xs i
 
-  pub kept_mapped : {C : Type 0} (f : B → Option C) (xs : List A) → filter_map f (map g xs) ≡ filter_map (λ x. f (g x)) xs
-  kept_mapped f [] = refl
-  kept_mapped f (x ∷ xs) = ap (cons_option (f (g x))) (kept_mapped f xs)
+  pub kept_mapped : {C : Type 0} (f : B → Option C) (like : A → Option C) → ((x : A) → f (g x) ≡ like x) → (xs : List A)
+      → filter_map f (map g xs) ≡ filter_map like xs
+  kept_mapped f like same [] = refl
+  kept_mapped f like same (x ∷ xs) = λ i. cons_option (same x i) (kept_mapped f like same xs i)
 
 -- a look-up whose findings are mapped, with its default
 pub look_up_moved : {A B C D : Type 0} (g : A → B) (h : C → D) (f : A → Option C) (f' : B → Option D) → ((x : A) → f' (g x) ≡ option_map h (f x))
     → (xs : List A) (default : C) → find_map_or f' (map g xs) (h default) ≡ h (find_map_or f xs default)
 look_up_moved g h f f' same [] default = refl
 look_up_moved {C = C} {D = D} g h f f' same (x ∷ xs) default =
-    ap (λ o. map_or o (find_map_or f' (map g xs) (h default)) (λ told. told)) (same x)
-    ∙ go (f x) (find_map_or f' (map g xs) (h default)) (find_map_or f xs default) (look_up_moved g h f f' same xs default)
+    (λ i. map_or (same x i) (look_up_moved g h f f' same xs default i) (λ told. told)) ∙ go (f x) (find_map_or f xs default)
   where
-    go : (o : Option C) (d : D) (c : C) → d ≡ h c → map_or (option_map h o) d (λ told. told) ≡ h (map_or o c (λ told. told))
-    go None d c rest = rest
-    go (Some y) d c rest = refl
+    go : (o : Option C) (c : C) → map_or (option_map h o) (h c) (λ told. told) ≡ h (map_or o c (λ told. told))
+    go None c = refl
+    go (Some y) c = refl
 
 -- two numbers: the first is the second moved, or both are 0
 abbrev pub MovedOrNone : (by moved number : ℕ) → Type 0
@@ -76,4 +75,4 @@ number_moved by g f f' same (x ∷ xs) = go (f' (g x)) (f x) (same x) (number_mo
     go None None is rest = rest
     go None (Some n) is rest = cc
     go (Some m) None is rest = cc
-    go (Some m) (Some n) is rest = inl (cc)
+    go (Some m) (Some n) is rest = inl cc

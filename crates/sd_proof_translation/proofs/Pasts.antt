@@ -2,7 +2,6 @@
 use Rattle.std.specs.Prelude.{◌≡◌, ℕ, ◌+◌, ◌-◌, Bool, true, false, ◌&&◌, ◌||◌, not, ◌⊎◌, List, [], ◌∷◌, map, max, nat_eq, nat_le, Option, Some, None, is_some, option_map, option_and_then, refl, if◌then◌else◌}
 use Rattle.std.specs.List.{list_any}
 use Rattle.std.proofs.Common.{arith, ◌∙◌, ap, inl, inr}
-use mathlib.Core.Path.{fun_ext}
 use Rattle.sd_history.specs.Sched.Num.Lists.{map_or, find_map_or}
 use Rattle.sd_history.specs.Core.Plan.declared.Duty.{Duty}
 use Rattle.sd_history.specs.Core.Plan.declared.Edge.{Edge}
@@ -88,7 +87,7 @@ module _ (time by : ℕ) where
   -- what a device answers
 
   since_entry_moved : (past : Past) → since_entry (moved_past time by past) ≡ map (moved_did time by) (since_entry past)
-  since_entry_moved past = leading_mapped (moved_did time by) (λ x. not (takes_up x)) past.did
+  since_entry_moved past = leading_mapped (moved_did time by) (λ x. not (takes_up x)) (λ x. not (takes_up x)) (λ x. refl) past.did
 
   later_entry_moved : (past : Past) → later_entry (moved_past time by past) ≡ option_map (moved_did time by) (later_entry past)
   later_entry_moved past = find_mapped (moved_did time by) takes_up takes_up (λ x. refl) past.did
@@ -100,7 +99,7 @@ module _ (time by : ℕ) where
 
   pub duty_same : (past : Past) → duty_now (moved_past time by past) ≡ duty_now past
   duty_same past =
-      told_mapped (moved_did time by) (λ x. option_map Some (taken_up x.transition)) past.did (first_duty (moved_making time by past.making))
+      told_mapped (moved_did time by) (λ x. option_map Some (taken_up x.transition)) (λ x. option_map Some (taken_up x.transition)) (λ x. refl) past.did (first_duty (moved_making time by past.making))
       ∙ ap (find_map_or (λ x. option_map Some (taken_up x.transition)) past.did) (first_duty_same past.making)
 
   pub epoch_same : (past : Past) → epoch_now (moved_past time by past) ≡ epoch_now past
@@ -122,8 +121,8 @@ module _ (time by : ℕ) where
   pub given_same : (past : Past) → given_now (moved_past time by past) ≡ given_now past
   given_same past =
       ap (λ xs. find_map_or (λ x. option_map Some (duty_given x.call)) xs None) (since_entry_moved past)
-      ∙ told_mapped (moved_did time by) (λ x. option_map Some (duty_given x.call)) (since_entry past) None
-      ∙ ap (λ (f : Did → Option (Option Duty)). find_map_or f (since_entry past) None) (fun_ext (λ x. ap (option_map Some) (duty_given_same x.call)))
+      ∙ told_mapped (moved_did time by) (λ x. option_map Some (duty_given x.call)) (λ x. option_map Some (duty_given x.call))
+      (λ x. ap (option_map Some) (duty_given_same x.call)) (since_entry past) None
 
   has_moved_same : (past : Past) → has_moved (moved_past time by past) ≡ has_moved past
   has_moved_same past = any_since_same (λ x. is_move x.transition) (λ x. refl) past

@@ -14,13 +14,14 @@ use Rattle.sd_history.specs.Sched.declared.Event.TheVariants as event
 use Rattle.sd_history.specs.Sched.Events.{reference_of}
 use Rattle.sd_history.specs.declared.BrokenSet.{BrokenSet}
 use Rattle.sd_history.specs.World.{Setting, is_counted}
-use Rattle.sd_history.specs.Steps.{Step, seen_of}
+use Rattle.sd_history.specs.Steps.{seen_of}
 use Rattle.sd_history.specs.Premises.{breaks}
 use Rattle.sd_history.specs.Lines.{Premise, Start, Drift, Delay, Tick, Loss, Domain, Renew, Line, Broken, RootsAlarm, Reported, IntervalAlarm, counted_parent, first_on_loop, roots, asked_report, broken_lines, loop_lines, root_lines, report_lines, lines_of, reports}
-use Rattle.sd_proof_translation.specs.Moves.{Move, moved_event, moved_report, moved_step, moved_line, moved_report_at}
+use Rattle.sd_proof_translation.specs.Moves.{moved_event, moved_report, moved_step, moved_line, moved_report_at}
 use Rattle.sd_proof_translation.proofs.Words.{reference_moved}
-use Rattle.sd_proof_translation.proofs.Views.{counted_same}
-use Rattle.sd_proof_translation.proofs.Steps.{of_steps, parent_same, acts_same}
+use Rattle.sd_proof_translation.proofs.Views.{Marked, plain, moved, counted_same}
+use Rattle.sd_proof_translation.proofs.Lives.{AreOfLives}
+use Rattle.sd_proof_translation.proofs.Steps.{moved_steps_seen, plain_steps_seen, of_steps, parent_same, acts_same}
 use Rattle.sd_proof_translation.proofs.Judged.{breaks_same}
 
 -- The lines that name no clock and no reference stay.
@@ -82,20 +83,20 @@ module _ (time : ℕ) where
       go true = refl
       go false = refl
 
-asked_moved : (move : Move) (s : Step) → asked_report (moved_step move s) ≡ option_map (moved_asked move.time) (asked_report s)
-asked_moved move s = go s.seen.event s.told.report
+asked_moved : (time : ℕ) (x : Marked) → asked_report (moved_step time x.by x.step) ≡ option_map (moved_asked time) (asked_report x.step)
+asked_moved time x = go x.step.seen.event x.step.told.report
   where
     asked : (device : ℕ) (o : Option Report)
-        → option_map (λ (report : Report). (device, report)) (option_map (moved_report move.time) o)
-        ≡ option_map (moved_asked move.time) (option_map (λ (report : Report). (device, report)) o)
+        → option_map (λ (report : Report). (device, report)) (option_map (moved_report time) o)
+        ≡ option_map (moved_asked time) (option_map (λ (report : Report). (device, report)) o)
     asked device None = refl
     asked device (Some report) = refl
 
     go : (e : Event) (o : Option Report)
-        → elim (moved_event move e) as (λ (x : Event). Option (ℕ × Report)) [
-          | event.Ask reference device counter ↦ option_map (λ (report : Report). (device, report)) (option_map (moved_report move.time) o)
+        → elim (moved_event time x.by e) as (λ (x : Event). Option (ℕ × Report)) [
+          | event.Ask reference device counter ↦ option_map (λ (report : Report). (device, report)) (option_map (moved_report time) o)
           | _ ↦ None
-        ] ≡ option_map (moved_asked move.time) (elim e as (λ (x : Event). Option (ℕ × Report)) [
+        ] ≡ option_map (moved_asked time) (elim e as (λ (x : Event). Option (ℕ × Report)) [
           | event.Ask reference device counter ↦ option_map (λ (report : Report). (device, report)) o
           | _ ↦ None
         ])
@@ -116,64 +117,74 @@ asked_moved move s = go s.seen.event s.told.report
     go (event.MendLink reference link) o = refl
     go (event.End reference) o = refl
 
-module _ (move : Move) (setting : Setting) where
+module _ (time : ℕ) (setting : Setting) where
   -- the alarms
 
-  counted_parent_same : (steps : List Step) → counted_parent setting (map (moved_step move) steps) ≡ counted_parent setting steps
-  counted_parent_same steps =
-      λ i. λ d. if of_steps move steps (is_counted setting) (counted_same move setting) i d then parent_same move steps i d else None
+  counted_parent_same : (xs : List Marked) → counted_parent setting (moved time xs) ≡ counted_parent setting (plain xs)
+  counted_parent_same xs =
+      λ i. λ d. if of_steps time xs (is_counted setting) (counted_same time setting) i d then parent_same time xs i d else None
 
-  loop_same : (steps : List Step) → first_on_loop setting (map (moved_step move) steps) ≡ first_on_loop setting steps
-  loop_same steps =
-      λ i. find (λ d. list_any (λ n. same_number (follow (counted_parent_same steps i) (n + 1) d) d) (device_numbers setting.net)) (device_numbers setting.net)
+  loop_same : (xs : List Marked) → first_on_loop setting (moved time xs) ≡ first_on_loop setting (plain xs)
+  loop_same xs =
+      λ i. find (λ d. list_any (λ n. same_number (follow (counted_parent_same xs i) (n + 1) d) d) (device_numbers setting.net)) (device_numbers setting.net)
 
-  roots_same : (steps : List Step) → roots setting (map (moved_step move) steps) ≡ roots setting steps
-  roots_same steps =
-      λ i. filter (λ d. of_steps move steps (is_counted setting) (counted_same move setting) i d && acts_same move steps i d) (device_numbers setting.net)
+  roots_same : (xs : List Marked) → roots setting (moved time xs) ≡ roots setting (plain xs)
+  roots_same xs =
+      λ i. filter (λ d. of_steps time xs (is_counted setting) (counted_same time setting) i d && acts_same time xs i d) (device_numbers setting.net)
 
-  told_moved : (s : Step)
-      → map_or (asked_report (moved_step move s)) [] (report_lines (reference_of (moved_event move s.seen.event)))
-      ≡ map (moved_line move.time) (map_or (asked_report s) [] (report_lines (reference_of s.seen.event)))
-  told_moved s =
-      (λ i. map_or (asked_moved move s i) [] (report_lines (reference_moved move s.seen.event i))) ∙ go (asked_report s)
+  broken_lines_are : (lives : ℕ → ℕ → ℕ) (xs : List Marked) → AreOfLives lives xs → breaks setting (seen_of (moved time xs)) ≡ breaks setting (seen_of (plain xs))
+  broken_lines_are lives xs of_lives =
+      ap (breaks setting) (moved_steps_seen time xs) ∙ breaks_same time lives setting xs of_lives ∙ ap (breaks setting) (sym (plain_steps_seen time xs))
+
+  told_moved : (x : Marked)
+      → map_or (asked_report (moved_step time x.by x.step)) [] (report_lines (reference_of (moved_event time x.by x.step.seen.event)))
+      ≡ map (moved_line time) (map_or (asked_report x.step) [] (report_lines (reference_of x.step.seen.event)))
+  told_moved x =
+      (λ i. map_or (asked_moved time x i) [] (report_lines (reference_moved time x.by x.step.seen.event i))) ∙ go (asked_report x.step)
     where
       go : (o : Option (ℕ × Report))
-          → map_or (option_map (moved_asked move.time) o) [] (report_lines (reference_of s.seen.event + move.time))
-          ≡ map (moved_line move.time) (map_or o [] (report_lines (reference_of s.seen.event)))
+          → map_or (option_map (moved_asked time) o) [] (report_lines (reference_of x.step.seen.event + time))
+          ≡ map (moved_line time) (map_or o [] (report_lines (reference_of x.step.seen.event)))
       go None = refl
-      go (Some told) = report_lines_moved move.time (reference_of s.seen.event) told
+      go (Some told) = report_lines_moved time (reference_of x.step.seen.event) told
 
   -- the lines of the latest event
-  pub lines_moved : (steps : List Step) → lines_of setting (map (moved_step move) steps) ≡ map (moved_line move.time) (lines_of setting steps)
-  lines_moved [] = refl
-  lines_moved (s ∷ earlier) =
-      (λ i. broken_lines (of_steps move (s ∷ earlier) (breaks setting) (breaks_same move setting) i)
-      ++ loop_lines (loop_same earlier i) (loop_same (s ∷ earlier) i)
-      ++ root_lines (roots_same earlier i) (roots_same (s ∷ earlier) i)
-      ++ told_moved s i)
-      ∙ (λ i. sym (broken_lines_same move.time (breaks setting (seen_of (s ∷ earlier)))) i
-      ++ sym (loop_lines_same move.time (first_on_loop setting earlier) (first_on_loop setting (s ∷ earlier))) i
-      ++ sym (root_lines_same move.time (roots setting earlier) (roots setting (s ∷ earlier))) i
-      ++ map (moved_line move.time) (map_or (asked_report s) [] (report_lines (reference_of s.seen.event))))
-      ∙ sym (four move.time (broken_lines (breaks setting (seen_of (s ∷ earlier)))) (loop_lines (first_on_loop setting earlier) (first_on_loop setting (s ∷ earlier)))
-      (root_lines (roots setting earlier) (roots setting (s ∷ earlier))) (map_or (asked_report s) [] (report_lines (reference_of s.seen.event))))
+  pub lines_moved : (lives : ℕ → ℕ → ℕ) (xs : List Marked) → AreOfLives lives xs
+      → lines_of setting (moved time xs) ≡ map (moved_line time) (lines_of setting (plain xs))
+  lines_moved lives [] of_lives = refl
+  lines_moved lives (x ∷ earlier) of_lives =
+      (λ i. broken_lines (broken_lines_are lives (x ∷ earlier) of_lives i)
+      ++ loop_lines (loop_same earlier i) (loop_same (x ∷ earlier) i)
+      ++ root_lines (roots_same earlier i) (roots_same (x ∷ earlier) i)
+      ++ told_moved x i)
+      ∙ (λ i. sym (broken_lines_same time (breaks setting (seen_of (plain (x ∷ earlier))))) i
+      ++ sym (loop_lines_same time (first_on_loop setting (plain earlier)) (first_on_loop setting (plain (x ∷ earlier)))) i
+      ++ sym (root_lines_same time (roots setting (plain earlier)) (roots setting (plain (x ∷ earlier)))) i
+      ++ map (moved_line time) (map_or (asked_report x.step) [] (report_lines (reference_of x.step.seen.event))))
+      ∙ sym (four time (broken_lines (breaks setting (seen_of (plain (x ∷ earlier)))))
+      (loop_lines (first_on_loop setting (plain earlier)) (first_on_loop setting (plain (x ∷ earlier))))
+      (root_lines (roots setting (plain earlier)) (roots setting (plain (x ∷ earlier))))
+      (map_or (asked_report x.step) [] (report_lines (reference_of x.step.seen.event))))
 
 -- a report as it is seen at a line and a reference
 abbrev seen_at : (line reference : ℕ) → ℕ × Report → ReportAt
 seen_at line reference told = record { line = line; device = told.0; reference = reference; report = told.1 }
 
 -- the reports of a history
-pub reports_moved : (move : Move) (steps : List Step) → reports (map (moved_step move) steps) ≡ map (moved_report_at move.time) (reports steps)
-reports_moved move [] = refl
-reports_moved move (s ∷ earlier) =
-    (λ i. reports_moved move earlier i ++ option_to_list (option_map
-    (seen_at (length-map earlier (moved_step move) i + 1) (reference_moved move s.seen.event i)) (asked_moved move s i)))
-    ∙ ap (λ latest. map (moved_report_at move.time) (reports earlier) ++ latest) (go (asked_report s))
-    ∙ sym (map-append (moved_report_at move.time) (reports earlier)
-    (option_to_list (option_map (seen_at (length earlier + 1) (reference_of s.seen.event)) (asked_report s))))
+pub reports_moved : (time : ℕ) (xs : List Marked) → reports (moved time xs) ≡ map (moved_report_at time) (reports (plain xs))
+reports_moved time [] = refl
+reports_moved time (x ∷ earlier) =
+    (λ i. reports_moved time earlier i ++ option_to_list (option_map
+    (seen_at (lengths i + 1) (reference_moved time x.by x.step.seen.event i)) (asked_moved time x i)))
+    ∙ ap (λ latest. map (moved_report_at time) (reports (plain earlier)) ++ latest) (go (asked_report x.step))
+    ∙ sym (map-append (moved_report_at time) (reports (plain earlier))
+    (option_to_list (option_map (seen_at (length (plain earlier) + 1) (reference_of x.step.seen.event)) (asked_report x.step))))
   where
+    lengths : length (moved time earlier) ≡ length (plain earlier)
+    lengths = length-map earlier (λ y. moved_step time y.by y.step) ∙ sym (length-map earlier (λ y. y.step))
+
     go : (o : Option (ℕ × Report))
-        → option_to_list (option_map (seen_at (length earlier + 1) (reference_of s.seen.event + move.time)) (option_map (moved_asked move.time) o))
-        ≡ map (moved_report_at move.time) (option_to_list (option_map (seen_at (length earlier + 1) (reference_of s.seen.event)) o))
+        → option_to_list (option_map (seen_at (length (plain earlier) + 1) (reference_of x.step.seen.event + time)) (option_map (moved_asked time) o))
+        ≡ map (moved_report_at time) (option_to_list (option_map (seen_at (length (plain earlier) + 1) (reference_of x.step.seen.event)) o))
     go None = refl
     go (Some told) = refl

@@ -1,15 +1,32 @@
--- A history whose counters begin elsewhere.
-use Rattle.std.specs.Prelude.{ℕ, ◌+◌}
+-- A history whose counters begin elsewhere, in each life of a device.
+use Rattle.std.specs.Prelude.{ℕ, ◌+◌, List, [], ◌∷◌, count_by}
+use Rattle.sd_history.specs.Sched.Num.Lists.{map_or}
 use Rattle.sd_history.specs.Sched.declared.Event.{Event}
 use Rattle.sd_history.specs.Sched.declared.Event.TheVariants as event
+use Rattle.sd_history.specs.Sched.Events.{device_of}
+use Rattle.sd_history.specs.World.{makes}
 
--- the event, where the counters of each device are greater by a number of its own
-abbrev pub counters_moved : (ℕ → ℕ) → Event → Event
-counters_moved by (event.Start reference device counter clock eps) = event.Start reference device (counter + by device) clock eps
-counters_moved by (event.Tick reference device counter) = event.Tick reference device (counter + by device)
-counters_moved by (event.Recv reference device counter message) = event.Recv reference device (counter + by device) message
-counters_moved by (event.Fix reference device counter clock eps) = event.Fix reference device (counter + by device) clock eps
-counters_moved by (event.Ask reference device counter) = event.Ask reference device (counter + by device)
-counters_moved by (event.Commit reference device counter) = event.Commit reference device (counter + by device)
-counters_moved by (event.Join reference device counter clock eps) = event.Join reference device (counter + by device) clock eps
-counters_moved by e = e
+-- how often the device was made: which of its lives is the present one
+abbrev pub life_of : List Event → ℕ → ℕ
+life_of events d = count_by (makes d) events
+
+-- of numbers for each device and each of its lives, the one of the device that the latest event names
+abbrev pub number_of : (ℕ → ℕ → ℕ) → List Event → ℕ
+number_of by [] = 0
+number_of by (e ∷ earlier) = map_or (device_of e) 0 (λ d. by d (life_of (e ∷ earlier) d))
+
+-- the event with a greater counter, where it has one
+abbrev pub counter_moved : ℕ → Event → Event
+counter_moved by (event.Start reference device counter clock eps) = event.Start reference device (counter + by) clock eps
+counter_moved by (event.Tick reference device counter) = event.Tick reference device (counter + by)
+counter_moved by (event.Recv reference device counter message) = event.Recv reference device (counter + by) message
+counter_moved by (event.Fix reference device counter clock eps) = event.Fix reference device (counter + by) clock eps
+counter_moved by (event.Ask reference device counter) = event.Ask reference device (counter + by)
+counter_moved by (event.Commit reference device counter) = event.Commit reference device (counter + by)
+counter_moved by (event.Join reference device counter clock eps) = event.Join reference device (counter + by) clock eps
+counter_moved by e = e
+
+-- the events, where the counters of each life of each device are greater by a number of its own
+abbrev pub counters_moved : (ℕ → ℕ → ℕ) → List Event → List Event
+counters_moved by [] = []
+counters_moved by (e ∷ earlier) = counter_moved (number_of by (e ∷ earlier)) e ∷ counters_moved by earlier

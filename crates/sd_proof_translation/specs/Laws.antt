@@ -1,6 +1,8 @@
 -- What where a clock begins changes of a history: its counters and its times, and nothing else.
 use Rattle.std.specs.Prelude.{◌≡◌, ◌↔◌, ℕ, List, map}
+use Rattle.sd_history.specs.Sched.Num.Lists.{map_or}
 use Rattle.sd_history.specs.Sched.declared.Event.{Event}
+use Rattle.sd_history.specs.Sched.Events.{device_of}
 use Rattle.sd_history.specs.World.{Setting}
 use Rattle.sd_history.specs.Steps.{seen_of, flights}
 use Rattle.sd_history.specs.Refusals.{refusal}
@@ -8,7 +10,7 @@ use Rattle.sd_history.specs.Chronicle.{chronicle, IsHistory}
 use Rattle.sd_history.specs.Admitted.{IsAdmitted}
 use Rattle.sd_history.specs.Premises.{broken_in}
 use Rattle.sd_history.specs.Lines.{lines_of, reports}
-use Rattle.sd_proof_translation.specs.Moves.{Move, moved_event, moved_flight, moved_told, moved_line, moved_report_at}
+use Rattle.sd_proof_translation.specs.Moves.{moved_event, moved_events, moved_flight, moved_told, moved_line, moved_report_at}
 use Rattle.sd_proof_translation.specs.Counters.{counters_moved}
 use Rattle.sd_proof_translation.specs.Times.{times_moved}
 
@@ -33,20 +35,23 @@ pub record SaysTheSameLater (time : ℕ) (setting : Setting) (one other : List E
   pub reports : reports (chronicle setting one) ≡ map (moved_report_at time) (reports (chronicle setting other))
   pub broken : broken_in setting (seen_of (chronicle setting one)) ≡ broken_in setting (seen_of (chronicle setting other))
 
--- Moved counters change nothing. One device is a case: the others are moved by 0.
+-- Moved counters change nothing: a number for each life of each device, which is one for each device where by takes no notice of the life, and for one
+-- device alone where it is 0 for all others.
 abbrev pub CountersChangeNothing : Setting → Type 0
-CountersChangeNothing setting = (by : ℕ → ℕ) (events : List Event) → SaysTheSame setting (map (counters_moved by) events) events
+CountersChangeNothing setting = (by : ℕ → ℕ → ℕ) (events : List Event) → SaysTheSame setting (counters_moved by events) events
 
 -- Moved times change times alone.
 abbrev pub TimesChangeTimes : Setting → Type 0
-TimesChangeTimes setting = (by : ℕ) (events : List Event) → SaysTheSameLater by setting (map (times_moved by) events) events
+TimesChangeTimes setting = (time : ℕ) (events : List Event) → SaysTheSameLater time setting (times_moved time events) events
 
 -- Both at once.
 abbrev pub MovesChangeTimes : Setting → Type 0
-MovesChangeTimes setting = (move : Move) (events : List Event) → SaysTheSameLater move.time setting (map (moved_event move) events) events
+MovesChangeTimes setting =
+    (time : ℕ) (by : ℕ → ℕ → ℕ) (events : List Event) → SaysTheSameLater time setting (moved_events time by events) events
 
--- What is refused is refused for the same cause.
+-- What is refused is refused for the same cause, where each device has one number for all of its lives.
 abbrev pub RefusedAlike : Setting → Type 0
 RefusedAlike setting =
-    (move : Move) (earlier : List Event) (e : Event)
-    → refusal setting (chronicle setting (map (moved_event move) earlier)) (moved_event move e) ≡ refusal setting (chronicle setting earlier) e
+    (time : ℕ) (by : ℕ → ℕ) (earlier : List Event) (e : Event)
+    → refusal setting (chronicle setting (moved_events time (λ d life. by d) earlier)) (moved_event time (map_or (device_of e) 0 by) e)
+    ≡ refusal setting (chronicle setting earlier) e

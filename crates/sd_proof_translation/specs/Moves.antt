@@ -1,6 +1,6 @@
--- A history that is moved: all reference times and all clocks that are set by one number, and the counters of each device by a number of
--- its own.
-use Rattle.std.specs.Prelude.{ℕ, ◌+◌, map, option_map}
+-- A history that is moved: all reference times and all clocks that are set by one number, and the counters of each life of each device by a
+-- number of its own.
+use Rattle.std.specs.Prelude.{ℕ, ◌+◌, List, [], ◌∷◌, map, option_map}
 use Rattle.sd_history.specs.Clock.declared.Estimate.{Estimate}
 use Rattle.sd_history.specs.Clock.declared.Report.{Report}
 use Rattle.sd_history.specs.Msg.declared.Message.{Message}
@@ -14,36 +14,33 @@ use Rattle.sd_history.specs.Sched.declared.Event.TheVariants as event
 use Rattle.sd_history.specs.World.{Seen}
 use Rattle.sd_history.specs.Steps.{Act, Makes, Calls, Asks, Passes, Told, Step}
 use Rattle.sd_history.specs.Lines.{Line, Broken, LoopAlarm, RootsAlarm, Reported, IntervalAlarm}
+use Rattle.sd_proof_translation.specs.Counters.{number_of}
 
--- by how much: one number for reference times and clocks, and one for the counters of each device
-pub record Move : Type 0 where
-  pub time : ℕ
-  pub counters : ℕ → ℕ
+-- an event: its reference and the clock that it sets by time, and its counter by the other number
+abbrev pub moved_event : (time by : ℕ) → Event → Event
+moved_event time by (event.Start reference device counter clock eps) = event.Start (reference + time) device (counter + by) (clock + time) eps
+moved_event time by (event.Tick reference device counter) = event.Tick (reference + time) device (counter + by)
+moved_event time by (event.Recv reference device counter message) = event.Recv (reference + time) device (counter + by) message
+moved_event time by (event.Lose reference message) = event.Lose (reference + time) message
+moved_event time by (event.FailDevice reference device) = event.FailDevice (reference + time) device
+moved_event time by (event.FailLink reference link) = event.FailLink (reference + time) link
+moved_event time by (event.Fix reference device counter clock eps) = event.Fix (reference + time) device (counter + by) (clock + time) eps
+moved_event time by (event.Ask reference device counter) = event.Ask (reference + time) device (counter + by)
+moved_event time by (event.Stage reference) = event.Stage (reference + time)
+moved_event time by (event.Give reference device) = event.Give (reference + time) device
+moved_event time by (event.Commit reference device counter) = event.Commit (reference + time) device (counter + by)
+moved_event time by (event.Seal reference device) = event.Seal (reference + time) device
+moved_event time by (event.Join reference device counter clock eps) = event.Join (reference + time) device (counter + by) (clock + time) eps
+moved_event time by (event.MendDevice reference device) = event.MendDevice (reference + time) device
+moved_event time by (event.MendLink reference link) = event.MendLink (reference + time) link
+moved_event time by (event.End reference) = event.End (reference + time)
 
--- an event: its reference, the counter of its device, and the clock that it sets
-abbrev pub moved_event : Move → Event → Event
-moved_event move (event.Start reference device counter clock eps) =
-    event.Start (reference + move.time) device (counter + move.counters device) (clock + move.time) eps
-moved_event move (event.Tick reference device counter) = event.Tick (reference + move.time) device (counter + move.counters device)
-moved_event move (event.Recv reference device counter message) =
-    event.Recv (reference + move.time) device (counter + move.counters device) message
-moved_event move (event.Lose reference message) = event.Lose (reference + move.time) message
-moved_event move (event.FailDevice reference device) = event.FailDevice (reference + move.time) device
-moved_event move (event.FailLink reference link) = event.FailLink (reference + move.time) link
-moved_event move (event.Fix reference device counter clock eps) =
-    event.Fix (reference + move.time) device (counter + move.counters device) (clock + move.time) eps
-moved_event move (event.Ask reference device counter) = event.Ask (reference + move.time) device (counter + move.counters device)
-moved_event move (event.Stage reference) = event.Stage (reference + move.time)
-moved_event move (event.Give reference device) = event.Give (reference + move.time) device
-moved_event move (event.Commit reference device counter) = event.Commit (reference + move.time) device (counter + move.counters device)
-moved_event move (event.Seal reference device) = event.Seal (reference + move.time) device
-moved_event move (event.Join reference device counter clock eps) =
-    event.Join (reference + move.time) device (counter + move.counters device) (clock + move.time) eps
-moved_event move (event.MendDevice reference device) = event.MendDevice (reference + move.time) device
-moved_event move (event.MendLink reference link) = event.MendLink (reference + move.time) link
-moved_event move (event.End reference) = event.End (reference + move.time)
+-- the events, where the number for counters is that of the life of the device
+abbrev pub moved_events : (time : ℕ) (by : ℕ → ℕ → ℕ) → List Event → List Event
+moved_events time by [] = []
+moved_events time by (e ∷ earlier) = moved_event time (number_of by (e ∷ earlier)) e ∷ moved_events time by earlier
 
--- What follows of them, where time is the number for clocks, and by the one for the counters of the device that is spoken of.
+-- What follows of them: time is the number for clocks, and by the one for the counters of the device that is spoken of.
 
 -- a report: its clock, and not its uncertainty
 abbrev pub moved_report : (time : ℕ) → Report → Report
@@ -92,11 +89,11 @@ moved_call time by (Commit counter) = Commit (counter + by)
 moved_call time by Seal = Seal
 
 -- what an event does
-abbrev pub moved_act : Move → Act → Act
-moved_act move (Makes d making) = Makes d (moved_making move.time (move.counters d) making)
-moved_act move (Calls d call) = Calls d (moved_call move.time (move.counters d) call)
-moved_act move (Asks d counter) = Asks d (counter + move.counters d)
-moved_act move Passes = Passes
+abbrev pub moved_act : (time by : ℕ) → Act → Act
+moved_act time by (Makes d making) = Makes d (moved_making time by making)
+moved_act time by (Calls d call) = Calls d (moved_call time by call)
+moved_act time by (Asks d counter) = Asks d (counter + by)
+moved_act time by Passes = Passes
 
 -- what a device tells at an event: it answers the same
 abbrev pub moved_told : (time : ℕ) → Told → Told
@@ -104,25 +101,25 @@ moved_told time told =
     record { effect = moved_effect time told.effect; answers = told.answers; report = option_map (moved_report time) told.report }
 
 -- what is seen of an event
-abbrev pub moved_seen : Move → Seen → Seen
-moved_seen move s =
+abbrev pub moved_seen : (time by : ℕ) → Seen → Seen
+moved_seen time by s =
     record {
-      event = moved_event move s.event;
-      taken = option_map (moved_flight move.time) s.taken;
-      sent = map (moved_flight move.time) s.sent;
+      event = moved_event time by s.event;
+      taken = option_map (moved_flight time) s.taken;
+      sent = map (moved_flight time) s.sent;
       activated = s.activated;
       acted = s.acted;
       closed = s.closed;
     }
 
 -- a step
-abbrev pub moved_step : Move → Step → Step
-moved_step move s =
+abbrev pub moved_step : (time by : ℕ) → Step → Step
+moved_step time by s =
     record {
-      seen = moved_seen move s.seen;
-      act = moved_act move s.act;
-      told = moved_told move.time s.told;
-      sent = map (moved_flight move.time) s.sent;
+      seen = moved_seen time by s.seen;
+      act = moved_act time by s.act;
+      told = moved_told time s.told;
+      sent = map (moved_flight time) s.sent;
     }
 
 -- a line: the clock that is reported, and the reference of an alarm
