@@ -10,3 +10,4 @@ pub mod Refused
 pub mod Judged
 pub mod Told
 pub mod Laws
+pub mod Counted

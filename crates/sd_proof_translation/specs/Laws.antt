@@ -11,7 +11,7 @@ use Rattle.sd_history.specs.Admitted.{IsAdmitted}
 use Rattle.sd_history.specs.Premises.{broken_in}
 use Rattle.sd_history.specs.Lines.{lines_of, reports}
 use Rattle.sd_proof_translation.specs.Moves.{moved_event, moved_events, moved_flight, moved_told, moved_line, moved_report_at}
-use Rattle.sd_proof_translation.specs.Counters.{counters_moved}
+use Rattle.sd_proof_translation.specs.Counters.{counters_moved, counters_of_lives, NeverBelowMaking}
 use Rattle.sd_proof_translation.specs.Times.{times_moved}
 
 -- Both are histories or neither is. At each event the device tells the same: what it sends, what it answers and what it reports. The same flights are
@@ -39,6 +39,11 @@ pub record SaysTheSameLater (time : ℕ) (setting : Setting) (one other : List E
 -- device alone where it is 0 for all others.
 abbrev pub CountersChangeNothing : Setting → Type 0
 CountersChangeNothing setting = (by : ℕ → ℕ → ℕ) (events : List Event) → SaysTheSame setting (counters_moved by events) events
+
+-- Counters that count from the latest start or join of their device change nothing, if none is below the counter at that start or join. In an admitted
+-- history none is.
+abbrev pub LivesChangeNothing : Setting → Type 0
+LivesChangeNothing setting = (events : List Event) → NeverBelowMaking events → SaysTheSame setting (counters_of_lives events) events
 
 -- Moved times change times alone.
 abbrev pub TimesChangeTimes : Setting → Type 0
