@@ -12,6 +12,14 @@ from sundial_tools.topology import NAME
 TEXT = re.compile(r"[ -~]+")
 PREMISES = ("start", "drift", "delay", "tick", "loss", "domain", "renew")
 VERDICTS = ("inside", "outside")
+# In what a schedule and an opening differ (docs/LONG-RUNS.md), each with the kind of thing whose number stands behind it.
+FACTS: Dict[str, str] = {
+    "network": "", "window": "", "time": "", "plan": "", "end": "", "messages": "", "opening-sends": "", "message": "message",
+    "up": "device", "device": "device", "link": "link", "counter": "device", "duty": "device", "given": "device",
+    "mode": "device", "sealed": "device", "rates": "device", "stamp": "device", "last": "device", "sent": "device",
+    "estimate": "device", "broken": "", "drift": "device", "tick": "device", "awaited": "device", "untouched": "device",
+    "failed-device": "device", "failed-link": "link",
+}
 # (what is printed is of at most 128 bits)
 NUMBER = re.compile(r"0|[1-9][0-9]{0,39}")
 
@@ -23,8 +31,8 @@ class OutputLine(NamedTuple):
     fields: Dict[str, Any]
 
 
-# Of each form: the fields behind the first word, `n:` a number, `s:` a name, `p:` a premise, `v:` a verdict, `r:` the rest
-# of the line, `=` a fixed word, `+` one or more names.
+# Of each form: the fields behind the first word, `n:` a number, `s:` a name, `p:` a premise, `v:` a verdict, `f:` a fact with
+# the number of its thing, `r:` the rest of the line, `=` a fixed word, `+` one or more names.
 _DOMAIN = ("d:domain",)
 _FORMS: Dict[str, List[Tuple[str, Tuple[str, ...]]]] = {
     "report": [("report", ("n:line", "s:device", "n:clock", "n:eps"))],
@@ -43,6 +51,8 @@ _FORMS: Dict[str, List[Tuple[str, Tuple[str, ...]]]] = {
     "bound": [("bound", _DOMAIN + ("s:device", "n:eps"))],
     "nobound": [("nobound", _DOMAIN + ("s:device",)), ("nobound", _DOMAIN + ("s:device", "n:calm"))],
     "bounds": [("bounds", _DOMAIN + ("s:device", "n:drill", "n:tight", "n:calm"))],
+    "agree": [("agree", ("n:lines", "n:opening"))],
+    "differ": [("differ", ("f:fact",))],
     "accepted": [("accepted", ("n:devices", "n:links", "n:domains"))],
     "case": [("case", ("n:events", "n:reports", "n:eps", "n:broken", "n:alarms"))],
     "refused": [
@@ -59,6 +69,7 @@ _FORMS: Dict[str, List[Tuple[str, Tuple[str, ...]]]] = {
         ("input plan", ("=plan", "n:plan", "r:reason")),
         ("input absent", ("=absent", "r:reason")),
         ("input schedule", ("=schedule", "n:line", "r:reason")),
+        ("input opening", ("=opening", "n:line", "r:reason")),
         ("input exchanges", ("=exchanges", "n:line", "r:reason")),
     ],
 }
@@ -108,6 +119,8 @@ def _take(sort: str, name: str, rest: List[str], fields: Dict[str, Any]) -> int:
             return 0
         fields[name] = rest[0]
         return 1
+    if sort == "f":
+        return _take_fact(rest, fields)
     if sort in "dt":
         if rest[0] not in ("listed", "device", "link") or len(rest) < 2 or not NAME.fullmatch(rest[1]):
             return 0
@@ -117,6 +130,20 @@ def _take(sort: str, name: str, rest: List[str], fields: Dict[str, Any]) -> int:
         return 0
     fields[name] = " ".join(rest) if sort == "r" else list(rest)
     return len(rest)
+
+
+def _take_fact(rest: List[str], fields: Dict[str, Any]) -> int:
+    """Reads in what two histories differ: a word, and the number of a device, a link or a message where it has one."""
+    thing = FACTS.get(rest[0])
+    if thing is None:
+        return 0
+    fields["fact"] = rest[0]
+    if not thing:
+        return 1
+    if len(rest) < 2 or not NUMBER.fullmatch(rest[1]):
+        return 0
+    fields.update(thing=thing, number=int(rest[1]))
+    return 2
 
 
 def read_output(lines: Iterable[str], source: Optional[str] = None) -> Iterator[OutputLine]:

@@ -37,6 +37,12 @@ KINDS = {
     "bounds link rx1 x 5048333 4359213 2016436\n": {
         "kind": "bounds", "domain": {"kind": "link", "name": "rx1"}, "device": "x", "drill": 5048333, "tight": 4359213, "calm": 2016436,
     },
+    "agree 16 7\n": {"kind": "agree", "lines": 16, "opening": 7},
+    "differ window\n": {"kind": "differ", "fact": "window"},
+    "differ estimate 0\n": {"kind": "differ", "fact": "estimate", "thing": "device", "number": 0},
+    "differ failed-link 2\n": {"kind": "differ", "fact": "failed-link", "thing": "link", "number": 2},
+    "differ message 5\n": {"kind": "differ", "fact": "message", "thing": "message", "number": 5},
+    "input opening 3 Refused\n": {"kind": "input opening", "line": 3, "reason": "Refused"},
     "usage: sundial solo SCHEDULE\n": {"kind": "usage", "text": "usage: sundial solo SCHEDULE"},
 }
 
@@ -73,6 +79,19 @@ class Lines(unittest.TestCase):
             "event": {"word": "ask", "device": "x", "counter": 215700000}, "off": -300000, "inside": True,
         })
         self.assertEqual(rows[2], {"kind": "done", "events": 30, "reports": 2})
+
+    def test_the_thing_in_which_an_opening_differs_has_a_name(self):
+        topology = {"topology": (DATA / "triangle.toml").read_text()}
+        for text, name in ("differ estimate 1\n", "b"), ("differ link 2\n", "bx"), ("differ failed-device 0\n", "r"), ("differ up 7\n", 7):
+            self.assertEqual(self.rows(text, files=topology)[0]["name"], name)
+        for text in "differ time\n", "differ message 2\n":
+            self.assertNotIn("name", self.rows(text, files=topology)[0])
+
+    def test_a_refused_line_of_an_opening_is_none_of_the_schedule(self):
+        out = self.renewed("input opening 2 Refused\n")[1]
+        self.assertEqual(json.loads(out), {"kind": "input opening", "line": 2, "reason": "Refused"})
+        out = self.renewed("input schedule 2 Refused\n")[1]
+        self.assertEqual(json.loads(out)["text"], RENEWAL.splitlines()[1])
 
     def test_things_that_fail_have_names(self):
         schedule = "start 0 0 0 0 500\nfail 5 link 2\nfail 6 device 1\nend 7\n"
@@ -166,6 +185,7 @@ class Lines(unittest.TestCase):
         for text in (
             "broken 5 clock\n", "alarm 5 fire b\n", "link rb 1 2 3 between\n", "report 5 b/c 1 2\n", "bound listed a+b x 5\n",
             "refused plan 1 loop listed c cycle x y!\n", "report 22 b 1 2\r\n", "broken 5 start\r\n", "input plan 1 NotJson\r\n",
+            "differ\n", "differ clock\n", "differ time 1\n", "differ estimate\n", "differ estimate x\n", "differ up 1 2\n", "agree 1\n",
             "usage: sundial\r\n", "input topology NoToml \u2028\n",
         ):
             with self.subTest(text):
@@ -184,6 +204,8 @@ class Lines(unittest.TestCase):
         for text, reason in (
             ("done 1 0\nreport 2 b 1 2\n", "a line behind the last one, which was done"),
             ("refused plan 1 ancestor device b\ndone 1 0\n", "a line behind the last one, which was refused"),
+            ("agree 16 7\ndiffer time\n", "a line behind the last one, which was agree"),
+            ("report 1 b 1 2\ndiffer time\n", "does not stand in the output of this command"),
             ("report 1 b 1 2\naccepted 1 1 1\n", "does not stand in the output of this command"),
             ("report 2 b 1 2\nreport 1 b 1 2\n", "the output is out of order: line 1 comes behind line 2"),
             ("report 1 b 1 2\ndone 5 2\n", "done says 2 reports, and 1 were read"),

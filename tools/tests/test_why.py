@@ -5,7 +5,9 @@ import unittest
 from examples import EXAMPLES, outputs
 from support import directory, run
 
+from sundial_tools.outputs import FACTS
 from sundial_tools.why.main import main
+from sundial_tools.why.resumed import FACTS as TEXTS
 
 TRIANGLE, REFUSED, INCIDENT = EXAMPLES / "triangle", EXAMPLES / "refused", EXAMPLES / "incident"
 ROW = '[[device]]\nname = "{}"\n'
@@ -149,6 +151,49 @@ class Why(unittest.TestCase):
         at = next(at for at, line in enumerate(lines) if line.startswith("recv"))
         text = "".join([*lines[: at + 1], lines[at]])
         self.schedule(f"was told already, at line {at + 1}", at + 2, "SpentMessage", text)
+
+    # Openings
+
+    OPENING = (
+        "start 160000000 0 160003200 160003200 33501", "start 160550000 1 160540367 160703200 333501",
+        "start 160740000 2 160757681 160703200 333501", "fix 160996780 0 161000000 161000000 32700",
+    )
+
+    def opening(self, part, line, opening, count=16, more=""):
+        """The opening of docs/LONG-RUNS.md, or a changed one, for the front of the schedule of the triangle."""
+        lines = (TRIANGLE / "schedule.txt").read_text().splitlines()[:16]
+        texts = ["".join(f"{it}\n" for it in text) for text in (lines[:count], [*opening, *lines[13:16]])]
+        words = [TRIANGLE / "topology.toml", TRIANGLE / "plan.json", "before", "/", TRIANGLE / "plan.json", "opening"]
+        return self.says(part, line + "\n", *words, files={"before": texts[0] + more, "opening": texts[1]})
+
+    def test_an_opening_that_stands_for_the_schedule(self):
+        out = self.opening("The opening of 7 lines stands for the schedule of 16", "agree 16 7", self.OPENING)
+        self.assertIn("greater by 9 in the whole", out)
+
+    def test_in_what_an_opening_differs(self):
+        out = self.opening("r would report another time, or another EPS", "differ estimate 0", self.OPENING[:3])
+        self.assertIn("At the end of the schedule: 240004800 ps with an EPS of 49501 ps (49.5 ns). At the end of the opening: 240004800 ps with an EPS of 50502 ps", out)
+        self.assertIn("Change: the clock and EPS of its last `start` or `fix`", out)
+        out = self.opening("have two references", "differ time", self.OPENING, more="tick 170000000 0 170003400\n")
+        self.assertIn("At the end of the schedule: 170000000. At the end of the opening: ", out)
+        self.opening("to b over rb1, and it can come until", "differ message 1", self.OPENING, 8)
+        changed = [self.OPENING[0], self.OPENING[1].replace("160540367", "160540366"), *self.OPENING[2:]]
+        self.opening("the schedule: 160540367. At the end of the opening: 160540366.", "differ last 1", changed)
+
+    def test_each_fact_has_words(self):
+        self.assertEqual(set(TEXTS), set(FACTS))
+        for fact, thing in FACTS.items():
+            line = f"differ {fact} 1" if thing else f"differ {fact}"
+            out = self.says("The opening does not stand for the schedule. ", line + "\n", TRIANGLE / "topology.toml")
+            self.assertIn("\n    Change: ", out)
+            self.assertEqual({"device": "b ", "link": "rb2 ", "message": "Message 1 "}.get(thing, "") in out, True)
+
+    def test_why_a_line_of_an_opening_is_refused(self):
+        self.opening("A replay refuses it too: CounterFalls.", "input opening 4 Refused", [*self.OPENING[:3], "fix 160996780 0 1 161000000 32700"])
+        self.opening("r showed 160003200 at line 1, and 1 here", "input opening 4 Refused", [*self.OPENING[:3], "fix 160996780 0 1 161000000 32700"])
+        self.opening("A replay refuses it too: Number 2.", "input schedule 17 Refused", self.OPENING, more="ask 160996780 r 161000000\n")
+        self.opening("`sundial replay` names the reason", "input opening 3 Refused", self.OPENING)
+        self.says("Name its file for more behind /.", "input opening 3 Refused\n", TRIANGLE / "topology.toml")
 
     # Replays, drills and exchanges
 

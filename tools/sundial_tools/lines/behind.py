@@ -129,13 +129,13 @@ class Events:
         for key in FIELDS[event.word]:
             named[key] = getattr(event, key)
         if self._topology is not None and event.device is not None:
-            named["device"] = _name(self._topology, "device", event.device)
+            named["device"] = name_of(self._topology, "device", event.device)
         if self._topology is not None and event.thing is not None and event.number is not None:
-            named["name"] = _name(self._topology, event.thing, event.number)
+            named["name"] = name_of(self._topology, event.thing, event.number)
         return named
 
 
-def _name(topology: Topology, thing: str, number: int) -> Union[str, int]:
+def name_of(topology: Topology, thing: str, number: int) -> Union[str, int]:
     """The name of a device or link, or its number where the topology has none such."""
     names = [topology.devices[number].name] if thing == "device" and number < len(topology.devices) else []
     names += [topology.links[number].name] if thing == "link" and number < len(topology.links) else []

@@ -6,7 +6,7 @@ import itertools
 from typing import Any, Callable, Dict, Iterator, Optional, Protocol
 
 from sundial_tools.errors import ToolError
-from sundial_tools.lines.behind import Behind, Events
+from sundial_tools.lines.behind import Behind, Events, name_of
 from sundial_tools.lines.order import Order
 from sundial_tools.lines.texts import plan_lines, topology_lines
 from sundial_tools.outputs import OutputLine, read_output
@@ -69,7 +69,9 @@ class Converter:
         if line.kind == "input exchanges" and self._exchanges is not None:
             text = self._exchanges.line(fields["line"])
             fields.update({} if text is None else {"text": text})
-        elif "line" in fields and line.kind != "input exchanges" and self._events is not None:
+        elif line.kind == "differ" and self._topology is not None and fields.get("thing") in ("device", "link"):
+            fields["name"] = name_of(self._topology, fields["thing"], fields["number"])
+        elif "line" in fields and line.kind not in ("input exchanges", "input opening") and self._events is not None:
             fields.update(self._events.add(line))
         return fields
 

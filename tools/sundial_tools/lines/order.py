@@ -7,7 +7,10 @@ from typing import Dict, Optional
 from sundial_tools.errors import ToolError
 from sundial_tools.outputs import OutputLine
 
-ALONE = ("accepted", "refused", "input topology", "input plan", "input absent", "input exchanges", "case", "usage")
+ALONE = (
+    "accepted", "refused", "input topology", "input plan", "input absent", "input exchanges", "input opening", "case", "usage",
+    "agree", "differ",
+)
 FAMILY_OF = {
     "report": "replay", "broken": "replay", "alarm": "replay", "begin": "replay", "ended": "replay", "disorder": "replay",
     "waits": "replay", "input": "replay", "bound": "drill", "nobound": "drill", "link": "twoway",

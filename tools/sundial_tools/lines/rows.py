@@ -35,6 +35,8 @@ _COLUMNS: Dict[str, Tuple[str, ...]] = {
     ),
     "accepted": ("kind", "devices", "links", "domains"),
     "case": ("kind", "events", "reports", "eps", "broken", "alarms"),
+    "agree": ("kind", "lines", "opening"),
+    "differ": ("kind", "fact", "thing", "number", "name"),
     "usage": ("kind", "text"),
 }
 _COLUMNS["nobound"] = _COLUMNS["bound"]

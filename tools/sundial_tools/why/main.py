@@ -5,7 +5,7 @@ from __future__ import annotations
 import argparse
 import contextlib
 import sys
-from typing import Dict, Iterator, List, Optional, Sequence
+from typing import Dict, Iterator, List, Optional, Sequence, Tuple
 
 from sundial_tools.errors import ToolError
 from sundial_tools.inputs import as_files
@@ -17,28 +17,42 @@ from sundial_tools.why.broken import Replayed
 from sundial_tools.why.course import Course
 from sundial_tools.why.inputs import plan_reason, topology_reason
 from sundial_tools.why.refused import Refused
+from sundial_tools.why.resumed import Resumed
 from sundial_tools.why.said import domain_of, failing, time
 from sundial_tools.why.schedules import Exchanges
 from sundial_tools.why.schedules import Refused as RefusedLine
 from sundial_tools.why.texts import JsonText, Text, TomlText, is_exchanges, is_plan
 
 
+# What stands between the two texts of `sundialctl resume`, each behind its plans.
+BETWEEN = "/"
+
+
 class Why:
-    """The files of a command, and what its lines mean over them."""
+    """The files of a command, and what its lines mean over them. Behind `/` they are those of an opening."""
 
     def __init__(self, topology: str, others: Sequence[str], absent: Optional[str]) -> None:
         self.toml = TomlText(Text(topology))
-        self.plan_texts = [JsonText(Text(path)) for path in others if is_plan(path)]
-        self.absent = JsonText(Text(absent)) if absent else None
-        lines = [path for path in others if not is_plan(path)]
-        if len(lines) > 1:
-            raise ToolError(f"two schedules, {lines[0]} and {lines[1]}: name one")
         self.topology = self._topology()
-        self.plans = self._plans()
-        self.exchanges = Exchanges(lines[0], self.topology) if lines and is_exchanges(lines[0]) else None
-        is_schedule = bool(lines) and self.exchanges is None and self.topology is not None
-        whole = self.plans if len(self.plans) == len(self.plan_texts) else []
-        self.course = Course(lines[0], self.topology, whole) if is_schedule and self.topology else None
+        self.absent = JsonText(Text(absent)) if absent else None
+        place = others.index(BETWEEN) if BETWEEN in others else len(others)
+        lines, self.plan_texts, self.plans = self._files(others[:place])
+        self.exchanges = Exchanges(lines, self.topology) if lines and is_exchanges(lines) else None
+        self.course = self._course(None if self.exchanges else lines, self.plan_texts, self.plans)
+        self.opening = self._course(*self._files(others[place + 1:]))
+
+    def _files(self, paths: Sequence[str]) -> Tuple[Optional[str], List[JsonText], List[Plan]]:
+        """The schedule or exchanges of these files, where there is one, and their plans."""
+        texts = [JsonText(Text(path)) for path in paths if is_plan(path)]
+        lines = [path for path in paths if not is_plan(path)]
+        if len(lines) > 1:
+            raise ToolError(f"two schedules, {lines[0]} and {lines[1]}: name one, or an opening behind {BETWEEN}")
+        return lines[0] if lines else None, texts, self._plans(texts)
+
+    def _course(self, path: Optional[str], texts: Sequence[JsonText], plans: Sequence[Plan]) -> Optional[Course]:
+        if path is None or self.topology is None:
+            return None
+        return Course(path, self.topology, plans if len(plans) == len(texts) else [])
 
     def _topology(self) -> Optional[Topology]:
         try:
@@ -46,9 +60,9 @@ class Why:
         except ToolError:
             return None
 
-    def _plans(self) -> List[Plan]:
+    def _plans(self, texts: Sequence[JsonText]) -> List[Plan]:
         found: List[Plan] = []
-        for text in self.plan_texts:
+        for text in texts:
             try:
                 found += [parse_plan(text.text.text, self.topology)] if self.topology else []
             except ToolError:
@@ -66,6 +80,8 @@ class Why:
             yield from getattr(says, first)(line)
         elif first in ("bound", "bounds", "nobound") and self.topology:
             yield from self._bound(line)
+        elif first in ("agree", "differ") and self.topology:
+            yield from getattr(Resumed(self.topology, self.course, self.opening), first)(line)
         else:
             yield from _plain(line)
 
@@ -79,10 +95,13 @@ class Why:
             yield from plan_reason(reason, self.plan_texts[line.fields["plan"] - 1], self.topology)
         elif what == "schedule" and self.course:
             yield from RefusedLine(self.course).say(line.fields["line"], reason)
+        elif what == "opening" and self.opening:
+            yield from RefusedLine(self.opening).say(line.fields["line"], reason)
         elif what == "exchanges" and self.exchanges:
             yield from self.exchanges.say(line.fields["line"], reason)
         else:
-            yield f"The {what} is refused. Name its file for more{' by --absent' if what == 'absent' else ''}."
+            how = {"absent": " by --absent", "opening": f" behind {BETWEEN}"}.get(what, "")
+            yield f"The {what} is refused. Name its file for more{how}."
 
     def _refused(self, line: OutputLine) -> Iterator[str]:
         number = line.fields["plan"]
@@ -168,7 +187,7 @@ def _parser() -> argparse.ArgumentParser:
         "A file that begins with a brace, or whose name ends in .json, is a plan. docs/TROUBLESHOOTING.md has each kind of line.",
     )
     parser.add_argument("topology", metavar="TOPOLOGY")
-    parser.add_argument("others", metavar="FILE", nargs="*", help="the plans of the command in their order, and its schedule or exchanges")
+    parser.add_argument("others", metavar="FILE", nargs="*", help="the plans of the command in their order, and its schedule or exchanges; of resume with / and what is behind it")
     parser.add_argument("--lines", "-l", metavar="FILE", default="-", help="what sundial printed (default: standard input)")
     parser.add_argument("--absent", "-a", metavar="FILE", help="the absent text of a renew")
     parser.add_argument("--follow", "-f", action="store_true", help=FOLLOW)

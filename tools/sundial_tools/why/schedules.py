@@ -4,13 +4,16 @@ from __future__ import annotations
 
 from typing import Callable, Dict, Iterator, List, Optional, Sequence
 
+from sundial_tools.errors import ToolError
 from sundial_tools.plain.history import History
-from sundial_tools.schedule import FIELDS, Event
+from sundial_tools.plain.refusals import refusal
+from sundial_tools.schedule import FIELDS, Event, parse_event
 from sundial_tools.topology import Topology
 from sundial_tools.why.course import Course
 from sundial_tools.why.said import Names, listed, time
 from sundial_tools.why.texts import near
 
+MOST_OF_A_LINE = 4096
 RANGE = {"device": "at most 2^32 - 1", "number": "at most 2^32 - 1"}
 
 
@@ -99,7 +102,9 @@ class Refused:
         text = self.course.text(number)
         if text is not None:
             yield f"{self.course.path}, line {number}: {shown(text)}"
-        if reason[0] in ENDS:
+        if reason[0] == "Refused":
+            yield from self._anew(number, text)
+        elif reason[0] in ENDS:
             yield ENDS[reason[0]]
         elif reason[0] in FORMS and text is not None:
             yield from SCHEDULE.form(reason, text)
@@ -110,6 +115,29 @@ class Refused:
                 return
             says: Optional[Callable[[int, Event], Iterator[str]]] = getattr(self, f"_{reason[0]}", None)
             yield from says(number, event) if says else ()
+
+    def _anew(self, number: int, text: Optional[bytes]) -> Iterator[str]:
+        """Why `sundialctl resume` refuses a line, which it does not say: the reason of a replay, found here."""
+        reason = self._reason(number, text)
+        if reason:
+            yield f"A replay refuses it too: {' '.join(reason)}."
+            yield from list(self.say(number, reason))[1:]
+        else:
+            yield "Change: replay the text, with an `end` behind it: `sundial replay` names the reason."
+
+    def _reason(self, number: int, text: Optional[bytes]) -> Sequence[str]:
+        """The reason of a replay, or none where it is not found here."""
+        if text is None:
+            return ()
+        if len(text) > MOST_OF_A_LINE:
+            return ("LongLine",)
+        try:
+            event = parse_event(text.decode("latin-1"))
+        except ToolError as fault:
+            return fault.reason.partition(":")[0].split(" ")
+        history = self.course.history(number)
+        found = refusal(history, event) if history else None
+        return (found,) if found else ()
 
     def _last(self, number: int, words: Sequence[str], device: Optional[int]) -> Optional[int]:
         """The latest line before of these words and this device."""
