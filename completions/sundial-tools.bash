@@ -5,7 +5,7 @@ _sundial_tool() {
     case $1 in
         sundial-topology) words="lldp tables netbox names absent lint make --aggregations --cables --candidates --cores --delays --depth --devices --every-feed --feeds --grain --help --host-links --hosts --ignore --ignore-chassis --ignore-port --ignore-role --interfaces --leaves --links --links-each --loss --max --message-loss --min --no-feeds --no-racks --one-sided --oscillators --output --period --plan --pods --ppm --root-role --seed --side-field --spines --status --tick --trays --version --without-feed --without-rack" ;;
         sundial-exchanges) words="capture ptp chrony --asymmetry --device --help --hold --link --output --peer --seconds --version" ;;
-        sundial-record) words="--counters --follow --help --no-losses --origin --output --plan --version" ;;
+        sundial-record) words="--compact --counters --feed --follow --help --horizon --no-losses --origin --output --plan --version" ;;
         sundial-cut) words="--at --certify --every --follow --help --jobs --move --output --run --version" ;;
         sundial-lines) words="--command --csv --exchanges --follow --help --lineage --output --plan --schedule --strings --topology --version" ;;
         sundial-watch) words="report --ask --bound --counters --every --fabric --follow --from --help --horizon --keep --listen --once --origin --output --plan --prometheus --reports --to --version" ;;

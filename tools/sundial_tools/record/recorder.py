@@ -2,7 +2,7 @@
 
 from __future__ import annotations
 
-from typing import Callable, Dict, Iterable, List, Optional, Sequence, TextIO
+from typing import Callable, Dict, Iterable, List, Mapping, Optional, Sequence, TextIO
 
 from sundial_tools.errors import ToolError
 from sundial_tools.plan import Plan
@@ -21,6 +21,33 @@ def origin_before(reference: int) -> int:
     return max(0, (reference // SECOND - 1) * SECOND)
 
 
+def within(event: LogEvent, value: int, what: str) -> int:
+    """The value, where a schedule may have it."""
+    if 0 <= value <= MOST_NUMBER:
+        return value
+    if what == "the counter":
+        raise event.refuse(f"the counter is {value} ps, and at most 2^60 are allowed: say --counters life")
+    place = "of the origin" if what != "the eps" else ""
+    raise event.refuse(f"{what} is {value} ps {place}".rstrip() + ", and has to be from 0 to 2^60: say another --origin")
+
+
+def placed(event: LogEvent, origin: int) -> LogEvent:
+    """The event with its clock, if it has one, counted from the origin."""
+    if event.clock is None or event.eps is None:
+        return event
+    clock = within(event, event.clock - origin, "the clock")
+    within(event, event.eps, "the eps")
+    return event._replace(clock=clock)
+
+
+def since_begin(event: LogEvent, counter: int, bases: Mapping[int, int]) -> int:
+    """The counter since the latest start or join of its device, at which it was as `bases` says."""
+    base = counter if event.word in ("start", "join") else bases.get(event.device, counter)
+    if counter < base:
+        raise event.refuse(f"CounterFalls: the counter is {base - counter} ps less than at the start or join")
+    return counter - base
+
+
 class Recorder:
     """Writes the schedule. `origin` is picoseconds, or None for the one before the first reference.
 
@@ -33,6 +60,8 @@ class Recorder:
         with_losses: bool, counted: Callable[[int], None], most_waiting: int = 1,
     ) -> None:
         self._fleet = JudgedFleet(topology, plans)
+        # The line of a tick, an ask or a receipt that nothing refuses, which then happens; or "" for all others.
+        self._usual_line = self._fleet.usual
         self._text, self._from_life, self._with_losses, self._counted = text, from_life, with_losses, counted
         self._waiting: List[str] = []
         self._most_waiting = most_waiting
@@ -67,7 +96,7 @@ class Recorder:
         if self._from_life:
             counter -= self._bases.get(event.device, counter)
         is_within = 0 <= counter <= MOST_NUMBER and self.events < MOST_EVENTS
-        line = self._fleet.usual(event, ref, counter) if is_within else ""
+        line = self._usual_line(event, ref, counter) if is_within else ""
         if not line:
             return self._offer(event)
         self._last = ref
@@ -83,58 +112,45 @@ class Recorder:
             raise event.refuse("AfterEnd: there was an end before")
         ref = event.ref - self.origin
         if not 0 <= ref <= MOST_NUMBER:
-            self._within(event, ref, "the reference")
+            within(event, ref, "the reference")
         if self._fleet.book.has_expired(ref):
             self._lose_before(ref)
         if event.clock is not None:
-            event = self._placed(event)
+            event = placed(event, self.origin)
         counter = event.counter
         if counter is not None and (self._from_life or not 0 <= counter <= MOST_NUMBER):
-            counter = self._counter(event, counter)
+            counter = within(event, since_begin(event, counter, self._bases) if self._from_life else counter, "the counter")
         answer = self._fleet.apply(event, ref, counter)
         if isinstance(answer, Refusal):
             return answer
         if event.word in ("start", "join"):
             self._bases[event.device] = event.counter or 0
         self._last, self._ended = ref, event.word == "end"
-        self._say(answer)
+        self._tell(event, answer)
         return None
 
     def _lose_before(self, ref: int) -> None:
         for lost in self._fleet.lost_before(ref):
             if self._with_losses:
-                self._say(lost)
+                self._tell_loss(lost)
                 self.losses += 1
 
-    def _placed(self, event: LogEvent) -> LogEvent:
-        """The event with its clock counted from the origin."""
-        if event.clock is None or event.eps is None:
-            return event
-        clock = self._within(event, event.clock - self.origin, "the clock")
-        self._within(event, event.eps, "the eps")
-        return event._replace(clock=clock)
+    def _tell(self, event: LogEvent, said: Event) -> None:
+        """An event of a log has happened, which the schedule says so."""
+        self._say(said)
 
-    def _counter(self, event: LogEvent, counter: int) -> int:
-        """The counter as the schedule has it."""
-        if self._from_life:
-            base = counter if event.word in ("start", "join") else self._bases.get(event.device, counter)
-            if counter < base:
-                raise event.refuse(f"CounterFalls: the counter is {base - counter} ps less than at the start or join")
-            return self._within(event, counter - base, "the counter")
-        return self._within(event, counter, "the counter")
-
-    def _within(self, event: LogEvent, value: int, what: str) -> int:
-        if 0 <= value <= MOST_NUMBER:
-            return value
-        if what == "the counter":
-            raise event.refuse(f"the counter is {value} ps, and at most 2^60 are allowed: say --counters life")
-        place = "of the origin" if what != "the eps" else ""
-        raise event.refuse(f"{what} is {value} ps {place}".rstrip() + ", and has to be from 0 to 2^60: say another --origin")
+    def _tell_loss(self, lost: Event) -> None:
+        """A message is lost that no log has as lost."""
+        self._say(lost)
 
     def _say(self, event: Event) -> None:
+        self._count()
+        self._write(event_line(event))
+
+    def _count(self) -> None:
+        """The schedule gets one event more."""
         if self.events == MOST_EVENTS:
             raise ToolError(f"the logs have more than {MOST_EVENTS} events, which is as many as a schedule may have")
-        self._write(event_line(event))
         self.events += 1
 
     def _write(self, line: str) -> None:

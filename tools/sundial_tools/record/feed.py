@@ -1,0 +1,196 @@
+"""The feed of `sundialctl merge`: the lines of logs as they come, in the compact form, and how far each log is.
+
+A line is `LOG ENTRY`, or `LOG past REF`: the log numbered LOG brings nothing before REF any more. Nothing is ordered here,
+and no message is looked up.
+"""
+
+from __future__ import annotations
+
+import heapq
+import os
+import select
+import stat
+from collections import deque
+from typing import Callable, Deque, Dict, Iterator, List, Optional, Sequence, TextIO, Tuple
+
+from sundial_tools.errors import ToolError
+from sundial_tools.record.compact import compact_line
+from sundial_tools.record.logs import NONE, Log, LogEvent
+from sundial_tools.record.recorder import origin_before, placed, since_begin, within
+from sundial_tools.schedule import MOST_DEVICE, MOST_NUMBER, Event
+from sundial_tools.topology import Topology
+
+MOST_BYTES = 1 << 16
+# A log that is silent is told to be past in steps of this part of the horizon.
+STEPS = 16
+
+
+class Growing(Log):
+    """One log, read as far as it goes. A file ends where it ends, and a FIFO when all its writers have closed it."""
+
+    def __init__(self, path: str, topology: Topology) -> None:
+        super().__init__(path, topology)
+        self.file = os.dup(0) if path == "-" else os.open(path, os.O_RDONLY | os.O_NONBLOCK)
+        self.is_file = stat.S_ISREG(os.fstat(self.file).st_mode)
+        self._rest, self._line = b"", 0
+        self.ended = False
+        self.last: Optional[int] = None
+        self.waiting: Deque[LogEvent] = deque()
+
+    def read(self) -> bool:
+        """Reads on. Answers whether there was something to read, be it the end."""
+        try:
+            data = os.read(self.file, MOST_BYTES)
+        except BlockingIOError:
+            return False
+        lines = (self._rest + data).split(b"\n")
+        self._rest = lines.pop()
+        if not data:
+            lines = [self._rest] if self._rest else []
+            self.ended = True
+            os.close(self.file)
+        for line in lines:
+            self._take(line)
+        return True
+
+    def _take(self, line: bytes) -> None:
+        self._line += 1
+        try:
+            text = line.decode("utf-8")
+        except UnicodeDecodeError:
+            raise self._refuse("no UTF-8", self._line) from None
+        if not text or text.isspace():
+            return
+        event = self._event(text, self._line)
+        if self.last is not None and event.ref < self.last:
+            raise event.refuse(f"out of order: its reference is {self.last - event.ref} ps before that of the line before")
+        self.last = event.ref
+        self.waiting.append(event)
+
+
+class Feed:
+    """Writes the feed of logs. A log that brings nothing for `horizon` of reference time is told to be past it."""
+
+    def __init__(
+        self, logs: Sequence[Growing], topology: Topology, text: TextIO, origin: Optional[int], from_life: bool,
+        horizon: Optional[int], counted: Callable[[int], None],
+    ) -> None:
+        self._logs, self._topology, self._text, self._horizon, self._counted = logs, topology, text, horizon, counted
+        self._given_origin, self._from_life = origin, from_life
+        self.origin = 0
+        # By device: its counter at its latest start or join, and which log has its counters.
+        self._bases: Dict[int, int] = {}
+        self._owners: Dict[int, int] = {}
+        # Of each log, from 1: the reference before which it brings nothing, as it was told.
+        self._past = [-1] * (len(logs) + 1)
+        self._greatest = 0
+        self._has_begun = self._has_end = False
+        self.entries = 0
+
+    def write(self) -> None:
+        """Reads all logs to their ends."""
+        while any(not log.ended for log in self._logs):
+            silent = self._read()
+            if self._has_begun or self._begins():
+                self._write_events()
+                self._write_past(silent)
+        if not self._has_begun:
+            raise ToolError("the logs have no event")
+        self._write_end()
+
+    def _read(self) -> List[int]:
+        """Reads on in the file that is furthest behind, and in each FIFO that has something. Answers which have nothing."""
+        files = [log for log in self._logs if log.is_file and not log.ended]
+        pipes = {log.file: number for number, log in enumerate(self._logs, 1) if not log.is_file and not log.ended}
+        ready = _ready(list(pipes), wait=not files)
+        if files:
+            min(files, key=lambda log: -1 if log.last is None else log.last).read()
+        return [number for file, number in pipes.items() if file not in ready or not self._logs[number - 1].read()]
+
+    def _begins(self) -> bool:
+        """Whether each log has an event or has ended: only then the origin is known, where it is not given."""
+        firsts = [log.waiting[0].ref for log in self._logs if log.waiting]
+        if self._given_origin is None and not all(log.waiting or log.ended for log in self._logs):
+            return False
+        if firsts:
+            self.origin = origin_before(min(firsts)) if self._given_origin is None else self._given_origin
+            self._has_begun = True
+        return self._has_begun
+
+    def _write_events(self) -> None:
+        """Writes what was read, by reference."""
+        for number, event in heapq.merge(*(_drained(number, log) for number, log in enumerate(self._logs, 1)), key=lambda it: it[1].ref):
+            said = self._said(number, event)
+            if said.ref < self._past[number]:
+                raise event.refuse(f"late: its reference is {self._past[number] - said.ref} ps behind what was told; a greater --horizon waits longer")
+            self._has_end = self._has_end or event.word == "end"
+            self._past[number] = said.ref
+            self._greatest = max(self._greatest, said.ref)
+            self._say(number, compact_line(event, said))
+            self.entries += 1
+
+    def _said(self, number: int, event: LogEvent) -> Event:
+        """The event with the times of the schedule."""
+        ref = within(event, event.ref - self.origin, "the reference")
+        event = placed(event, self.origin)
+        counter = None if event.counter is None else self._counter(number, event, event.counter)
+        if max(event.epoch, event.stamp[0]) > MOST_DEVICE or event.stamp[1] > MOST_NUMBER:
+            raise event.refuse("the epoch, the term or the round of the message is past its limit")
+        return Event(
+            event.word, ref, None if event.device == NONE else event.device, counter, event.clock, event.eps, None,
+            event.thing or None, None if event.number == NONE else event.number,
+        )
+
+    def _counter(self, number: int, event: LogEvent, counter: int) -> int:
+        """The counter as the schedule has it."""
+        said = counter
+        if self._from_life:
+            if self._owners.setdefault(event.device, number) != number:
+                name = self._topology.devices[event.device].name
+                raise event.refuse(f"two logs have counters of {name}: --counters life needs all of them in one")
+            said = since_begin(event, counter, self._bases)
+            if event.word in ("start", "join"):
+                self._bases[event.device] = counter
+        return within(event, said, "the counter")
+
+    def _write_past(self, silent: Sequence[int]) -> None:
+        """Tells of each log that has ended, and of each that has been silent for long, that it is past."""
+        for number, log in enumerate(self._logs, 1):
+            if log.ended and (number < len(self._logs) or self._has_end):
+                self._tell_past(number, MOST_NUMBER)
+            elif log.ended:
+                # (the last log brings the `end` that no log has)
+                self._tell_past(number, self._greatest)
+        if self._horizon is not None:
+            for number in silent:
+                if self._greatest - self._horizon - self._past[number] > self._horizon // STEPS:
+                    self._tell_past(number, self._greatest - self._horizon)
+
+    def _tell_past(self, number: int, ref: int) -> None:
+        if self._past[number] < ref:
+            self._past[number] = ref
+            self._say(number, f"past {ref}\n")
+
+    def _write_end(self) -> None:
+        if not self._has_end:
+            self._say(len(self._logs), f"end {self._greatest}\n")
+            self.entries += 1
+
+    def _say(self, number: int, line: str) -> None:
+        self._text.write(f"{number} {line}")
+        self._counted(1)
+
+
+def _ready(files: Sequence[int], wait: bool) -> List[int]:
+    """Those of these FIFOs that have something, or have ended."""
+    if not files:
+        return []
+    poll = select.poll()
+    for file in files:
+        poll.register(file, select.POLLIN)
+    return [file for file, _ in poll.poll(None if wait else 0)]
+
+
+def _drained(number: int, log: Growing) -> Iterator[Tuple[int, LogEvent]]:
+    while log.waiting:
+        yield number, log.waiting.popleft()
