@@ -18,13 +18,14 @@ from sundial_tools.topology import Topology
 def compact_line(event: LogEvent, said: Event) -> str:
     """The line of an event of a log, with its newline. `said` has the times of the schedule."""
     if said.word == "recv":
-        return f"recv {said.ref} {said.device} {said.counter} {_message(event)}\n"
+        return f"recv {said.ref} {said.device} {said.counter} {message_name(event)}\n"
     if said.word == "lose":
-        return f"lose {said.ref} {event.device} {_message(event)}\n"
+        return f"lose {said.ref} {event.device} {message_name(event)}\n"
     return event_line(said)
 
 
-def _message(event: LogEvent) -> str:
+def message_name(event: LogEvent) -> str:
+    """How a line names a message: LINK EPOCH TERM ROUND."""
     return f"{event.link} {event.epoch} {event.stamp[0]} {event.stamp[1]}"
 
 
@@ -43,7 +44,7 @@ class CompactRecorder(Recorder):
 
     def _compact_usual(self, event: LogEvent, ref: int, counter: int) -> str:
         line = self._fleet.usual(event, ref, counter)
-        return line if event.word != "recv" or not line else f"recv {ref} {event.device} {counter} {_message(event)}\n"
+        return line if event.word != "recv" or not line else f"recv {ref} {event.device} {counter} {message_name(event)}\n"
 
     def _tell(self, event: LogEvent, said: Event) -> None:
         self._count()

@@ -6,15 +6,14 @@ and no message is looked up.
 
 from __future__ import annotations
 
-import heapq
 import os
 import select
 import stat
 from collections import deque
-from typing import Callable, Deque, Dict, Iterator, List, Optional, Sequence, TextIO, Tuple
+from typing import Callable, Deque, Dict, List, Optional, Sequence, TextIO, Tuple
 
 from sundial_tools.errors import ToolError
-from sundial_tools.record.compact import compact_line
+from sundial_tools.record.compact import compact_line, message_name
 from sundial_tools.record.logs import NONE, Log, LogEvent
 from sundial_tools.record.recorder import origin_before, placed, since_begin, within
 from sundial_tools.schedule import MOST_DEVICE, MOST_NUMBER, Event
@@ -119,27 +118,42 @@ class Feed:
 
     def _write_events(self) -> None:
         """Writes what was read, by reference."""
-        for number, event in heapq.merge(*(_drained(number, log) for number, log in enumerate(self._logs, 1)), key=lambda it: it[1].ref):
-            said = self._said(number, event)
-            if said.ref < self._past[number]:
-                raise event.refuse(f"late: its reference is {self._past[number] - said.ref} ps behind what was told; a greater --horizon waits longer")
-            self._has_end = self._has_end or event.word == "end"
-            self._past[number] = said.ref
-            self._greatest = max(self._greatest, said.ref)
-            self._say(number, compact_line(event, said))
-            self.entries += 1
+        read = [(number, event) for number, log in enumerate(self._logs, 1) for event in log.waiting]
+        for log in self._logs:
+            log.waiting.clear()
+        read.sort(key=_reference)
+        lines, past, origin = [], self._past, self.origin
+        for number, event in read:
+            ref = event.ref - origin
+            if ref < past[number]:
+                raise event.refuse(f"late: its reference is {past[number] - ref} ps behind what was told; a greater --horizon waits longer")
+            past[number] = ref
+            lines.append(f"{number} {self._line(number, event, ref)}")
+        if read:
+            self._greatest = max(self._greatest, ref)
+            self._say(lines)
+            self.entries += len(lines)
 
-    def _said(self, number: int, event: LogEvent) -> Event:
-        """The event with the times of the schedule."""
-        ref = within(event, event.ref - self.origin, "the reference")
-        event = placed(event, self.origin)
-        counter = None if event.counter is None else self._counter(number, event, event.counter)
+    def _line(self, number: int, event: LogEvent, ref: int) -> str:
+        """The line of an event in the compact form."""
+        word, device, counter = event.word, event.device, event.counter
+        if not 0 <= ref <= MOST_NUMBER:
+            within(event, ref, "the reference")
+        if counter is not None and (self._from_life or not 0 <= counter <= MOST_NUMBER):
+            counter = self._counter(number, event, counter)
+        if word == "tick" or word == "ask":
+            return f"{word} {ref} {device} {counter}\n"
         if max(event.epoch, event.stamp[0]) > MOST_DEVICE or event.stamp[1] > MOST_NUMBER:
             raise event.refuse("the epoch, the term or the round of the message is past its limit")
-        return Event(
-            event.word, ref, None if event.device == NONE else event.device, counter, event.clock, event.eps, None,
+        if word == "recv":
+            return f"recv {ref} {device} {counter} {message_name(event)}\n"
+        if word == "end":
+            self._has_end = True
+        event = placed(event, self.origin)
+        return compact_line(event, Event(
+            word, ref, None if device == NONE else device, counter, event.clock, event.eps, None,
             event.thing or None, None if event.number == NONE else event.number,
-        )
+        ))
 
     def _counter(self, number: int, event: LogEvent, counter: int) -> int:
         """The counter as the schedule has it."""
@@ -169,16 +183,16 @@ class Feed:
     def _tell_past(self, number: int, ref: int) -> None:
         if self._past[number] < ref:
             self._past[number] = ref
-            self._say(number, f"past {ref}\n")
+            self._say([f"{number} past {ref}\n"])
 
     def _write_end(self) -> None:
         if not self._has_end:
-            self._say(len(self._logs), f"end {self._greatest}\n")
+            self._say([f"{len(self._logs)} end {self._greatest}\n"])
             self.entries += 1
 
-    def _say(self, number: int, line: str) -> None:
-        self._text.write(f"{number} {line}")
-        self._counted(1)
+    def _say(self, lines: Sequence[str]) -> None:
+        self._text.write("".join(lines))
+        self._counted(len(lines))
 
 
 def _ready(files: Sequence[int], wait: bool) -> List[int]:
@@ -191,6 +205,5 @@ def _ready(files: Sequence[int], wait: bool) -> List[int]:
     return [file for file, _ in poll.poll(None if wait else 0)]
 
 
-def _drained(number: int, log: Growing) -> Iterator[Tuple[int, LogEvent]]:
-    while log.waiting:
-        yield number, log.waiting.popleft()
+def _reference(read: Tuple[int, LogEvent]) -> int:
+    return read[1].ref
