@@ -70,6 +70,8 @@ _FORMS: Dict[str, List[Tuple[str, Tuple[str, ...]]]] = {
         ("input absent", ("=absent", "r:reason")),
         ("input schedule", ("=schedule", "n:line", "r:reason")),
         ("input opening", ("=opening", "n:line", "r:reason")),
+        ("input log", ("=log", "n:line", "r:reason")),
+        ("input feed", ("=feed", "n:line", "r:reason")),
         ("input exchanges", ("=exchanges", "n:line", "r:reason")),
     ],
 }

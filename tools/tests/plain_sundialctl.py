@@ -10,32 +10,10 @@ from support import run_tool
 
 from sundial_tools.errors import ToolError
 from sundial_tools.plan import read_plan
+from sundial_tools.record.compact import parse_entry
 from sundial_tools.record.fleet import JudgedFleet, Refusal
-from sundial_tools.record.logs import NO_STAMP, NONE, LogEvent
-from sundial_tools.schedule import MOST_NUMBER, event_line, parse_event
+from sundial_tools.schedule import MOST_NUMBER, event_line
 from sundial_tools.topology import read_topology
-
-MESSAGE = ("link", "epoch", "term", "round")
-
-
-def entry(text, number):
-    """The event of a line in the compact form. Raises ToolError with the reason where it is none."""
-    words = text.split(" ")
-    if words[0] not in ("recv", "lose"):
-        event = parse_event(text)
-        return LogEvent(
-            event.word, event.ref, NONE if event.device is None else event.device, event.counter, event.clock, event.eps,
-            NONE, NONE, NO_STAMP, event.thing or "", NONE if event.number is None else event.number, "log", number,
-        )
-    fields = ("ref", "device", *(("counter",) if words[0] == "recv" else ()), *MESSAGE)
-    if len(words) != len(fields) + 1:
-        raise ToolError("FieldCount")
-    said = dict(zip(fields, map(int, words[1:])))
-    return LogEvent(
-        words[0], said["ref"], said["device"], said.get("counter"), None, None, said["link"], said["epoch"],
-        (said["term"], said["round"]), "", NONE, "log", number,
-    )
-
 
 def record(topology_path, *paths):
     topology = read_topology(topology_path)
@@ -44,7 +22,7 @@ def record(topology_path, *paths):
     with open(paths[-1], encoding="ascii") as lines:
         for number, line in enumerate(lines, 1):
             try:
-                event = entry(line[:-1], number)
+                event = parse_entry(line[:-1], "log", number)
             except ToolError as fault:
                 return refuse("log", number, fault.reason.partition(":")[0])
             out = "".join(event_line(lost) for lost in fleet.lost_before(event.ref))
@@ -77,7 +55,7 @@ def merge(count, path):
             if number not in past:
                 return refuse("feed", place, "UnknownLog")
             is_past = text.startswith("past ")
-            ref = int(text.split(" ")[1]) if is_past else entry(text, place).ref
+            ref = int(text.split(" ")[1]) if is_past else parse_entry(text, "feed", place).ref
             if ref < past[number] or ref > MOST_NUMBER:
                 return refuse("feed", place, "OutOfOrder")
             past[number] = ref

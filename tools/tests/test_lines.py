@@ -43,6 +43,8 @@ KINDS = {
     "differ failed-link 2\n": {"kind": "differ", "fact": "failed-link", "thing": "link", "number": 2},
     "differ message 5\n": {"kind": "differ", "fact": "message", "thing": "message", "number": 5},
     "input opening 3 Refused\n": {"kind": "input opening", "line": 3, "reason": "Refused"},
+    "input log 3 UnknownMessage\n": {"kind": "input log", "line": 3, "reason": "UnknownMessage"},
+    "input feed 3 Number 2\n": {"kind": "input feed", "line": 3, "reason": "Number 2"},
     "usage: sundial solo SCHEDULE\n": {"kind": "usage", "text": "usage: sundial solo SCHEDULE"},
 }
 

@@ -6,10 +6,11 @@ from examples import EXAMPLES, outputs
 from support import directory, run
 
 from sundial_tools.outputs import FACTS
+from sundial_tools.record.main import main as record
 from sundial_tools.why.main import main
 from sundial_tools.why.resumed import FACTS as TEXTS
 
-TRIANGLE, REFUSED, INCIDENT = EXAMPLES / "triangle", EXAMPLES / "refused", EXAMPLES / "incident"
+TRIANGLE, REFUSED, INCIDENT, LOGS = (EXAMPLES / name for name in ("triangle", "refused", "incident", "logs"))
 ROW = '[[device]]\nname = "{}"\n'
 
 
@@ -194,6 +195,34 @@ class Why(unittest.TestCase):
         self.opening("A replay refuses it too: Number 2.", "input schedule 17 Refused", self.OPENING, more="ask 160996780 r 161000000\n")
         self.opening("`sundial replay` names the reason", "input opening 3 Refused", self.OPENING)
         self.says("Name its file for more behind /.", "input opening 3 Refused\n", TRIANGLE / "topology.toml")
+
+    # Merged logs
+
+    def log(self, part, reason, *changed):
+        """The merged log of the logs of docs/RECORD.md with further lines behind its eighth."""
+        files = [LOGS / f"{name}.jsonl" for name in "rbx"]
+        lines = run("sundial-record", record, [LOGS / "topology.toml", *files, "-p", LOGS / "plan.json", "--counters", "life", "--compact"])[1]
+        text = "".join(f"{line}\n" for line in [*lines.splitlines()[:8], *changed])
+        words = [LOGS / "topology.toml", LOGS / "plan.json", "log"]
+        return self.says(part, f"input log {8 + len(changed)} {reason}\n", *words, files={"log": text})
+
+    def test_a_refused_line_of_a_merged_log(self):
+        twice = "recv 1000110700000 1 110696000 0 1 0 1"
+        out = self.log("No message of epoch 1, term 0, round 1 is on its way to b over rb: r has come to", "UnknownMessage", twice)
+        self.assertIn(f'log, line 9: "{twice}"', out)
+        self.log("CounterFalls: the counter of b is 1 ps less than before", "CounterFalls", "ask 1000110700000 1 110695999")
+        self.log("Its REF 1 is 1000110699999 ps before that of line 8", "TimeFalls", "ask 1 1 1")
+        self.log("`recv` has 7 fields, REF DEVICE COUNTER LINK EPOCH TERM ROUND, and here are 4", "FieldCount", "recv 1000110700000 1 110696000 1")
+        self.log("Field 4 of `lose`, EPOCH, is 'one'", "Number 4", "lose 1000110700000 1 0 one 0 1")
+        self.log("The event is refused: UnknownDevice.", "UnknownDevice", "ask 1000110700000 7 1")
+        self.log("without its `end` line", "NoEnd")
+        self.says("The log is refused. Name its file for more.", "input log 3 NotStarted\n", LOGS / "topology.toml")
+
+    def test_a_refused_line_of_a_feed(self):
+        files, words = {"feed": "1 past 7\n1 tick 5 0 5\n"}, [LOGS / "topology.toml", LOGS / "plan.json", "feed"]
+        out = self.says("told to bring nothing before a later REF", "input feed 2 OutOfOrder\n", *words, files=files)
+        self.assertIn('feed, line 2: "1 tick 5 0 5"', out)
+        self.says("The line is refused: Number 3.", "input feed 2 Number 3\n", *words, files=files)
 
     # Replays, drills and exchanges
 

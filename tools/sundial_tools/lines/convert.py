@@ -16,6 +16,8 @@ DONE = {
     "replay": ("events", "reports"), "order": ("events", "reports"), "solo": ("events", "reports"),
     "twoway": ("lines", "links"), "drill": ("domains", "members"),
 }
+# Lines of other texts than the schedule.
+NO_SCHEDULE = ("input exchanges", "input opening", "input log", "input feed")
 _COMMAND_OF = {"link": "twoway", "bound": "drill", "nobound": "drill", "bounds": "drill"}
 
 
@@ -71,7 +73,7 @@ class Converter:
             fields.update({} if text is None else {"text": text})
         elif line.kind == "differ" and self._topology is not None and fields.get("thing") in ("device", "link"):
             fields["name"] = name_of(self._topology, fields["thing"], fields["number"])
-        elif "line" in fields and line.kind not in ("input exchanges", "input opening") and self._events is not None:
+        elif "line" in fields and line.kind not in NO_SCHEDULE and self._events is not None:
             fields.update(self._events.add(line))
         return fields
 

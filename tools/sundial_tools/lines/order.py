@@ -8,8 +8,8 @@ from sundial_tools.errors import ToolError
 from sundial_tools.outputs import OutputLine
 
 ALONE = (
-    "accepted", "refused", "input topology", "input plan", "input absent", "input exchanges", "input opening", "case", "usage",
-    "agree", "differ",
+    "accepted", "refused", "input topology", "input plan", "input absent", "input exchanges", "input opening", "input log", "input feed",
+    "case", "usage", "agree", "differ",
 )
 FAMILY_OF = {
     "report": "replay", "broken": "replay", "alarm": "replay", "begin": "replay", "ended": "replay", "disorder": "replay",

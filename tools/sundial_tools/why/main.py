@@ -16,6 +16,7 @@ from sundial_tools.topology import Topology, parse_topology
 from sundial_tools.why.broken import Replayed
 from sundial_tools.why.course import Course
 from sundial_tools.why.inputs import plan_reason, topology_reason
+from sundial_tools.why.logs import RefusedEntry
 from sundial_tools.why.refused import Refused
 from sundial_tools.why.resumed import Resumed
 from sundial_tools.why.said import domain_of, failing, time
@@ -97,6 +98,8 @@ class Why:
             yield from RefusedLine(self.course).say(line.fields["line"], reason)
         elif what == "opening" and self.opening:
             yield from RefusedLine(self.opening).say(line.fields["line"], reason)
+        elif what in ("log", "feed") and self.course:
+            yield from getattr(RefusedEntry(self.course), what)(line.fields["line"], reason)
         elif what == "exchanges" and self.exchanges:
             yield from self.exchanges.say(line.fields["line"], reason)
         else:

@@ -2,7 +2,7 @@
 
 from __future__ import annotations
 
-from typing import Callable, Dict, Iterator, List, Optional, Sequence
+from typing import Callable, Dict, Iterator, List, Mapping, Optional, Sequence
 
 from sundial_tools.errors import ToolError
 from sundial_tools.plain.history import History
@@ -25,7 +25,7 @@ def shown(text: bytes) -> str:
 class Lines:
     """What is wrong with the form of a line."""
 
-    def __init__(self, words: Dict[str, Sequence[str]]) -> None:
+    def __init__(self, words: Mapping[str, Sequence[str]]) -> None:
         self.words = words
 
     def form(self, reason: Sequence[str], text: bytes) -> Iterator[str]:
