@@ -2,10 +2,13 @@
  * over and is fixed. A renewal leaves the failed device out. A message is lost, a link fails, and a
  * second renewal takes device and link in again.
  *
- *     embed SEED SCHEDULE [log|drift|tick]
+ *     embed SEED SCHEDULE [log|compact|drift|tick]
  *
  * prints a line for each report, as `sundial replay` prints it, and writes the schedule of all that
- * happened, or with `log` a log of the same. `drift` lets one oscillator run too fast from the
+ * happened, or with `log` a log of the same. With `compact` each device writes a compact log of its
+ * own, as SCHEDULE.s0, and the operator SCHEDULE.operator. Merged by reference they are in the order
+ * of the schedule: of one reference first the operator's, then those of the devices by number.
+ * `drift` lets one oscillator run too fast from the
  * middle on, `tick` lets one device miss its ticks for a while. Without these two each report has
  * to contain the reference time. Where SEED is even each device is rebased before each of its ticks,
  * and nothing else differs. */
@@ -17,13 +20,14 @@
 #include "fabric.h"
 #include "recorder.h"
 
-enum { FLIGHTS = 4096 };
+enum { FLIGHTS = 4096, MOST_PATH = 1024, OPERATOR = DEVICES };
 
 /* When what happens, in ps of the reference time. */
 static const uint64_t FIX_FIRST = 300000000, FAIL = 600000000, FIX_SECOND = 3600000000,
-                      LOSE = 3800000000, RENEW = 4000000000, SEAL = 4600000000,
-                      CUT = 4700000000, RESTART = 4800000000,
-                      REPAIR = 5000000000, SEAL_AGAIN = 5600000000, END = 6600000000;
+                      LOSE = 3800000000, RENEW = 4000000000, COMMIT = 4001000000,
+                      SEAL = 4600000000, CUT = 4700000000, RESTART = 4800000000,
+                      REPAIR = 5000000000, COMMIT_AGAIN = 5001000000, SEAL_AGAIN = 5600000000,
+                      END = 6600000000;
 
 static const uint64_t ROOT_EPS = 500, EPS = 1000000; /* of clocks that are set, in ps */
 
@@ -52,10 +56,10 @@ struct node {
 static struct node nodes[DEVICES];
 static struct flight flights[FLIGHTS];
 static struct flight held; /* the latest message to s2 over S2_L0 while that was down: it comes after the mend */
-static uint64_t now, reports, word, dropped;
-static struct sundial_recorder recorder;
+static uint64_t now, reports, word, dropped, lines;
+static struct sundial_recorder recorders[DEVICES + 1]; /* of each device and the operator, or the first of all */
 static int is_down[LINKS]; /* which links have failed */
-static int is_fast, is_late, is_faulty, has_lost, rebases;
+static int is_fast, is_late, is_faulty, has_lost, rebases, are_apart;
 
 static void stop(const char *why)
 {
@@ -71,12 +75,21 @@ static void check(uint32_t answer, const char *what)
     }
 }
 
-/* The recorder wrote the line of this number. */
+/* A recorder wrote its line of this number. The answer is the number of the line in a schedule. */
 static uint64_t recorded(uint64_t line)
 {
     if (line == 0)
         stop("the schedule cannot be written");
-    return line;
+    lines++;
+    if (!are_apart && line != lines)
+        stop("the recorder counts its lines wrongly");
+    return lines;
+}
+
+/* Who writes what happens to this device, or what the operator sees. */
+static struct sundial_recorder *recorder_of(uint32_t number)
+{
+    return &recorders[are_apart ? number : 0];
 }
 
 static int write_file(void *to, const char *text, size_t bytes)
@@ -143,7 +156,7 @@ static void send_on(uint32_t sender, const struct sundial_effect *effect)
         if (!follows(&DUTIES[epoch - 1][receiver], sender, link))
             continue;
         uint64_t comes_at = now + LEAST_DELAY + chance(GREATEST_DELAY - LEAST_DELAY + 1);
-        struct flight flight = {sundial_record_sent(&recorder), comes_at, link, receiver, effect->message, 1};
+        struct flight flight = {sundial_record_sent(&recorders[0]), comes_at, link, receiver, effect->message, 1};
         if (!is_down[link])
             *free_place() = flight;
         else if (link == S2_L0 && receiver == S2)
@@ -181,7 +194,7 @@ static void start(uint32_t number)
     clear_all(node);
     uint64_t counter = counter_of(node), clock = clock_within(eps);
     check(sundial_start(&node->device, &DUTIES[0][number], counter, clock, eps), "start");
-    recorded(sundial_record_start(&recorder, now, number, counter, clock, eps));
+    recorded(sundial_record_start(recorder_of(number), now, number, counter, clock, eps));
 }
 
 static void join(uint32_t number)
@@ -191,7 +204,7 @@ static void join(uint32_t number)
     clear_all(node);
     uint64_t counter = counter_of(node), clock = clock_within(EPS);
     check(sundial_join(&node->device, &DUTIES[0][number].rates, counter, clock, EPS), "join");
-    recorded(sundial_record_join(&recorder, now, number, counter, clock, EPS));
+    recorded(sundial_record_join(recorder_of(number), now, number, counter, clock, EPS));
 }
 
 static void rebase(struct node *node, uint64_t counter)
@@ -209,7 +222,7 @@ static void tick(uint32_t number)
     if (rebases)
         rebase(node, counter);
     check(sundial_tick(&node->device, lowered(node, counter), &effect), "tick");
-    recorded(sundial_record_tick(&recorder, now, number, counter));
+    recorded(sundial_record_tick(recorder_of(number), now, number, counter));
     send_on(number, &effect);
     node->next_tick = now + TICK / 2 + chance(TICK / 2);
     if (is_late && number == L1 && now > END / 2) {
@@ -233,13 +246,13 @@ static void receive(struct flight *flight)
     }
     if (!has_lost && now > LOSE) {
         has_lost = 1;
-        recorded(sundial_record_lose(&recorder, now, number, flight->link, &flight->message,
+        recorded(sundial_record_lose(recorder_of(OPERATOR), now, number, flight->link, &flight->message,
                                      flight->number));
         return;
     }
     check(sundial_receive(&node->device, flight->link, &flight->message, lowered(node, counter), &effect),
           "receive");
-    recorded(sundial_record_receive(&recorder, now, number, counter, flight->link, &flight->message,
+    recorded(sundial_record_receive(recorder_of(number), now, number, counter, flight->link, &flight->message,
                                     flight->number));
     send_on(number, &effect);
 }
@@ -261,7 +274,7 @@ static void ask(uint32_t number)
     struct sundial_clock_report report = {0};
     uint64_t counter = counter_of(&nodes[number]);
     check(sundial_report(&nodes[number].device, lowered(&nodes[number], counter), &report), "report");
-    uint64_t line = recorded(sundial_record_report(&recorder, now, number, counter));
+    uint64_t line = recorded(sundial_record_report(recorder_of(number), now, number, counter));
     reports++;
     printf("report %" PRIu64 " %s %" PRIu64 " %" PRIu64 "\n", line, NAMES[number],
            report.clock.low, report.eps.low);
@@ -284,7 +297,7 @@ static void fix(uint32_t number)
     struct node *node = &nodes[number];
     uint64_t counter = counter_of(node), clock = clock_within(ROOT_EPS);
     check(sundial_fix(&node->device, lowered(node, counter), clock, ROOT_EPS), "fix");
-    recorded(sundial_record_fix(&recorder, now, number, counter, clock, ROOT_EPS));
+    recorded(sundial_record_fix(recorder_of(number), now, number, counter, clock, ROOT_EPS));
     ask(number);
 }
 
@@ -296,7 +309,7 @@ static void fix_first(void)
 static void fail_root(void)
 {
     nodes[S0].is_up = 0;
-    recorded(sundial_record_fail_device(&recorder, now, S0));
+    recorded(sundial_record_fail_device(recorder_of(OPERATOR), now, S0));
 }
 
 static void fix_second(void)
@@ -308,49 +321,54 @@ static void fix_second(void)
     fix(S1);
 }
 
-/* Every device that is up is given its duty in this plan, and s1, its root, goes over to it. */
-static void go_over(uint32_t plan)
+/* Every device that is up is given its duty in this plan. */
+static void give_all(uint32_t plan)
 {
     for (uint32_t number = 0; number < DEVICES; number++) {
         if (!nodes[number].is_up)
             continue;
         check(sundial_give(&nodes[number].device, &DUTIES[plan - 1][number]), "give");
-        recorded(sundial_record_give(&recorder, now, number));
+        recorded(sundial_record_give(recorder_of(number), now, number));
     }
+}
+
+/* s1, the root of the plan that was given, goes over to it. */
+static void commit(void)
+{
     uint64_t counter = counter_of(&nodes[S1]);
     check(sundial_commit(&nodes[S1].device, lowered(&nodes[S1], counter)), "commit");
-    recorded(sundial_record_commit(&recorder, now, S1, counter));
+    recorded(sundial_record_commit(recorder_of(S1), now, S1, counter));
 }
 
 /* Plan 2 leaves out s0, which is down. */
 static void renew(void)
 {
-    recorded(sundial_record_stage(&recorder, now));
-    go_over(2);
+    recorded(sundial_record_stage(recorder_of(OPERATOR), now));
+    give_all(2);
 }
 
 /* The link from s2 to l0 fails. */
 static void cut(void)
 {
     is_down[S2_L0] = 1;
-    recorded(sundial_record_fail_link(&recorder, now, S2_L0));
+    recorded(sundial_record_fail_link(recorder_of(OPERATOR), now, S2_L0));
 }
 
 /* s0 and the link are repaired, and plan 3 takes s0 in again. The network now brings what l0 sent while
  * the link was down: s2 would accept it. */
 static void repair(void)
 {
-    recorded(sundial_record_stage(&recorder, now));
-    recorded(sundial_record_mend_link(&recorder, now, S2_L0));
+    recorded(sundial_record_stage(recorder_of(OPERATOR), now));
+    recorded(sundial_record_mend_link(recorder_of(OPERATOR), now, S2_L0));
     is_down[S2_L0] = 0;
     clear(&nodes[S2], S2_L0);
     clear(&nodes[L0], S2_L0);
     held.comes_at = now + LEAST_DELAY;
     *free_place() = held;
-    recorded(sundial_record_mend_device(&recorder, now, S0));
+    recorded(sundial_record_mend_device(recorder_of(OPERATOR), now, S0));
     join(S0);
     ask(S0);
-    go_over(3);
+    give_all(3);
 }
 
 static void seal(void)
@@ -359,7 +377,7 @@ static void seal(void)
         if (!nodes[number].is_up)
             continue;
         check(sundial_seal(&nodes[number].device), "seal");
-        recorded(sundial_record_seal(&recorder, now, number));
+        recorded(sundial_record_seal(recorder_of(number), now, number));
     }
 }
 
@@ -399,7 +417,8 @@ static void finish(void)
     check_parents();
     if (dropped == 0)
         stop("the message that was sent while the link was down was not dropped");
-    uint64_t line = recorded(sundial_record_end(&recorder, now));
+    now++; /* (so the end is the last line, in whatever order the logs are merged) */
+    uint64_t line = recorded(sundial_record_end(recorder_of(OPERATOR), now));
     printf("done %" PRIu64 " %" PRIu64 "\n", line, reports);
 }
 
@@ -435,24 +454,52 @@ static uint32_t first_to_tick(void)
     return first;
 }
 
+static void open_recorder(struct sundial_recorder *recorder, const char *path)
+{
+    FILE *file = fopen(path, "w");
+    if (file == NULL) {
+        perror(path);
+        exit(1);
+    }
+    *recorder = (struct sundial_recorder){.write = write_file, .to = file};
+}
+
+/* A compact log of each device, and of the operator. */
+static void open_logs(const char *schedule)
+{
+    char path[MOST_PATH];
+    for (uint32_t number = 0; number <= OPERATOR; number++) {
+        if (snprintf(path, sizeof path, "%s.%s", schedule, number == OPERATOR ? "operator" : NAMES[number]) >= MOST_PATH)
+            stop("the name of a log is too long");
+        open_recorder(&recorders[number], path);
+        recorders[number].is_compact = 1;
+    }
+}
+
+static void close_recorders(void)
+{
+    for (uint32_t number = 0; number <= OPERATOR; number++)
+        if (recorders[number].to != NULL && fclose(recorders[number].to) != 0)
+            stop("the schedule cannot be written");
+}
+
 int main(int count, char **words)
 {
     if (count < 3) {
-        fprintf(stderr, "embed SEED SCHEDULE [log|drift|tick]\n");
+        fprintf(stderr, "embed SEED SCHEDULE [log|compact|drift|tick]\n");
         return 2;
     }
     uint64_t seed = strtoull(words[1], NULL, 10);
     rebases = seed % 2 == 0;
     word = seed * 2 + 1;
-    FILE *schedule = fopen(words[2], "w");
-    if (schedule == NULL) {
-        perror(words[2]);
-        return 1;
-    }
-    recorder = (struct sundial_recorder){.write = write_file, .to = schedule};
+    are_apart = count > 3 && strcmp(words[3], "compact") == 0;
+    if (are_apart)
+        open_logs(words[2]);
+    else
+        open_recorder(&recorders[0], words[2]);
     if (count > 3 && strcmp(words[3], "log") == 0) {
-        recorder.devices = NAMES;
-        recorder.links = LINK_NAMES;
+        recorders[0].devices = NAMES;
+        recorders[0].links = LINK_NAMES;
     }
     is_fast = count > 3 && strcmp(words[3], "drift") == 0;
     is_late = count > 3 && strcmp(words[3], "tick") == 0;
@@ -460,8 +507,8 @@ int main(int count, char **words)
 
     struct { uint64_t at; void (*act)(void); } acts[] = {
         {FIX_FIRST, fix_first}, {FAIL, fail_root}, {FIX_SECOND, fix_second}, {RENEW, renew},
-        {SEAL, seal}, {CUT, cut}, {RESTART, restart}, {REPAIR, repair}, {SEAL_AGAIN, seal},
-        {END, finish},
+        {COMMIT, commit}, {SEAL, seal}, {CUT, cut}, {RESTART, restart}, {REPAIR, repair},
+        {COMMIT_AGAIN, commit}, {SEAL_AGAIN, seal}, {END, finish},
     };
     size_t act = 0;
     uint64_t next_ask = PAUSE;
@@ -494,7 +541,6 @@ int main(int count, char **words)
             tick(ticking);
         }
     }
-    if (fclose(schedule) != 0)
-        stop("the schedule cannot be written");
+    close_recorders();
     return 0;
 }

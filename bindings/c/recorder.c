@@ -4,11 +4,16 @@
 /* A line of a log has at most two names of 64 bytes, six numbers of 20 digits, and eight keys. */
 enum { MOST_BYTES = 512, MOST_DIGITS = 20 };
 
+/* The greatest number of a compact log. (Devices, links, epochs and terms have 32 bits anyway.) */
+static const uint64_t GREATEST = UINT64_C(1) << 60;
+
+enum line_form { SCHEDULE, LOG, COMPACT_LOG };
+
 struct line {
     char text[MOST_BYTES];
     size_t bytes;
-    int is_log;
-    int is_cut; /* some text had no room, as where a name is too long */
+    enum line_form form;
+    int is_unfit; /* a name is too long, or a number is too great for the form */
 };
 
 static void put_byte(struct line *line, char byte)
@@ -16,7 +21,7 @@ static void put_byte(struct line *line, char byte)
     if (line->bytes < MOST_BYTES)
         line->text[line->bytes++] = byte;
     else
-        line->is_cut = 1;
+        line->is_unfit = 1;
 }
 
 static void put(struct line *line, const char *text)
@@ -37,27 +42,31 @@ static void put_decimal(struct line *line, uint64_t number)
         put_byte(line, digits[--count]);
 }
 
-/* What stands before a value: its key in a log, a space in a schedule. */
+/* What stands before a value: its key in a log, a space in the other forms. */
 static void put_key(struct line *line, const char *key)
 {
-    put(line, line->is_log ? ", \"" : " ");
-    if (line->is_log) {
-        put(line, key);
-        put(line, "\": ");
+    if (line->form != LOG) {
+        put(line, " ");
+        return;
     }
+    put(line, ", \"");
+    put(line, key);
+    put(line, "\": ");
 }
 
 static void put_number(struct line *line, const char *key, uint64_t number)
 {
+    if (line->form == COMPACT_LOG && number > GREATEST)
+        line->is_unfit = 1;
     put_key(line, key);
     put_decimal(line, number);
 }
 
-/* A device or a link: its name in a log, its number in a schedule. */
+/* A device or a link: its name in a log, its number in the other forms. */
 static void put_thing(struct line *line, const char *key, const char *const *names, uint32_t number)
 {
     put_key(line, key);
-    if (!line->is_log) {
+    if (line->form != LOG) {
         put_decimal(line, number);
         return;
     }
@@ -66,11 +75,11 @@ static void put_thing(struct line *line, const char *key, const char *const *nam
     put(line, "\"");
 }
 
-/* Which message: its link and its stamp in a log, its number in a schedule. */
+/* Which message: its number in a schedule; its link, its epoch and its stamp in both logs. */
 static void put_message(struct line *line, const struct sundial_recorder *recorder, uint32_t link,
                         const struct sundial_message *message, uint64_t number)
 {
-    if (!line->is_log) {
+    if (line->form == SCHEDULE) {
         put_number(line, "", number);
         return;
     }
@@ -80,16 +89,23 @@ static void put_message(struct line *line, const struct sundial_recorder *record
     put_number(line, "round", message->stamp.round);
 }
 
+static enum line_form form_of(const struct sundial_recorder *recorder)
+{
+    if (recorder->is_compact)
+        return COMPACT_LOG;
+    return recorder->devices != NULL ? LOG : SCHEDULE;
+}
+
 static struct line line_of(const struct sundial_recorder *recorder, const char *event,
                            uint64_t reference)
 {
     struct line line;
     line.bytes = 0;
-    line.is_log = recorder->devices != NULL;
-    line.is_cut = 0;
-    put(&line, line.is_log ? "{\"event\": \"" : "");
+    line.form = form_of(recorder);
+    line.is_unfit = 0;
+    put(&line, line.form == LOG ? "{\"event\": \"" : "");
     put(&line, event);
-    put(&line, line.is_log ? "\"" : "");
+    put(&line, line.form == LOG ? "\"" : "");
     put_number(&line, "reference_ps", reference);
     return line;
 }
@@ -104,8 +120,8 @@ static struct line line_of_device(const struct sundial_recorder *recorder, const
 
 static uint64_t finish(struct sundial_recorder *recorder, struct line *line)
 {
-    put(line, line->is_log ? "}\n" : "\n");
-    if (recorder->failed || line->is_cut
+    put(line, line->form == LOG ? "}\n" : "\n");
+    if (recorder->failed || line->is_unfit
         || recorder->write(recorder->to, line->text, line->bytes) != 0) {
         recorder->failed = 1;
         return 0;
@@ -132,13 +148,13 @@ static uint64_t record_clock(struct sundial_recorder *recorder, const char *even
     return finish(recorder, &line);
 }
 
-/* A thing that stops or works again: a schedule has its kind before its number. */
+/* A thing that stops or works again. Where it has a number its kind stands before that. */
 static uint64_t record_thing(struct sundial_recorder *recorder, const char *event,
                              uint64_t reference, const char *kind, const char *const *names,
                              uint32_t number)
 {
     struct line line = line_of(recorder, event, reference);
-    if (!line.is_log) {
+    if (line.form != LOG) {
         put(&line, " ");
         put(&line, kind);
     }
@@ -241,7 +257,7 @@ uint64_t sundial_record_lose(struct sundial_recorder *recorder, uint64_t referen
                              const struct sundial_message *message, uint64_t number)
 {
     struct line line = line_of(recorder, "lose", reference);
-    if (line.is_log)
+    if (line.form != SCHEDULE)
         put_thing(&line, "device", recorder->devices, device);
     put_message(&line, recorder, link, message, number);
     return finish(recorder, &line);
