@@ -5,10 +5,10 @@
 #
 # LIBRARY is libsd_device_c.a. With each compiler that is there: header and bindings compile
 # without a warning, as C11 and as C++17, and a program in C++ makes every call. Then, where the
-# compiler can: the duties of sundial-duty beside those of fabric.h, a device for years, clock.h by 8 threads and by
-# 4 processes, which messages the host drops, the example and the host under the address and undefined-behaviour
-# sanitizers, the fuzzer for SECONDS (3), a program without a C library, and what pkg-config says. What is not there is
-# named and passed by.
+# compiler can: the duties of sundial-duty beside those of fabric.h, the compact log beside the schedule, a device for
+# years, clock.h by 8 threads and by 4 processes, which messages the host drops, the example, the recorder and the host
+# under the address and undefined-behaviour sanitizers, the fuzzer for SECONDS (3), a program without a C library, and
+# what pkg-config says. What is not there is named and passed by.
 set -u
 library=$(realpath "$1") || exit 2
 seconds=${2:-3}
@@ -47,7 +47,7 @@ compile() { # compiler standard language file..
 headers=(sundial_device.h recorder.h clock.h)
 for compiler in gcc clang; do
     there "$compiler" || { echo "checks: no $compiler"; continue; }
-    compile "$compiler" c11 c "${headers[@]}" recorder.c embed.c fuzz.c years.c clock_test.c host/host.c ../../bench/embed/time.c
+    compile "$compiler" c11 c "${headers[@]}" recorder.c recorder_test.c embed.c fuzz.c years.c clock_test.c host/host.c ../../bench/embed/time.c
 done
 for compiler in g++ clang++; do
     there "$compiler" || { echo "checks: no $compiler"; continue; }
@@ -70,7 +70,11 @@ echo 'int main(void) { return 0; }' > "$work/nothing.c"
 if "$compiler" "${sanitizers[@]}" -o "$work/nothing" "$work/nothing.c" 2> "$work/said" && "$work/nothing"; then
     "$compiler" -std=c11 "${sanitizers[@]}" "${warnings[@]}" -o "$work/embed" embed.c recorder.c "$library" \
         && "$work/embed" 1 "$work/schedule" > "$work/told" && "$work/embed" 1 "$work/log" log > "$work/told" \
+        && "$work/embed" 1 "$work/own" compact > "$work/told" \
         && echo "checks: the example under sanitizers, $(tail -1 "$work/told")" || fail "the example under sanitizers"
+    "$compiler" -std=c11 "${sanitizers[@]}" "${warnings[@]}" -o "$work/recorder" recorder_test.c recorder.c \
+        && "$work/recorder" 50000 > "$work/said" && echo "checks: $(cat "$work/said"), under sanitizers" \
+        || fail "the recorder under sanitizers"
     "$compiler" -std=c11 "${sanitizers[@]}" "${warnings[@]}" -o "$work/fuzz" fuzz.c "$library" \
         || fail "the fuzzer does not compile"
 else
@@ -84,6 +88,8 @@ else
     fail "the fuzzer"
 fi
 
+"$compiler" -std=c11 -O2 "${warnings[@]}" -o "$work/recorder" recorder_test.c recorder.c && "$work/recorder" 200000 \
+    || fail "the recorder"
 "$compiler" -std=c11 -O2 "${warnings[@]}" -o "$work/years" years.c "$library" && "$work/years" 1 \
     || fail "a device for years"
 

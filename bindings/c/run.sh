@@ -1,15 +1,19 @@
 #!/usr/bin/env bash
 # Builds the example and runs it. For each seed its reports have to be those of `sundial replay` for
 # the schedule that it wrote, with nothing broken and no alarm. The log that it writes of the same
-# has to become the same schedule. With a fault planted `replay` has to name the premise.
+# has to become the same schedule, and so have the compact logs of its devices: `sundialctl merge`
+# makes one log of them, and `sundialctl record` the schedule. With a fault planted `replay` has to
+# name the premise.
 #
 #     bindings/c/run.sh LIBRARY SUNDIAL [SEED..]
 #
-# LIBRARY is libsd_device_c.a, SUNDIAL the program. It needs a C compiler, `cc` or what CC names,
-# and python3 for the log.
+# LIBRARY is libsd_device_c.a, SUNDIAL the program. SUNDIALCTL may name the second program. Where it
+# is not built or lacks a word, a model in Python takes its place. It needs a C compiler, `cc` or what
+# CC names, and python3 for the logs.
 set -u
 library=$(realpath "$1") || exit 2
 sundial=$(realpath "$2") || exit 2
+sundialctl=$(realpath "${SUNDIALCTL:-$(dirname "$0")/../../crates/sundialctl/out/sundialctl}" 2> /dev/null)
 shift 2
 [ $# -gt 0 ] || set -- 1 2 3
 cd "$(dirname "$0")" || exit 2
@@ -24,20 +28,53 @@ replay() {
         > "$work/replayed"
 }
 
+# What makes something else of logs, with the topology and the plans.
+of_log() { # words..
+    ../../tools/sundial-record topology.toml "$work/log" --plan plan-1.json --plan plan-2.json \
+        --plan plan-3.json --origin 0 "$@" 2> "$work/said"
+}
+
 # The schedule that sundial-record makes of the log.
 record() {
     if ! command -v python3 > /dev/null; then
-        echo "embed: no python3, so the log was not tried"
+        echo "embed: no python3, so the logs were not tried"
         return 0
     fi
     "$work/embed" "$1" "$work/log" log > "$work/logged" && cmp "$work/told" "$work/logged" \
-        && ../../tools/sundial-record topology.toml "$work/log" --plan plan-1.json \
-            --plan plan-2.json --plan plan-3.json --origin 0 --no-losses -o "$work/recorded" \
-            2> "$work/said" \
+        && of_log --no-losses -o "$work/recorded" && cmp "$work/schedule" "$work/recorded" \
+        && record_compact "$1"
+}
+
+# The second program, where it has the word, or the model of the tools.
+with_word() { # word
+    if [ -x "$sundialctl" ] && "$sundialctl" | grep -q "| $1 "; then
+        echo "$sundialctl"
+    else
+        echo ../../tools/tests/plain_sundialctl.py
+    fi
+}
+merger=$(with_word merge)
+recorder=$(with_word record)
+
+# The compact logs of the operator and the devices, merged, and the schedule that is made of that. The
+# merge is the one by `sort`, and the log that sundial-record makes of the log with names.
+record_compact() {
+    local log number=0 logs=()
+    "$work/embed" "$1" "$work/own" compact > "$work/logged" && cmp "$work/told" "$work/logged" || return 1
+    for log in "$work"/own.{operator,s0,s1,s2,l0,l1}; do
+        logs+=("$log")
+        number=$((number + 1))
+        sed "s/^/$number /" "$log"
+    done > "$work/feed"
+    "$merger" merge "$number" "$work/feed" > "$work/merged" \
+        && LC_ALL=C sort -m -s -n -k 2,2 "${logs[@]}" | cmp "$work/merged" \
+        && of_log --compact | cmp "$work/merged" \
+        && "$recorder" record topology.toml plan-1.json plan-2.json plan-3.json "$work/merged" > "$work/recorded" \
         && cmp "$work/schedule" "$work/recorded"
 }
 
 bad=0
+echo "embed: compact logs are merged by ${merger##*/} and recorded by ${recorder##*/}"
 for seed in "$@"; do
     if "$work/embed" "$seed" "$work/schedule" > "$work/told" && replay \
         && cmp "$work/told" "$work/replayed" && record "$seed"; then

@@ -1,9 +1,10 @@
 /* One device of a fabric as a process on Linux, over UDP. An example and a rig, and no product.
  *
- *     host [--realtime PRIORITY] FILE
+ *     host [--compact] [--realtime PRIORITY] FILE
  *
  * FILE has what the device is told: its duties, the addresses of its links, its clock, and where its log
- * goes (docs/LIVE.md). rig/rig makes such files. It runs until SIGTERM. With --realtime no process of a lower
+ * goes (docs/LIVE.md). rig/rig makes such files. It runs until SIGTERM. With --compact its log is a compact
+ * one (recorder.h), and the names of FILE are not needed. With --realtime no process of a lower
  * priority keeps it waiting (SCHED_FIFO, from 1 to 99), and its memory is locked. Where the system refuses
  * that, it says so and ends with 1.
  *
@@ -455,14 +456,24 @@ static void serve(void)
 int main(int count, char **words)
 {
     static char line[512];
-    const char *priority = count == 4 && strcmp(words[1], "--realtime") == 0 ? words[2] : NULL;
-    FILE *file = count == 2 || priority != NULL ? fopen(words[count - 1], "r") : NULL;
+    const char *priority = NULL;
+    int at = 1, is_compact = 0;
+    for (; at < count; at++) {
+        if (strcmp(words[at], "--compact") == 0)
+            is_compact = 1;
+        else if (strcmp(words[at], "--realtime") == 0 && at + 1 < count)
+            priority = words[++at];
+        else
+            break;
+    }
+    FILE *file = at + 1 == count ? fopen(words[at], "r") : NULL;
     if (file == NULL) {
-        fprintf(stderr, "host [--realtime PRIORITY] FILE\n");
+        fprintf(stderr, "host [--compact] [--realtime PRIORITY] FILE\n");
         return 2;
     }
     errno = 0;
-    recorder = (struct sundial_recorder){.write = write_file, .devices = name_of[0], .links = name_of[1]};
+    recorder = (struct sundial_recorder){
+        .write = write_file, .devices = name_of[0], .links = name_of[1], .is_compact = is_compact};
     while (fgets(line, sizeof line, file) != NULL)
         read_line(line);
     fclose(file);
