@@ -9,14 +9,14 @@ use Rattle.sd_topo.specs.Limits.{IsNetwork}
 use Rattle.sd_topo.specs.declared.Thing.{Thing}
 use Rattle.sd_topo.specs.declared.Thing.TheVariants.{Device, Link}
 use Rattle.sd_topo.proofs.Laws.{rates_law}
-use Rattle.sd_domain.specs.Things.{same_thing}
+use Rattle.sd_plan.specs.Domain.Things.{same_thing}
 use Rattle.sd_plan.specs.declared.Plan.{Plan}
 use Rattle.sd_plan.specs.Plans.{is_member, members}
-use Rattle.sd_history.specs.Sched.Num.Lists.{leading}
-use Rattle.sd_history.specs.Things.{failure_of}
-use Rattle.sd_history.specs.World.{Setting, Seen, setting_over, makes, fails, is_thing, is_up, was_made, has_ever_failed, is_untouched, plan_numbered, latest_reference, latest_reading}
-use Rattle.sd_history.specs.Premises.{all_hold, readings, latest_tick, failures_since_closing}
-use Rattle.sd_history.proofs.Shared.{seen_parts, up_made}
+use Rattle.sd_fleet.specs.History.Sched.Num.Lists.{leading}
+use Rattle.sd_fleet.specs.History.Things.{failure_of}
+use Rattle.sd_fleet.specs.History.World.{Setting, Seen, setting_over, makes, fails, is_thing, is_up, was_made, has_ever_failed, is_untouched, plan_numbered, latest_reference, latest_reading}
+use Rattle.sd_fleet.specs.History.Premises.{all_hold, readings, latest_tick, failures_since_closing}
+use Rattle.sd_fleet.proofs.History.Shared.{seen_parts, up_made}
 use Rattle.sd_fleet_state.specs.world.Registers.{up_at, reading_at}
 use Rattle.sd_fleet_state.specs.world.Standing.{StandsAt}
 use Rattle.sd_premise_clocks.specs.Readings.{is_after_each}

@@ -4,10 +4,10 @@ use Rattle.std.specs.List.{list_any}
 use Rattle.sd_topo.specs.Network.{Network, rates_of}
 use Rattle.sd_topo.specs.declared.Thing.{Thing}
 use Rattle.sd_topo.specs.declared.Thing.TheVariants.{Device, Link}
-use Rattle.sd_domain.specs.Things.{same_thing}
+use Rattle.sd_plan.specs.Domain.Things.{same_thing}
 use Rattle.sd_plan.specs.declared.Plan.{Plan}
-use Rattle.sd_history.specs.World.{Setting, Seen, setting_over, is_up, is_untouched, latest_reference, latest_reading}
-use Rattle.sd_history.specs.Premises.{all_hold, readings, latest_tick, failures_since_closing}
+use Rattle.sd_fleet.specs.History.World.{Setting, Seen, setting_over, is_up, is_untouched, latest_reference, latest_reading}
+use Rattle.sd_fleet.specs.History.Premises.{all_hold, readings, latest_tick, failures_since_closing}
 use Rattle.sd_premise_clocks.specs.declared.offsets.Offsets.{Offsets}
 use Rattle.sd_premise_clocks.specs.Readings.{least_offsets}
 use Rattle.sd_premise_clocks.specs.Owing.{is_awaited}

@@ -1,16 +1,12 @@
 //! Whether an opening is honest: then what breaks behind it breaks behind the first history too.
 ghost use Rattle.std.specs.Prelude.{◌≡◌, ◌<◌, ◌^◌, true, false, List, length, OnOk, IfErr};
-ghost use Rattle.sd_domain.specs.Failures.{has_thing};
-ghost use Rattle.sd_history.specs.World.{Setting, Seen, is_untouched as is_untouched_seen};
-ghost use Rattle.sd_history.specs.Premises.{all_hold, broken_in};
+ghost use Rattle.sd_fleet.specs.History.World.{Setting, Seen, is_untouched as is_untouched_seen};
+ghost use Rattle.sd_fleet.specs.History.Premises.{all_hold, broken_in};
 ghost use Rattle.sd_fleet_state.specs.world.Registers.{reading_at};
-ghost use Rattle.sd_fleet_state.specs.world.Standing.{Stands};
-ghost use Rattle.sd_premise.specs.Standing.{net_of};
-ghost use Rattle.sd_resume.specs.Honesty.{OfHistories, IsHonest, AreDishonest, HaveOffsets, HaveTicked, HaveTouched, AreHonestOf, AreHonestLives, AreHonestAt, AreHonestDevices, AreHonestLinks, devices_of_both, links_of_both};
+ghost use Rattle.sd_premise.specs.Standing.{StandsFor, net_of};
+ghost use Rattle.sd_resume.specs.Honesty.{OfHistories, failed_since, IsHonest, AreDishonest, HaveOffsets, HaveTicked, HaveTouched, AreHonestOf, AreHonestLives, AreHonestAt, AreHonestDevices, AreHonestLinks, devices_of_both, links_of_both};
 
 use crate::differences::Dishonesty;
-use sd_domain::Failure;
-use sd_fleet_state::world::World;
 use sd_premise::{BrokenSet, Premises};
 use sd_topo::Thing;
 
@@ -135,17 +131,18 @@ fn knows_as_much(first: &Premises, second: &Premises, d: u32) -> bool
     requires second { d < length (net_of second.now).devices }
     ensures { HaveTouched first.now second.now d result }
 {
-    let one = is_untouched(first.world(), d);
-    let other = is_untouched(second.world(), d);
+    let one = is_untouched(first, d);
+    let other = is_untouched(second, d);
     one || !other
 }
 
-/// Whether the device was neither made nor failed.
-fn is_untouched(world: &World, d: u32) -> bool
-    requires { d < length world.now.devices }
-    ensures { (setting : Setting) (seen : List Seen) → Stands world.now setting seen
+/// Whether a device was neither made nor failed.
+fn is_untouched(premises: &Premises, d: u32) -> bool
+    requires { d < length (net_of premises.now).devices }
+    ensures { (setting : Setting) (seen : List Seen) → StandsFor premises.now setting seen
         → result ≡ is_untouched_seen seen d }
 {
+    let world = premises.world();
     !world.was_made(d) && !world.has_ever_failed(d)
 }
 
@@ -178,13 +175,15 @@ fn failed_in_both(first: &Premises, second: &Premises, thing: Thing) -> bool
     ensures differs { result ≡ false
         → AreDishonest first.now second.now (Dishonesty.FailedSince thing) }
 {
-    has_failed(first.failures().failed(), thing) == has_failed(second.failures().failed(), thing)
+    has_failed(first, thing) == has_failed(second, thing)
 }
 
-/// Whether the thing is one of those that failed.
-fn has_failed(failed: &Failure, thing: Thing) -> bool
-    ensures { result ≡ has_thing failed.now thing }
+/// Whether the thing failed since the latest closing.
+fn has_failed(premises: &Premises, thing: Thing) -> bool
+    ensures { (setting : Setting) (seen : List Seen) → StandsFor premises.now setting seen
+        → result ≡ failed_since seen thing }
 {
+    let failed = premises.failures().failed();
     match thing {
         Thing::Device(d) => failed.contains_device(d),
         Thing::Link(l) => failed.contains_link(l),

@@ -1,8 +1,6 @@
-use Rattle.std.proofs.Common.{◌≡◌, Bool, true, false, not, ◌||◌, refl, sym, ◌∙◌, subst}
-use Rattle.sd_fleet_state.specs.world.Registers.{Registers}
-use Rattle.sd_fleet_state.specs.world.Standing.{Stands}
+use Rattle.std.proofs.Common.{◌≡◌, Bool, true, false, not, ◌||◌, refl, sym, ◌∙◌}
 use Rattle.sd_proof_resume.specs.Law.{whole}
-use Rattle.sd_history.specs.World.{setting_over}
+use Rattle.sd_fleet.specs.History.World.{setting_over}
 use Rattle.sd_resume.proofs.honesty.knows_as_much.Goals as goal
 
 where_first : (a b : Bool) → b ≡ true → b ≡ (not a || b)
@@ -19,15 +17,10 @@ where_not false true b same is = cc
 
 pub returns-then-one : goal.returns-then-one
 returns-then-one c shift net front plans one other of_first of_second alike =
-    let first = c.is_untouched-one.ensures (whole net front plans) one
-    (subst (λ (w : Registers). Stands w (whole net front plans) one) (sym c.world.ensures) of_first.world) in
+    let first = c.is_untouched-one.ensures (whole net front plans) one of_first in
     first ∙ where_first _ _ (sym first ∙ c.if-one.true)
 
 pub returns-else-one : goal.returns-else-one
 returns-else-one c shift net front plans one other of_first of_second alike =
-    let first = c.is_untouched-one.ensures (whole net front plans) one
-    (subst (λ (w : Registers). Stands w (whole net front plans) one) (sym c.world.ensures) of_first.world) in
-    where_not _ _ _
-    (c.is_untouched-other.ensures (setting_over net plans) other
-    (subst (λ (w : Registers). Stands w (setting_over net plans) other) (sym c.world-2.ensures) of_second.world))
-    (sym first ∙ c.if-one.false)
+    where_not _ _ _ (c.is_untouched-other.ensures (setting_over net plans) other of_second)
+    (sym (c.is_untouched-one.ensures (whole net front plans) one of_first) ∙ c.if-one.false)
