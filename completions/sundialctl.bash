@@ -4,7 +4,7 @@ _sundialctl() {
     local current=${COMP_WORDS[COMP_CWORD]} most=0
     COMPREPLY=()
     if [ "$COMP_CWORD" -eq 1 ]; then
-        mapfile -t COMPREPLY < <(compgen -W "search renew bounds resume" -- "$current")
+        mapfile -t COMPREPLY < <(compgen -W "search renew bounds resume record" -- "$current")
         return
     fi
     # how many files the command reads: numbers follow
@@ -13,7 +13,7 @@ _sundialctl() {
         bounds) most=2 ;;
         renew) most=3 ;;
         # all of its words are files, but for the slash
-        resume) most=$COMP_CWORD ;;
+        resume | record) most=$COMP_CWORD ;;
     esac
     # names of files are left to readline, which knows of quotes and of ~
     if [ "$COMP_CWORD" -le $((most + 1)) ]; then

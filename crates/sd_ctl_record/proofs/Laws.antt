@@ -215,3 +215,17 @@ recorded setting entry before after history is = by (lose_all setting (reference
               (all_lost_left setting (reference_in entry) before es h);
           is = it.1 ∙ ap (λ (xs : List Event). event_in (chronicle setting xs) entry ∷ xs) h.is;
         }
+
+-- what is recorded is accepted
+pub stays_history : (setting : Setting) (entry : Entry) (before after : List Event) → IsHistory setting before → record_entry setting entry before ≡ Ok after
+    → IsHistory setting after
+stays_history setting entry before after history is = by (lose_all setting (reference_in entry) before) refl is
+  where
+    by : (came : Events) → lose_all setting (reference_in entry) before ≡ came
+        → go_on came (λ es. add setting (event_in (chronicle setting es) entry) es) ≡ Ok after
+        → IsHistory setting after
+    by (Err why) came is' = cc
+    by (Ok es) came is' =
+        let h = lost setting (reference_in entry) (2 ^ 64 - 1) before es history came in
+        let it = added (refusal setting (chronicle setting es) (event_in (chronicle setting es) entry)) (event_in (chronicle setting es) entry) es after is' in
+        subst (IsHistory setting) (sym it.1) (h.history, it.0)

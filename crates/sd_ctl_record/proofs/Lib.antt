@@ -8,3 +8,4 @@ pub mod Entering
 pub mod Taking
 pub mod Working
 pub mod Recordings
+pub mod Lawful

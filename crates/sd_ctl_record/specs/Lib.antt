@@ -11,3 +11,4 @@ pub mod Reasons
 pub mod Works
 pub mod Doing
 pub mod Recordings
+pub mod Lawful

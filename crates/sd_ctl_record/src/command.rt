@@ -6,6 +6,7 @@ ghost use Rattle.sd_topo.specs.Topologies.{network};
 ghost use Rattle.sd_cmd_files.specs.Statuses.{is_among};
 ghost use Rattle.sd_cmd_files.specs.Texts.{texts_of};
 ghost use Rattle.sd_cmd_files.specs.work.Ending.{LeavesAt};
+ghost use Rattle.sd_ctl_record.specs.Lawful.{LogIsRecorded};
 ghost use Rattle.sd_ctl_record.specs.Recordings.{IsRecording, MayRecord};
 
 use crate::record_log;
@@ -43,6 +44,8 @@ pub fn record_files<S: Shelf, O: Sink>(
         (map (λ name. texts_of held name) (map string_bytes files.entry.plans.now))
         (texts_of held files.entry.log.now))
         (O.written out.old) (O.written out.new) result) }
+    // What is written for a line is the lawful record of its entry, and is accepted.
+    ensures lawful { LogIsRecorded }
     ensures gives { IfOk result (λ status. IsTrue
         (is_among (Status.Done ∷ Status.PlanRefused ∷ Status.InputRefused ∷ []) status)) }
     ensures shelf { KeepsShelf S.Shelf (result ≡ Err IoError.Shelf) shelf.old shelf.new }

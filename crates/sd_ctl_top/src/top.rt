@@ -4,6 +4,7 @@ ghost use Rattle.sd_outside.specs.Causes.{RisesFor, Rose};
 ghost use Rattle.sd_outside.specs.Shelves.{KeepsShelf};
 ghost use Rattle.sd_cmd_files.specs.Statuses.{is_among, stop_of};
 ghost use Rattle.sd_cmd_files.specs.Writes.{WritesOnce};
+ghost use Rattle.sd_ctl_record.specs.Lawful.{LogIsRecorded};
 ghost use Rattle.sd_ctl_top.specs.Promise.{IsUsageLine, MeetsOutcome, MeetsResult, task_of};
 ghost use Rattle.sd_ctl_top.specs.Words as meaning;
 ghost use Rattle.sd_ctl_top.specs.Words.{names_of};
@@ -49,6 +50,10 @@ pub fn run<S: Shelf, O: Sink>(alloc: Global, words: &[String], shelf: &mut S, ou
     ensures complete { (Rose (S.faults shelf.old) (S.faults shelf.new) → ⊥)
         → (Rose (O.faults out.old) (O.faults out.new) → ⊥)
         → (stop_of result ≡ None) ⊎ (result ≡ Status.Memory) }
+
+    // Of the schedule that a recording writes: each line of a log that is accepted is recorded by
+    // its event, behind losses alone, and each event is accepted behind those before it.
+    ensures lawful { LogIsRecorded }
 {
     match perform(alloc, words, shelf, out) {
         Ok(status) => status,

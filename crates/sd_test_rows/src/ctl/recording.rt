@@ -9,6 +9,9 @@ use std::test::Fail;
 /// The words, with one plan.
 const WORDS: [&str; 4] = ["record", "topology", "plan", "log"];
 
+/// Where `b` has a backup, and where it has none.
+const ONE_PARENT: (&str, &str) = (r#""backup":"x","backup_link":"bx","device":"b""#, r#""device":"b""#);
+
 /// Up to the second tick of the root, which sends messages 1 and 2. A schedule has the same lines.
 const SENT: &str = "\
 start 0 0 0 0 500
@@ -84,18 +87,26 @@ fn a_refused_line_of_a_log_is_named(rt: HostRuntime) -> Result<(), Fail> {
 }
 
 #[test]
-fn a_refused_file_ends_a_recording(rt: HostRuntime) -> Result<(), Fail> {
-    let loose = TRIANGLE_PLAN.replace(rt.alloc(), "\"wait\"", "\"await\"")?;
-    let rows = [
-        (b"no plan".as_slice(), "input plan 1 NotJson\n"),
-        (loose.as_bytes(), "input plan 1 UnknownKey await 0\n"),
+fn a_refused_plan_ends_a_recording(rt: HostRuntime) -> Result<(), Fail> {
+    let alone = TRIANGLE_PLAN.replace(rt.alloc(), ONE_PARENT.0, ONE_PARENT.1)?;
+    let texts = [
+        ("topology", TRIANGLE.as_bytes()),
+        ("plan", alone.as_bytes()),
     ];
-    for (plan, line) in rows {
-        let texts = [("topology", TRIANGLE.as_bytes()), ("plan", plan)];
-        assert_writes(&rt, &WORDS, &texts, (line, Status::InputRefused))?;
-    }
+    let line = "refused plan 1 structure 6 device b\n";
+    assert_writes(&rt, &WORDS, &texts, (line, Status::PlanRefused))?;
+    let texts = [
+        ("topology", TRIANGLE.as_bytes()),
+        ("plan", b"no plan".as_slice()),
+    ];
+    let line = "input plan 1 NotJson\n";
+    assert_writes(&rt, &WORDS, &texts, (line, Status::InputRefused))
+}
+
+#[test]
+fn a_refused_topology_ends_a_recording(rt: HostRuntime) -> Result<(), Fail> {
     let texts = [("topology", b"version = 2\n".as_slice())];
-    let line = "input topology Missing scale 0\n";
+    let line = "input topology Missing ppm 0\n";
     assert_writes(&rt, &WORDS, &texts, (line, Status::InputRefused))
 }
 

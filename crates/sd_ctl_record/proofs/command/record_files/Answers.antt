@@ -1,5 +1,6 @@
 use Rattle.std.proofs.Common.{map, string_bytes}
 use Rattle.sd_topo.specs.Topologies.{network}
+use Rattle.sd_ctl_record.proofs.Lawful.{log_is_recorded}
 use Rattle.sd_ctl_record.proofs.Recordings.{behind_topology, without_topology}
 use Rattle.sd_ctl_record.proofs.command.record_files.Goals as goal
 
@@ -14,3 +15,9 @@ returns-in-Err-clause-outcome g c =
     without_topology (map string_bytes c.args.files.plans.now) c.args.files.log.now (g.O.Sink.written c.args.out.now) (g.O.Sink.written c.write_answer.new.out)
     c.write_answer.result network c.args.files.topology.now (g.S.Shelf.held c.args.shelf.now) c.in-Err.why c.in-Err.ensures.says
     c.write_answer.ensures.writes
+
+pub returns-in-Ok-clause-lawful : goal.returns-in-Ok-clause-lawful
+returns-in-Ok-clause-lawful g c = log_is_recorded
+
+pub returns-in-Err-clause-lawful : goal.returns-in-Err-clause-lawful
+returns-in-Err-clause-lawful g c = log_is_recorded

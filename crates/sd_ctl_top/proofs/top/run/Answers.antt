@@ -1,6 +1,7 @@
 use Rattle.std.proofs.Common.{inl, map, refl, string_bytes}
 use Rattle.sd_cmd_files.specs.declared.Status.TheVariants.{ShelfFault, SinkFault}
 use Rattle.sd_cmd_files.specs.declared.command_error.IoError.TheVariants as stop
+use Rattle.sd_ctl_record.proofs.Lawful.{log_is_recorded}
 use Rattle.sd_ctl_top.specs.Words.{command_of}
 use Rattle.sd_ctl_top.proofs.Meeting.{ended_is, ended_rises, never_stopped, stopped_is, stopped_rises}
 use Rattle.sd_ctl_top.proofs.top.run.Goals as goal
@@ -28,3 +29,9 @@ returns-in-Err-clause-shelf g c = stopped_rises c.in-Err.stop stop.Shelf c.statu
 
 pub returns-in-Err-clause-sink : goal.returns-in-Err-clause-sink
 returns-in-Err-clause-sink g c = stopped_rises c.in-Err.stop stop.Sink c.status.result _ _ c.status.ensures c.in-Err.ensures.sink
+
+pub returns-in-Ok-clause-lawful : goal.returns-in-Ok-clause-lawful
+returns-in-Ok-clause-lawful g c = log_is_recorded
+
+pub returns-in-Err-clause-lawful : goal.returns-in-Err-clause-lawful
+returns-in-Err-clause-lawful g c = log_is_recorded
