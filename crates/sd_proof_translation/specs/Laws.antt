@@ -1,4 +1,5 @@
--- What where a clock begins changes of a history: its counters and its times, and nothing else.
+-- What changes where clocks begin elsewhere: the times that a history tells, and nothing else. Lists of events have the newest first, and any list will do. So
+-- the laws hold after each event of a history.
 use Rattle.std.specs.Prelude.{◌≡◌, ◌↔◌, ℕ, List, map}
 use Rattle.sd_history.specs.Sched.Num.Lists.{map_or}
 use Rattle.sd_history.specs.Sched.declared.Event.{Event}
@@ -14,8 +15,8 @@ use Rattle.sd_proof_translation.specs.Moves.{moved_event, moved_events, moved_fl
 use Rattle.sd_proof_translation.specs.Counters.{counters_moved, counters_of_lives, NeverBelowMaking}
 use Rattle.sd_proof_translation.specs.Times.{times_moved}
 
--- Both are histories or neither is. At each event the device tells the same: what it sends, what it answers and what it reports. The same flights are
--- sent, the same lines and reports come, and the same premises are broken.
+-- Both are histories or neither is. At each event the device tells the same: what it sends, what it answers (its parent, whether it acts, its plan) and
+-- what it reports. The same flights are sent, the latest event has the same lines, there are the same reports, and the same premises are broken.
 pub record SaysTheSame (setting : Setting) (one other : List Event) : Type 0 where
   pub admitted : IsAdmitted setting one ↔ IsAdmitted setting other
   pub accepted : IsHistory setting one ↔ IsHistory setting other
@@ -35,17 +36,16 @@ pub record SaysTheSameLater (time : ℕ) (setting : Setting) (one other : List E
   pub reports : reports (chronicle setting one) ≡ map (moved_report_at time) (reports (chronicle setting other))
   pub broken : broken_in setting (seen_of (chronicle setting one)) ≡ broken_in setting (seen_of (chronicle setting other))
 
--- Moved counters change nothing: a number for each life of each device, which is one for each device where by takes no notice of the life, and for one
--- device alone where it is 0 for all others.
+-- Greater counters change nothing, where each life of each device has one number by which they are greater. Of one device alone it is a case: there by is
+-- 0 for all others, and takes no notice of the life.
 abbrev pub CountersChangeNothing : Setting → Type 0
 CountersChangeNothing setting = (by : ℕ → ℕ → ℕ) (events : List Event) → SaysTheSame setting (counters_moved by events) events
 
--- Counters that count from the latest start or join of their device change nothing, if none is below the counter at that start or join. In an admitted
--- history none is.
+-- So nothing changes where counters count from the latest start or join of their device, if none is below the counter there. In an admitted history none is.
 abbrev pub LivesChangeNothing : Setting → Type 0
 LivesChangeNothing setting = (events : List Event) → NeverBelowMaking events → SaysTheSame setting (counters_of_lives events) events
 
--- Moved times change times alone.
+-- Later times change times alone.
 abbrev pub TimesChangeTimes : Setting → Type 0
 TimesChangeTimes setting = (time : ℕ) (events : List Event) → SaysTheSameLater time setting (times_moved time events) events
 
