@@ -3,6 +3,7 @@
 import csv
 import io
 import json
+import re
 import subprocess
 import unittest
 
@@ -10,6 +11,7 @@ from support import DATA, TOOLS, directory, needs_sundial, run, sundial
 from test_record import RENEWAL
 
 from sundial_tools.lines.main import main
+from sundial_tools.outputs import FACTS
 from sundial_tools.topology import read_topology, topology_text
 
 RENEWED = "report 22 b 215700000 345500\nreport 23 x 215400000 345440\ndone 30 2\n"
@@ -88,6 +90,14 @@ class Lines(unittest.TestCase):
             self.assertEqual(self.rows(text, files=topology)[0]["name"], name)
         for text in "differ time\n", "differ message 2\n":
             self.assertNotIn("name", self.rows(text, files=topology)[0])
+
+    def test_each_word_of_resume_is_known(self):
+        printed = TOOLS.parent / "crates" / "sd_ctl_resume" / "specs" / "Printed.antt"
+        if not printed.is_file():
+            self.skipTest("there are no definitions")
+        words = set(re.findall(r'codes "([a-z-]+)"', printed.read_text())) - {"agree", "differ"}
+        self.assertGreater(len(words), 15)
+        self.assertEqual(words - set(FACTS), set())
 
     def test_a_refused_line_of_an_opening_is_none_of_the_schedule(self):
         out = self.renewed("input opening 2 Refused\n")[1]
