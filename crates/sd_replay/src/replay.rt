@@ -101,12 +101,27 @@ impl<N: Node, V: Observer> Replay<N, V> {
             → setting.net ≡ network topo → setting.plans ≡ plans
             → StandsFor N.Node V.Observer replay setting []) }
     {
+        Replay::over(alloc, topo, plans.as_slice(), observer)
+    }
+
+    /// As `new`, over plans that are lent.
+    pub fn over(
+        alloc: Global,
+        topo: Topology,
+        plans: &[Plan],
+        observer: V,
+    ) -> Result<Replay<N, V>, NoMemory>
+        requires some { 1 ≤ length plans.now }
+        requires count { length plans.now < 2 ^ 32 }
+        requires fit { OfEach (Fits (network topo)) plans.now }
+        requires accepted { OfEach (IsAccepted (network topo)) plans.now }
+        requires observer { V.stands observer [] }
+        ensures stands { IfOk result (λ replay. (setting : Setting)
+            → setting.net ≡ network topo → setting.plans ≡ plans.now
+            → StandsFor N.Node V.Observer replay setting []) }
+    {
         let event_output = EventOutput::new(alloc, topo)?;
-        let (fleet, monitors) = fleet_and_monitors(
-            alloc,
-            &event_output.topology,
-            plans.as_slice(),
-        )?;
+        let (fleet, monitors) = fleet_and_monitors(alloc, &event_output.topology, plans)?;
         Ok(Replay {
             fleet,
             monitors,

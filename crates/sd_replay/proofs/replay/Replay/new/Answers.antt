@@ -1,41 +1,13 @@
-use Rattle.std.proofs.Common.{[], refl, sym, ◌∙◌, subst}
-use Rattle.sd_history.specs.World.{Setting}
+use Rattle.std.proofs.Common.{List, subst, sym}
+use Rattle.sd_topo.specs.Network.{Each}
 use Rattle.sd_topo.specs.Topologies.{network}
-use Rattle.sd_premise.specs.FleetState.membership.Plans.{AreSound}
-use Rattle.sd_replay.proofs.Going.{are_sound, first_stands}
+use Rattle.sd_plan.specs.declared.Plan.{Plan}
+use Rattle.sd_plan.specs.Plans.{Fits}
+use Rattle.sd_proof_safety.specs.Checker.Verdicts.{IsAccepted}
 use Rattle.sd_replay.proofs.replay.Replay.new.Goals as goal
 
-pub fleet_and_monitors-requires-clause-sound : goal.fleet_and_monitors-requires-clause-sound
-fleet_and_monitors-requires-clause-sound g c =
-    subst (λ net. AreSound net c.as_slice.result.now) (sym c.in_ok-event_output.ensures.net)
-    (are_sound (network c.args.topo) c.args.plans c.as_slice.result.now c.as_slice.ensures c.requires.fit c.requires.accepted)
+pub over-requires-clause-fit : goal.over-requires-clause-fit
+over-requires-clause-fit g c = subst (λ (plans : List Plan). Each (Fits (network c.args.topo)) plans) (sym c.as_slice.ensures) c.requires.fit
 
-pub invariant_of-result : goal.invariant_of-result
-invariant_of-result g c =
-    let setting : Setting = record { net = network c.args.topo; plans = c.args.plans } in
-    record {
-      run =
-          ∣ record {
-            setting = setting;
-            steps = [];
-            stands =
-                first_stands g.N.Node g.V.Observer c.args.topo c.args.plans c.in_ok-fleet.fleet c.in_ok-fleet.monitors c.in_ok-event_output.event_output
-                c.args.observer setting refl refl c.requires.some c.requires.fit c.requires.accepted
-                (c.in_ok-fleet.ensures.fleet setting (sym c.in_ok-event_output.ensures.net) (sym c.as_slice.ensures))
-                (c.in_ok-fleet.ensures.monitors setting (sym c.in_ok-event_output.ensures.net) (sym c.as_slice.ensures))
-                c.in_ok-event_output.ensures.net c.in_ok-event_output.ensures.lines c.in_ok-event_output.ensures.tally c.in_ok-event_output.ensures.ended
-                c.requires.observer;
-          } ∣₁;
-    }
-
-pub returns : goal.returns
-returns g c =
-    record {
-      stands = λ setting net plans.
-          first_stands g.N.Node g.V.Observer c.args.topo c.args.plans c.in_ok-fleet.fleet c.in_ok-fleet.monitors c.in_ok-event_output.event_output
-          c.args.observer setting net plans c.requires.some c.requires.fit c.requires.accepted
-          (c.in_ok-fleet.ensures.fleet setting (net ∙ sym c.in_ok-event_output.ensures.net) (plans ∙ sym c.as_slice.ensures))
-          (c.in_ok-fleet.ensures.monitors setting (net ∙ sym c.in_ok-event_output.ensures.net) (plans ∙ sym c.as_slice.ensures))
-          c.in_ok-event_output.ensures.net c.in_ok-event_output.ensures.lines c.in_ok-event_output.ensures.tally c.in_ok-event_output.ensures.ended
-          c.requires.observer;
-    }
+pub over-requires-clause-accepted : goal.over-requires-clause-accepted
+over-requires-clause-accepted g c = subst (λ (plans : List Plan). Each (IsAccepted (network c.args.topo)) plans) (sym c.as_slice.ensures) c.requires.accepted
