@@ -6,12 +6,9 @@ use Rattle.sd_outside.specs.Shelves.{KeepsShelf}
 use Rattle.sd_outside.specs.declared.shelf.Shelf.{Ghosts}
 use Rattle.sd_topo.specs.Network.{Network, Each}
 use Rattle.sd_plan.specs.declared.Plan.{Plan}
-use Rattle.sd_plan.specs.Plans.{Fits}
 use Rattle.sd_sched.specs.declared.Event.{Event}
-use Rattle.sd_fleet.specs.FleetState.membership.Plans.{AreSound, IsFollowable}
-use Rattle.sd_fleet.specs.History.World.{Setting, setting_over}
+use Rattle.sd_fleet.specs.History.World.{setting_over}
 use Rattle.sd_proof_resume.specs.Law.{whole}
-use Rattle.sd_resume.specs.Fleets.{DeviceFleet}
 use Rattle.sd_cmd_files.specs.Answering.{After, Allowed}
 use Rattle.sd_cmd_files.specs.Checker.Verdicts.{IsAccepted}
 use Rattle.sd_cmd_files.specs.Inputs.{plan_in_file}
@@ -35,7 +32,7 @@ use Rattle.sd_cmd_files.proofs.Shared.{makes_more, verdict_more}
 use Rattle.sd_cmd_files.proofs.planfiles.Reading.{through}
 use Rattle.sd_ctl_resume.specs.Compared.{IsCompared}
 use Rattle.sd_ctl_resume.specs.Parts.{AfterLines, AfterPart, part_work}
-use Rattle.sd_ctl_resume.specs.Played.{HasPlayed, HasRead, IsInputRefused}
+use Rattle.sd_ctl_resume.specs.Played.{HasPlayed, HasRead, IsInputRefused, TextReplay}
 use Rattle.sd_ctl_resume.specs.Resumes.{AfterBoth}
 
 -- the texts of a shelf
@@ -44,18 +41,11 @@ Told = List ℕ → Option (List ℕ)
 
 -- Plans
 
--- plans that are accepted can be followed
-pub can_be_followed : (net : Network) (plans : List Plan) → Each (Fits net) plans → Each (IsAccepted net) plans → AreSound net plans
-can_be_followed net plans fit accepted = λ i plan at. record { fits = fit i plan at; structured = (accepted i plan at).structure }
-
--- so can the last of them
-pub last_followed : (net : Network) (plans : List Plan) (left : ℕ) → AreSound net plans → AreSound net (drop left plans)
-last_followed net plans left sound = each_drop (IsFollowable net) left plans sound
-  where
-    each_drop : (P : Plan → Type 0) (n : ℕ) (ps : List Plan) → Each P ps → Each P (drop n ps)
-    each_drop P zero ps each = each
-    each_drop P (suc n) [] each = each
-    each_drop P (suc n) (p ∷ ps) each = each_drop P n ps (λ i x at. each (suc i) x at)
+-- what holds of each plan holds of each of the last ones
+pub each_drop : (P : Plan → Type 0) (left : ℕ) (plans : List Plan) → Each P plans → Each P (drop left plans)
+each_drop P zero plans each = each
+each_drop P (suc n) [] each = each
+each_drop P (suc n) (p ∷ plans) each = each_drop P n plans (λ i plan at. each (suc i) plan at)
 
 -- what ends a command at its plans is written whatever would come after
 early_plans : (net : Network) (place : ℕ) (front : List Plan) (texts : List (List ℕ)) (Then : List Plan → Allowed) (bytes : List ℕ) (status : Status)
@@ -144,9 +134,9 @@ module _ (net : Network) (plans : List Plan) (left : ℕ) where
   abbrev After_second : List ℕ → List Event → Allowed
   After_second opening one = AfterPart second_work opening (λ other. IsCompared net (take left plans) (drop left plans) one other)
 
-  over_both : (fleet : DeviceFleet) (events : List Event) → HasPlayed fleet (setting_over net plans) events
-      → HasPlayed fleet (whole net (take left plans) (drop left plans)) events
-  over_both fleet events played = subst (λ (ps : List Plan). HasPlayed fleet (setting_over net ps) events) (sym (take-append-drop left plans)) played
+  over_both : (replay : TextReplay) (events : List Event) → HasPlayed replay (setting_over net plans) events
+      → HasPlayed replay (whole net (take left plans) (drop left plans)) events
+  over_both replay events played = subst (λ (ps : List Plan). HasPlayed replay (setting_over net ps) events) (sym (take-append-drop left plans)) played
 
   module _ (schedule opening : List ℕ) (made : Result Answer CommandError) where
     first_stopped : (early : SetupError) → made ≡ made_of early → IsAllowed (AfterPart first_work schedule Nothing) (made_of early)
@@ -156,7 +146,7 @@ module _ (net : Network) (plans : List Plan) (left : ℕ) where
         (makes_more (AfterPart first_work schedule Nothing) (AfterBoth net plans left schedule opening) (made_of early)
         (early_part first_work schedule (After_second opening)) makes)
 
-    second_stopped : (early : SetupError) (one : DeviceFleet) → made ≡ made_of early → HasRead (codes "schedule") (setting_over net plans) schedule one
+    second_stopped : (early : SetupError) (one : TextReplay) → made ≡ made_of early → HasRead (codes "schedule") (setting_over net plans) schedule one
         → IsAllowed (AfterPart second_work opening Nothing) (made_of early) → IsAllowed (AfterBoth net plans left schedule opening) made
     second_stopped early one is read makes =
         subst (IsAllowed (AfterBoth net plans left schedule opening)) (sym is)
@@ -165,7 +155,7 @@ module _ (net : Network) (plans : List Plan) (left : ℕ) where
         (early_part second_work opening (λ other. IsCompared net (take left plans) (drop left plans) (reading first_work schedule).taken other) bytes status
         written)) makes)
 
-    both_read : (one other : DeviceFleet) → HasRead (codes "schedule") (setting_over net plans) schedule one
+    both_read : (one other : TextReplay) → HasRead (codes "schedule") (setting_over net plans) schedule one
         → HasRead (codes "opening") (setting_over net (drop left plans)) opening other
         → ((events others : List Event) → HasPlayed one (whole net (take left plans) (drop left plans)) events
         → HasPlayed other (setting_over net (drop left plans)) others
@@ -192,7 +182,7 @@ module _ (net : Network) (plans : List Plan) (left : ℕ) where
         by None told = tt
         by (Some h) told = first_stopped (texts_of h schedule) (texts_of h opening) made early is told
 
-    pub told_second_stopped : (later : Option Told) (early : SetupError) (one : DeviceFleet) → later ≡ held → made ≡ made_of early
+    pub told_second_stopped : (later : Option Told) (early : SetupError) (one : TextReplay) → later ≡ held → made ≡ made_of early
         → IfSome held (λ h. HasRead (codes "schedule") (setting_over net plans) (texts_of h schedule) one)
         → IfSome later (λ h. IsAllowed (AfterPart second_work (texts_of h opening) Nothing) (made_of early))
         → IfSome held (λ h. IsAllowed (AfterBoth net plans left (texts_of h schedule) (texts_of h opening)) made)
@@ -205,7 +195,7 @@ module _ (net : Network) (plans : List Plan) (left : ℕ) where
         by None was told = tt
         by (Some h) was told = second_stopped (texts_of h schedule) (texts_of h opening) made early one is was told
 
-    pub told_both : (later : Option Told) (one other : DeviceFleet) → later ≡ held
+    pub told_both : (later : Option Told) (one other : TextReplay) → later ≡ held
         → IfSome held (λ h. HasRead (codes "schedule") (setting_over net plans) (texts_of h schedule) one)
         → IfSome later (λ h. HasRead (codes "opening") (setting_over net (drop left plans)) (texts_of h opening) other)
         → ((events others : List Event) → HasPlayed one (whole net (take left plans) (drop left plans)) events

@@ -1,103 +1,122 @@
--- What a line does to a fleet that has played those before it.
-use Rattle.std.specs.Prelude.{◌≡◌, ◌≢◌, ℕ, suc, ◌+◌, Bool, true, false, List, [], ◌∷◌, length, Option, Some, None, IfOk, Result, Ok, Err, codes, decimal}
+-- What a line does to a replay that has played those before it.
+use Rattle.std.specs.Prelude.{◌≡◌, ◌≢◌, ℕ, suc, ◌+◌, Bool, true, false, List, [], ◌∷◌, length, Option, Some, None, IfOk, IfErr, IfSome, OnOk, Result, Ok, Err, codes, decimal}
 use Rattle.std.proofs.Common.{refl, sym, ap, ◌∙◌, subst, arith}
 use Rattle.std.proofs.lemmas.List.{length-map}
 use Rattle.sd_num.specs.Texts.{text_of}
 use Rattle.sd_num.specs.declared.NoMemory.{NoMemory}
+use Rattle.sd_topo.specs.Network.{Network}
+use Rattle.sd_plan.specs.declared.Plan.{Plan}
 use Rattle.sd_core.specs.declared.registers.Registers.{Registers}
 use Rattle.sd_core.specs.contracts.device.DeviceNode.TheImpl.{ghosts as device}
+use Rattle.sd_msg.specs.contracts.observer.NoObserverObserver.TheImpl.{ghosts as nobody}
 use Rattle.sd_sched.specs.declared.Event.{Event}
 use Rattle.sd_sched.specs.declared.LineFault.{LineFault}
 use Rattle.sd_sched.specs.Lines.{event_of_line}
-use Rattle.sd_fleet.specs.History.World.{Setting}
+use Rattle.sd_fleet.specs.History.World.{Setting, setting_over}
 use Rattle.sd_fleet.specs.History.Steps as steps
-use Rattle.sd_fleet.specs.History.Steps.{events_of}
 use Rattle.sd_fleet.specs.History.Nodes.{NodeStep, steps_of}
 use Rattle.sd_fleet.specs.History.Chronicle.{chronicle}
 use Rattle.sd_fleet.specs.History.Refusals.{refusal}
 use Rattle.sd_fleet.specs.History.declared.ApplyFault.{ApplyFault}
-use Rattle.sd_fleet.specs.declared.Outcome.{Outcome}
-use Rattle.sd_fleet.specs.Standing.{StandsFor, IsAccepted}
-use Rattle.sd_fleet.proofs.History.Devices.{devices_run}
-use Rattle.sd_resume.specs.Fleets.{DeviceFleet}
+use Rattle.sd_replay.specs.Replaying.{StandsFor, IsLineFault, IsStepped}
+use Rattle.sd_replay.specs.declared.faults.ReplayFault.{ReplayFault}
+use Rattle.sd_replay.specs.declared.faults.ReplayFault.TheVariants as fault
+use Rattle.sd_replay.proofs.Kept.{devices_keep_chronicle, replayed_next}
 use Rattle.sd_cmd_files.specs.declared.command_error.CommandError.TheVariants as ended
 use Rattle.sd_cmd_files.specs.declared.planfiles.setup_error.SetupError.{SetupError}
 use Rattle.sd_cmd_files.specs.declared.planfiles.setup_error.SetupError.TheVariants.{Answered, Stopped}
 use Rattle.sd_cmd_files.specs.work.Steps.{Step, end_step, refused_step, step_for}
 use Rattle.sd_cmd_files.specs.work.Works.{Work}
 use Rattle.sd_ctl_resume.specs.Parts.{accepted, part_work, unless_refused}
-use Rattle.sd_ctl_resume.specs.Played.{ComesTo, EndsWithLine, HasPlayed, Happens, IsInputRefused, IsTaken, StepsOn}
+use Rattle.sd_ctl_resume.specs.Played.{ComesTo, EndsWithLine, HasPlayed, IsInputRefused, IsTaken, StepsOn, TextReplay}
 
--- the steps of a fleet that has played events are their chronicle
-chronicled : (fleet : DeviceFleet) (setting : Setting) (events : List Event) (played : HasPlayed fleet setting events)
+-- the steps of a replay that has played events are their chronicle
+chronicled : (replay : TextReplay) (setting : Setting) (events : List Event) (played : HasPlayed replay setting events)
     → steps_of played.run ≡ chronicle setting events
-chronicled fleet setting events played = devices_run setting played.run played.stands.is_run ∙ ap (chronicle setting) played.happened
+chronicled replay setting events played = (devices_keep_chronicle nobody replay setting events played).chronicle
 
 -- it has counted them
-pub counted : (fleet : DeviceFleet) (setting : Setting) (events : List Event) → HasPlayed fleet setting events
-    → fleet.fabric.membership.world.events ≡ length events
-counted fleet setting events played =
-    played.stands.fabric.membership.world.events ∙ length-map (steps_of played.run) (λ (s : steps.Step). s.seen)
-    ∙ sym (length-map (steps_of played.run) (λ (s : steps.Step). s.seen.event))
+pub counted : (replay : TextReplay) (setting : Setting) (events : List Event) → HasPlayed replay setting events
+    → replay.fleet.fabric.membership.world.events ≡ length events
+counted replay setting events played =
+    let run : List (NodeStep Registers) = played.run in
+    played.stands.made.fabric.membership.world.events ∙ length-map (steps_of run) (λ (s : steps.Step). s.seen)
+    ∙ sym (length-map (steps_of run) (λ (s : steps.Step). s.seen.event))
     ∙ ap (λ (es : List Event). length es) played.happened
 
--- before the first line
-pub before_all : (fleet : DeviceFleet) (setting : Setting) → StandsFor device fleet setting [] → HasPlayed fleet setting []
-before_all fleet setting stands = record { run = []; stands = stands; happened = refl }
+-- before the first line, over a copy of the network
+pub begins : (net copy : Network) (plans : List Plan) (result : Result TextReplay NoMemory) → copy ≡ net
+    → IfOk result (λ replay. (setting : Setting) → setting.net ≡ copy → setting.plans ≡ plans → StandsFor device nobody replay setting [])
+    → IfOk result (λ replay. HasPlayed replay (setting_over net plans) [])
+begins net copy plans (Ok replay) is stands =
+    record { run = []; stands = stands (setting_over net plans) (sym is) refl; happened = refl }
+begins net copy plans (Err why) is stands = tt
 
-module _ (old new : DeviceFleet) (setting : Setting) (events : List Event) (e : Event) (played : HasPlayed old setting events) where
-  -- what the history says of the event is what the run says
-  in_history : (r : Option ApplyFault) → r ≡ refusal setting (steps_of played.run) e → accepted setting events (Ok e) ≡ unless_refused r e
-  in_history r is =
-      ap (λ (o : Option ApplyFault). unless_refused o e)
-      (ap (λ (run : List steps.Step). refusal setting run e) (sym (chronicled old setting events played)) ∙ sym is)
+-- A line that is tried
 
-  -- an event that is refused
-  pub is_refused : (why : ApplyFault) (found : Option ApplyFault) → found ≡ Some why
-      → ((s : Setting) (run : List (NodeStep Registers)) → StandsFor device old s run → found ≡ refusal s (steps_of run) e) → new ≡ old
-      → Happens new setting events e false
-  is_refused why found is says same = (
-    in_history (Some why) (sym is ∙ says setting played.run played.stands),
-    subst (λ (f : DeviceFleet). HasPlayed f setting events) (sym same) played,
-  )
+-- what is said of a line by whatever run the replay stood for
+abbrev OfRuns : TextReplay → ((setting : Setting) (run : List (NodeStep Registers)) → Type 0) → Type 0
+OfRuns replay P = (setting : Setting) (run : List (NodeStep Registers)) → StandsFor device nobody replay setting run → P setting run
 
-  -- one that is accepted
-  pub is_accepted : (found : Option ApplyFault) (outcome : Outcome) → found ≡ None
-      → ((s : Setting) (run : List (NodeStep Registers)) → StandsFor device old s run → found ≡ refusal s (steps_of run) e)
-      → ((s : Setting) (run : List (NodeStep Registers)) → StandsFor device old s run → IsAccepted device new s run e outcome)
-      → Happens new setting events e true
-  is_accepted found outcome is says goes =
-      let step : IsAccepted device new setting played.run e outcome = goes setting played.run played.stands in (
-        in_history None (sym is ∙ says setting played.run played.stands),
-        record {
-          run = step.next ∷ played.run;
-          stands = step.stands;
-          happened = ap (λ (x : Event). x ∷ events_of (steps_of played.run)) step.happens ∙ ap (λ (es : List Event). e ∷ es) played.happened;
-        },
-      )
+-- an answer is one of both
+not_both : (result : Result (Unit {0}) ReplayFault) (done : Unit {0}) (why : ReplayFault) → result ≡ Ok done → result ≡ Err why → ⊥
+not_both (Ok done) u why goes fails = cc
+not_both (Err why) u other goes fails = cc
 
--- a line that is no event
-pub no_event : (old new : DeviceFleet) (setting : Setting) (events : List Event) (line : List ℕ) (why : LineFault) → HasPlayed old setting events
-    → event_of_line line ≡ Err why → new ≡ old → IsTaken new setting events line false
-no_event old new setting events line why played is same =
-    (ap (accepted setting events) is, subst (λ (f : DeviceFleet). HasPlayed f setting events) (sym same) played)
+unrefused : (result : Result (Unit {0}) ReplayFault) (done : Unit {0}) → result ≡ Ok done → (r : Option ApplyFault)
+    → IfSome r (λ why. result ≡ Err (fault.Apply why)) → r ≡ None
+unrefused result done is None said = refl
+unrefused result done is (Some why) said = absurd (not_both result done (fault.Apply why) is said)
 
--- a line of an event that was tried
-of_line : (new : DeviceFleet) (setting : Setting) (events : List Event) (line : List ℕ) (e : Event) (took : Bool) → event_of_line line ≡ Ok e
-    → Happens new setting events e took → IsTaken new setting events line took
-of_line new setting events line e true is (says, played) = (e, ap (accepted setting events) is ∙ says, played)
-of_line new setting events line e false is (says, played) = (ap (accepted setting events) is ∙ says, played)
+-- what holds of an answer that is none
+on_ok : {P : Type 0} (result : Result (Unit {0}) ReplayFault) (done : Unit {0}) → result ≡ Ok done → OnOk result P → P
+on_ok {P = P} result done is holds = subst (λ (r : Result (Unit {0}) ReplayFault). OnOk r P) is holds
 
--- the same, whether memory ran out or not
-pub tried : (old new : DeviceFleet) (line : List ℕ) (e : Event) (result : Result Bool NoMemory) → event_of_line line ≡ Ok e
-    → IfOk result (λ took. (setting : Setting) (events : List Event) → HasPlayed old setting events → Happens new setting events e took)
-    → IfOk result (λ took. (setting : Setting) (events : List Event) → HasPlayed old setting events → IsTaken new setting events line took)
-tried old new line e (Ok took) is happens = λ setting events played. of_line new setting events line e took is (happens setting events played)
-tried old new line e (Err why) is happens = tt
+module _ (old new : TextReplay) (setting : Setting) (events : List Event) (line : List ℕ) (played : HasPlayed old setting events) where
+  -- what the history says of an event is what the run says
+  in_history : (e : Event) (r : Option ApplyFault) → refusal setting (steps_of played.run) e ≡ r → event_of_line line ≡ Ok e
+      → accepted setting events (event_of_line line) ≡ unless_refused r e
+  in_history e r is read =
+      ap (accepted setting events) read
+      ∙ ap (λ (o : Option ApplyFault). unless_refused o e)
+      (ap (λ (run : List steps.Step). refusal setting run e) (sym (chronicled old setting events played)) ∙ is)
+
+  taken : (e : Event) → event_of_line line ≡ Ok e → refusal setting (steps_of played.run) e ≡ None → IsStepped device nobody new setting played.run e
+      → IsTaken new setting events line true
+  taken e read none stepped = (e, in_history e None none read, replayed_next nobody old new setting events e played stepped)
+
+  stays : StandsFor device nobody new setting played.run → HasPlayed new setting events
+  stays stands = record { run = played.run; stands = stands; happened = played.happened }
+
+  -- its event is accepted
+  pub is_taken : (result : Result (Unit {0}) ReplayFault) (done : Unit {0}) → result ≡ Ok done
+      → IfErr (event_of_line line) (λ why. result ≡ Err (fault.Line why))
+      → IfOk (event_of_line line) (λ e. OfRuns old (λ s run. IfSome (refusal s (steps_of run) e) (λ why. result ≡ Err (fault.Apply why))))
+      → OnOk result (IfOk (event_of_line line) (λ e. OfRuns old (λ s run. IsStepped device nobody new s run e)))
+      → IsTaken new setting events line true
+  is_taken result done is wrong refused goes = by (event_of_line line) refl wrong refused (on_ok result done is goes)
+    where
+      by : (said : Result Event LineFault) → event_of_line line ≡ said → IfErr said (λ why. result ≡ Err (fault.Line why))
+          → IfOk said (λ e. OfRuns old (λ s run. IfSome (refusal s (steps_of run) e) (λ why. result ≡ Err (fault.Apply why))))
+          → IfOk said (λ e. OfRuns old (λ s run. IsStepped device nobody new s run e)) → IsTaken new setting events line true
+      by (Err why) read said none steps = absurd (not_both result done (fault.Line why) is said)
+      by (Ok e) read said none steps =
+          taken e read (unrefused result done is (refusal setting (steps_of played.run) e) (none setting played.run played.stands))
+          (steps setting played.run played.stands)
+
+  -- or refused
+  pub is_refused : (found : ReplayFault) (why : ApplyFault) → found ≡ fault.Apply why
+      → OfRuns old (λ s run. StandsFor device nobody new s run × IsLineFault found s (steps_of run) line)
+      → IsTaken new setting events line false
+  is_refused found why is says =
+      let said : StandsFor device nobody new setting played.run × IsLineFault (fault.Apply why) setting (steps_of played.run) line =
+      subst (λ (f : ReplayFault). StandsFor device nobody new setting played.run × IsLineFault f setting (steps_of played.run) line) is
+      (says setting played.run played.stands) in
+      (in_history said.1.0 (Some why) said.1.2 said.1.1, stays said.0)
 
 -- What comes next, of whatever work over a text of this name.
 
-module _ (word : List ℕ) (old new : DeviceFleet) (result : Result Bool SetupError) where
+module _ (word : List ℕ) (old new : TextReplay) (result : Result Bool SetupError) where
   -- a line
   pub on_line : (line : List ℕ)
       → ((setting : Setting) (events : List Event) → HasPlayed old setting events
@@ -128,18 +147,18 @@ module _ (word : List ℕ) (old new : DeviceFleet) (result : Result Bool SetupEr
       λ setting same played. subst (λ (r : Result Bool SetupError). ComesTo work setting new events step r) (sym is) tt
 
 -- a refusal at the next line
-pub refuses : (word why : List ℕ) (fleet : DeviceFleet) (setting : Setting) (events : List Event) (n : ℕ) (early : SetupError)
-    → HasPlayed fleet setting events → n ≡ length events → EndsWithLine (text_of (codes "input" ∷ word ∷ decimal (n + 1) ∷ why ∷ [])) early
-    → ComesTo (part_work word setting) setting fleet events (refused_step (part_work word setting) events why) (Err early)
-refuses word why fleet setting events n (Answered answer) played is ends = (
+pub refuses : (word why : List ℕ) (replay : TextReplay) (setting : Setting) (events : List Event) (n : ℕ) (early : SetupError)
+    → HasPlayed replay setting events → n ≡ length events → EndsWithLine (text_of (codes "input" ∷ word ∷ decimal (n + 1) ∷ why ∷ [])) early
+    → ComesTo (part_work word setting) setting replay events (refused_step (part_work word setting) events why) (Err early)
+refuses word why replay setting events n (Answered answer) played is ends = (
   why,
   refl,
   ends.0 ∙ ap (λ (k : ℕ). text_of (codes "input" ∷ word ∷ decimal (k + 1) ∷ why ∷ [])) is,
   ends.1,
 )
-refuses word why fleet setting events n (Stopped (ended.Refused r)) played is ends = absurd ends
-refuses word why fleet setting events n (Stopped ended.Shelf) played is ends = absurd ends
-refuses word why fleet setting events n (Stopped ended.Memory) played is ends = tt
+refuses word why replay setting events n (Stopped (ended.Refused r)) played is ends = absurd ends
+refuses word why replay setting events n (Stopped ended.Shelf) played is ends = absurd ends
+refuses word why replay setting events n (Stopped ended.Memory) played is ends = tt
 
 -- a refusal is one of an input
 pub refused_input : (line : List ℕ) (early : SetupError) → EndsWithLine line early → IsInputRefused early
@@ -153,13 +172,13 @@ never_shelf line (Stopped ended.Shelf) ends is = absurd ends
 never_shelf line (Stopped ended.Memory) ends is = cc
 
 -- a line that was taken
-pub takes_accepted : (word : List ℕ) (old new : DeviceFleet) (setting : Setting) (events : List Event) (line : List ℕ) → IsTaken new setting events line true
+pub takes_accepted : (word : List ℕ) (old new : TextReplay) (setting : Setting) (events : List Event) (line : List ℕ) → IsTaken new setting events line true
     → ComesTo (part_work word setting) setting new events
     (step_for (part_work word setting) events ((part_work word setting).says events line)) (Ok true)
 takes_accepted word old new setting events line (e, says, played) = (e, ap (step_for (part_work word setting) events) says, played)
 
 -- or refused, as comes of a refusal
-pub takes_refused : (word : List ℕ) (new : DeviceFleet) (setting : Setting) (events : List Event) (line : List ℕ) (result : Result Bool SetupError)
+pub takes_refused : (word : List ℕ) (new : TextReplay) (setting : Setting) (events : List Event) (line : List ℕ) (result : Result Bool SetupError)
     → IsTaken new setting events line false
     → (HasPlayed new setting events → ComesTo (part_work word setting) setting new events (refused_step (part_work word setting) events (codes "Refused")) result)
     → ComesTo (part_work word setting) setting new events (step_for (part_work word setting) events ((part_work word setting).says events line)) result
@@ -168,17 +187,17 @@ takes_refused word new setting events line result (says, played) comes =
     (sym (ap (step_for (part_work word setting) events) says)) (comes played)
 
 -- the end of a text with a line, and of one without
-pub ends_some : (word : List ℕ) (fleet : DeviceFleet) (setting : Setting) (events : List Event) (n : ℕ) → HasPlayed fleet setting events → n ≡ length events
-    → n ≢ 0 → ComesTo (part_work word setting) setting fleet events (end_step (part_work word setting) events) (Ok false)
-ends_some word fleet setting [] n played is some = absurd (some is)
-ends_some word fleet setting (e ∷ events) n played is some = (refl, played)
+pub ends_some : (word : List ℕ) (replay : TextReplay) (setting : Setting) (events : List Event) (n : ℕ) → HasPlayed replay setting events → n ≡ length events
+    → n ≢ 0 → ComesTo (part_work word setting) setting replay events (end_step (part_work word setting) events) (Ok false)
+ends_some word replay setting [] n played is some = absurd (some is)
+ends_some word replay setting (e ∷ events) n played is some = (refl, played)
 
-pub ends_none : (word : List ℕ) (fleet : DeviceFleet) (setting : Setting) (events : List Event) (n : ℕ) (result : Result Bool SetupError)
+pub ends_none : (word : List ℕ) (replay : TextReplay) (setting : Setting) (events : List Event) (n : ℕ) (result : Result Bool SetupError)
     → n ≡ length events → n ≡ 0
-    → ComesTo (part_work word setting) setting fleet events (refused_step (part_work word setting) events (codes "NoEnd")) result
-    → ComesTo (part_work word setting) setting fleet events (end_step (part_work word setting) events) result
-ends_none word fleet setting [] n result is none comes = comes
-ends_none word fleet setting (e ∷ events) n result is none comes = absurd (never (length events) (sym is ∙ none))
+    → ComesTo (part_work word setting) setting replay events (refused_step (part_work word setting) events (codes "NoEnd")) result
+    → ComesTo (part_work word setting) setting replay events (end_step (part_work word setting) events) result
+ends_none word replay setting [] n result is none comes = comes
+ends_none word replay setting (e ∷ events) n result is none comes = absurd (never (length events) (sym is ∙ none))
   where
     never : (k : ℕ) → suc k ≡ 0 → ⊥
     never k same = omega (arith, same)

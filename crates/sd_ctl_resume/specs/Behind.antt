@@ -7,10 +7,10 @@ use Rattle.sd_fleet.specs.History.World.{setting_over}
 use Rattle.sd_fleet.specs.History.Chronicle.{IsHistory}
 use Rattle.sd_fleet.specs.History.Admitted.{IsAdmitted}
 use Rattle.sd_proof_resume.specs.Shifts.{Shift, raised_event}
-use Rattle.sd_proof_resume.specs.Law.{whole, AllMayFollow, SaysAlike}
+use Rattle.sd_proof_resume.specs.Law.{whole, AllMayFollow, BreaksNoMore, LeavesBroken, SaysAlike}
 
 -- Later events are as of the opening: in the first, the messages that they name have higher numbers. The rules admit the same, each has the same alarms
--- and the same report, and nothing else is accepted behind the first.
+-- and the same report, nothing else is accepted behind the first, and each premise that breaks behind the opening is broken behind the first.
 pub record GoOnAlike (shift : Shift) (net : Network) (front plans : List Plan) (one other : List Event) : Type 0 where
   pub admitted : (later : List Event) → AllMayFollow (setting_over net plans) other later → IsAdmitted (setting_over net plans) (later ++ other)
       → IsAdmitted (whole net front plans) (map (raised_event shift) later ++ one)
@@ -20,3 +20,5 @@ pub record GoOnAlike (shift : Shift) (net : Network) (front plans : List Plan) (
       → SaysAlike shift (whole net front plans) (setting_over net plans) one other later
   pub raised : (later : List Event) → IsHistory (whole net front plans) (later ++ one)
       → (behind : List Event) × (map (raised_event shift) behind ≡ later)
+  pub breaks : BreaksNoMore shift (whole net front plans) (setting_over net plans) one other
+  pub leaves : LeavesBroken shift (whole net front plans) (setting_over net plans) one other

@@ -6,7 +6,7 @@ use Rattle.sd_core.specs.declared.registers.Registers.{Registers}
 use Rattle.sd_core.specs.contracts.device.DeviceNode.TheImpl.{ghosts as device}
 use Rattle.sd_sched.specs.declared.Event.{Event}
 use Rattle.sd_fleet.specs.History.World.{setting_over}
-use Rattle.sd_fleet.specs.History.Steps.{events_of}
+use Rattle.sd_fleet.specs.History.Steps.{events_of, seen_of}
 use Rattle.sd_fleet.specs.History.Nodes.{NodeStep, IsRun, steps_of}
 use Rattle.sd_cmd_files.specs.Answering.{Allowed}
 use Rattle.sd_cmd_files.specs.declared.Status.{Status}
@@ -14,9 +14,11 @@ use Rattle.sd_cmd_files.specs.declared.Status.TheVariants.{Done, Broken}
 use Rattle.sd_proof_resume.specs.Shifts.{Shift}
 use Rattle.sd_proof_resume.specs.Law.{whole}
 use Rattle.sd_resume.specs.Differences.{Differs, Opens}
+use Rattle.sd_resume.specs.Honesty.{IsDishonest, IsHonest}
 use Rattle.sd_resume.specs.declared.differences.Difference.{Difference}
+use Rattle.sd_resume.specs.declared.differences.Dishonesty.{Dishonesty}
 use Rattle.sd_ctl_resume.specs.Behind.{GoOnAlike}
-use Rattle.sd_ctl_resume.specs.Printed.{agree_line, differ_line}
+use Rattle.sd_ctl_resume.specs.Printed.{agree_line, differ_line, dishonest_line}
 
 -- Runs of devices with these events, over the plans of the schedule and over the last of them.
 pub record AreRuns (shift : Shift) (net : Network) (front plans : List Plan) (one other : List Event) (first second : List (NodeStep Registers)) : Type 0
@@ -27,13 +29,14 @@ pub record AreRuns (shift : Shift) (net : Network) (front plans : List Plan) (on
     pub first_happened : events_of (steps_of first) ≡ one
     pub second_happened : events_of (steps_of second) ≡ other
 
--- the opening stands for the schedule
+-- the opening stands for the schedule, and is honest
 pub record IsAgreed (net : Network) (front plans : List Plan) (one other : List Event) (bytes : List ℕ) (status : Status) : Type 0 where
   pub shift : Shift
   pub first : List (NodeStep Registers)
   pub second : List (NodeStep Registers)
   pub runs : AreRuns shift net front plans one other first second
   pub opens : Opens shift net front plans first second
+  pub honest : IsHonest (setting_over net plans) (seen_of (steps_of first)) (seen_of (steps_of second))
   pub behind : GoOnAlike shift net front plans one other
   pub line : bytes ≡ agree_line (length one) (length other)
   pub done : status ≡ Done
@@ -49,6 +52,20 @@ pub record IsApart (net : Network) (front plans : List Plan) (one other : List E
   pub line : bytes ≡ differ_line what
   pub broken : status ≡ Broken
 
--- one of both
+-- the opening stands for the schedule, and is not honest in this
+pub record IsUnfit (net : Network) (front plans : List Plan) (one other : List Event) (bytes : List ℕ) (status : Status) : Type 0 where
+  pub shift : Shift
+  pub first : List (NodeStep Registers)
+  pub second : List (NodeStep Registers)
+  pub runs : AreRuns shift net front plans one other first second
+  pub opens : Opens shift net front plans first second
+  pub what : Dishonesty
+  pub dishonest : IsDishonest (setting_over net plans) (seen_of (steps_of first)) (seen_of (steps_of second)) what
+  pub line : bytes ≡ dishonest_line what
+  pub broken : status ≡ Broken
+
+-- one of the three
 abbrev pub IsCompared : Network → (front plans : List Plan) → (one other : List Event) → Allowed
-IsCompared net front plans one other bytes status = IsAgreed net front plans one other bytes status ⊎ IsApart net front plans one other bytes status
+IsCompared net front plans one other bytes status =
+    IsAgreed net front plans one other bytes status
+    ⊎ (IsApart net front plans one other bytes status ⊎ IsUnfit net front plans one other bytes status)

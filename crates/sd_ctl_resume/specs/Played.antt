@@ -1,16 +1,16 @@
--- For which events a fleet stands that goes through a text, and what a line comes to.
+-- For which events a replay stands that goes through a text, and what a line comes to.
 use Rattle.std.specs.Prelude.{◌≡◌, ◌<◌, ◌≤◌, ℕ, ◌+◌, ◌^◌, Bool, true, false, List, [], ◌∷◌, length, None, IfSome, Result, Ok, Err, codes}
 use Rattle.sd_outside.specs.Shelves.{KeepsShelf}
 use Rattle.sd_outside.specs.declared.shelf.Shelf as shelves
 use Rattle.sd_core.specs.declared.registers.Registers.{Registers}
 use Rattle.sd_core.specs.contracts.device.DeviceNode.TheImpl.{ghosts as device}
+use Rattle.sd_msg.specs.declared.observer.NoObserver.{NoObserver}
+use Rattle.sd_msg.specs.contracts.observer.NoObserverObserver.TheImpl.{ghosts as nobody}
 use Rattle.sd_sched.specs.declared.Event.{Event}
 use Rattle.sd_sched.specs.Lines.{event_of_line}
 use Rattle.sd_fleet.specs.History.World.{Setting}
-use Rattle.sd_fleet.specs.History.Steps.{events_of}
-use Rattle.sd_fleet.specs.History.Nodes.{NodeStep, steps_of}
-use Rattle.sd_fleet.specs.Standing.{StandsFor}
-use Rattle.sd_resume.specs.Fleets.{DeviceFleet}
+use Rattle.sd_replay.specs.Devices.{HasReplayed}
+use Rattle.sd_replay.specs.declared.replay.Replay.{Replay}
 use Rattle.sd_stream.specs.Reader.{shelf_of, text_left, bytes_before, GoesPast}
 use Rattle.sd_stream.specs.declared.buffer.Buffer.{Buffer}
 use Rattle.sd_stream.specs.declared.reader.LineReader.{LineReader}
@@ -18,32 +18,28 @@ use Rattle.sd_cmd_files.specs.declared.Status.TheVariants.{Done, InputRefused}
 use Rattle.sd_cmd_files.specs.declared.command_error.CommandError.TheVariants as ended
 use Rattle.sd_cmd_files.specs.declared.planfiles.setup_error.SetupError.{SetupError}
 use Rattle.sd_cmd_files.specs.declared.planfiles.setup_error.SetupError.TheVariants.{Answered, Stopped}
-use Rattle.sd_cmd_files.specs.work.Nexts.{HoldsNext}
 use Rattle.sd_cmd_files.specs.work.Steps.{Step, Next, Last, refused_step}
 use Rattle.sd_cmd_files.specs.work.Works.{Work, reading, refused_line}
 use Rattle.sd_ctl_resume.specs.Parts.{accepted, part_work}
 
--- the fleet stands for a run of devices with these events, the newest first
-pub record HasPlayed (fleet : DeviceFleet) (setting : Setting) (events : List Event) : Type 0 where
-  pub run : List (NodeStep Registers)
-  pub stands : StandsFor device fleet setting run
-  pub happened : events_of (steps_of run) ≡ events
+-- a replay of devices, which tells nobody of its reports
+abbrev pub TextReplay : Type 0
+TextReplay = Replay Registers NoObserver device nobody
 
--- each line of the text was accepted, and the fleet has played them
-pub record HasRead (word : List ℕ) (setting : Setting) (text : List ℕ) (fleet : DeviceFleet) : Type 0 where
+-- the replay stands for a run of devices with these events, the newest first
+abbrev pub HasPlayed : TextReplay → Setting → List Event → Type 0
+HasPlayed replay setting events = HasReplayed nobody replay setting events
+
+-- each line of the text was accepted, and the replay has played them
+pub record HasRead (word : List ℕ) (setting : Setting) (text : List ℕ) (replay : TextReplay) : Type 0 where
   pub whole : (reading (part_work word setting) text).refused ≡ None
-  pub played : HasPlayed fleet setting (reading (part_work word setting) text).taken
-
--- the event was accepted, or not
-abbrev pub Happens : (fleet : DeviceFleet) (setting : Setting) (events : List Event) (e : Event) → Bool → Type 0
-Happens fleet setting events e true = (accepted setting events (Ok e) ≡ Ok e) × HasPlayed fleet setting (e ∷ events)
-Happens fleet setting events e false = (accepted setting events (Ok e) ≡ Err (codes "Refused")) × HasPlayed fleet setting events
+  pub played : HasPlayed replay setting (reading (part_work word setting) text).taken
 
 -- the line was accepted, or not
-abbrev pub IsTaken : (fleet : DeviceFleet) (setting : Setting) (events : List Event) (line : List ℕ) → Bool → Type 0
-IsTaken fleet setting events line true =
-    (e : Event) × (accepted setting events (event_of_line line) ≡ Ok e) × HasPlayed fleet setting (e ∷ events)
-IsTaken fleet setting events line false = (accepted setting events (event_of_line line) ≡ Err (codes "Refused")) × HasPlayed fleet setting events
+abbrev pub IsTaken : (replay : TextReplay) (setting : Setting) (events : List Event) (line : List ℕ) → Bool → Type 0
+IsTaken replay setting events line true =
+    (e : Event) × (accepted setting events (event_of_line line) ≡ Ok e) × HasPlayed replay setting (e ∷ events)
+IsTaken replay setting events line false = (accepted setting events (event_of_line line) ≡ Err (codes "Refused")) × HasPlayed replay setting events
 
 -- a command ends with this line, since an input is refused; or memory ran out
 abbrev pub EndsWithLine : List ℕ → SetupError → Type 0
@@ -58,7 +54,7 @@ IsInputRefused (Answered answer) = answer.status ≡ InputRefused
 IsInputRefused (Stopped why) = Unit {0}
 
 -- what comes next in a text: an event that happened, the end, a refusal, or what stops a run
-abbrev pub ComesTo : Work Event → Setting → DeviceFleet → List Event → Step Event → Result Bool SetupError → Type 0
+abbrev pub ComesTo : Work Event → Setting → TextReplay → List Event → Step Event → Result Bool SetupError → Type 0
 ComesTo work setting new events step (Ok true) = (e : Event) × (step ≡ Next e) × HasPlayed new setting (e ∷ events)
 ComesTo work setting new events step (Ok false) = (step ≡ Last [] Done) × HasPlayed new setting events
 ComesTo work setting new events step (Err (Answered answer)) =
@@ -67,8 +63,8 @@ ComesTo work setting new events step (Err (Stopped (ended.Refused why))) = ⊥
 ComesTo work setting new events step (Err (Stopped ended.Shelf)) = Unit {0}
 ComesTo work setting new events step (Err (Stopped ended.Memory)) = Unit {0}
 
--- of the work over a text of this name, after the events for which the fleet stood
-abbrev pub StepsOn : (word : List ℕ) (old new : DeviceFleet) → Result Bool SetupError → Work Event → List Event → Step Event → Type 0
+-- of the work over a text of this name, after the events for which the replay stood
+abbrev pub StepsOn : (word : List ℕ) (old new : TextReplay) → Result Bool SetupError → Work Event → List Event → Step Event → Type 0
 StepsOn word old new result work events step =
     (setting : Setting) → work ≡ part_work word setting → HasPlayed old setting events → ComesTo work setting new events step result
 

@@ -5,6 +5,8 @@ use Rattle.sd_topo.specs.declared.Thing.{Thing}
 use Rattle.sd_topo.specs.declared.Thing.TheVariants.{Device, Link}
 use Rattle.sd_resume.specs.declared.differences.Difference.{Difference}
 use Rattle.sd_resume.specs.declared.differences.Difference.TheVariants as difference
+use Rattle.sd_resume.specs.declared.differences.Dishonesty.{Dishonesty}
+use Rattle.sd_resume.specs.declared.differences.Dishonesty.TheVariants as dishonesty
 use Rattle.sd_resume.specs.declared.differences.Register.{Register}
 use Rattle.sd_resume.specs.declared.differences.Register.TheVariants as register
 
@@ -58,6 +60,29 @@ number_of (difference.Reading d) = Some d
 number_of (difference.Register d x) = Some d
 number_of _ = None
 
+-- what failed since the latest closing
+abbrev pub failed_word : Thing → List ℕ
+failed_word (Device d) = codes "failed-device"
+failed_word (Link l) = codes "failed-link"
+
+-- in what the opening is not honest
+abbrev pub dishonesty_word : Dishonesty → List ℕ
+dishonesty_word dishonesty.Broken = codes "broken"
+dishonesty_word (dishonesty.Drift d) = codes "drift"
+dishonesty_word (dishonesty.Tick d) = codes "tick"
+dishonesty_word (dishonesty.Awaited d) = codes "awaited"
+dishonesty_word (dishonesty.Untouched d) = codes "untouched"
+dishonesty_word (dishonesty.FailedSince thing) = failed_word thing
+
+-- the number behind that word, if there is one
+abbrev pub dishonesty_number : Dishonesty → Option ℕ
+dishonesty_number dishonesty.Broken = None
+dishonesty_number (dishonesty.Drift d) = Some d
+dishonesty_number (dishonesty.Tick d) = Some d
+dishonesty_number (dishonesty.Awaited d) = Some d
+dishonesty_number (dishonesty.Untouched d) = Some d
+dishonesty_number (dishonesty.FailedSince thing) = Some (thing_number thing)
+
 -- a word, and a number if there is one
 abbrev pub line_with : List ℕ → Option ℕ → List ℕ
 line_with word None = text_of (codes "differ" ∷ word ∷ [])
@@ -66,3 +91,7 @@ line_with word (Some n) = text_of (codes "differ" ∷ word ∷ decimal n ∷ [])
 -- the line of a difference
 abbrev pub differ_line : Difference → List ℕ
 differ_line what = line_with (word_of what) (number_of what)
+
+-- the line of a dishonesty
+abbrev pub dishonest_line : Dishonesty → List ℕ
+dishonest_line what = line_with (dishonesty_word what) (dishonesty_number what)

@@ -1,5 +1,5 @@
-//! The comparison of two fleets that have played their texts.
-ghost use Rattle.std.specs.Prelude.{◌≡◌, ◌∷◌, [], List, length, IsTrue, IfErr, IfOk};
+//! The comparison of two replays that have played their texts.
+ghost use Rattle.std.specs.Prelude.{◌≡◌, ◌∷◌, [], List, length, string_bytes, IsTrue, IfErr, IfOk};
 ghost use Rattle.sd_topo.specs.Network.{Network};
 ghost use Rattle.sd_plan.specs.declared.Plan.{Plan};
 ghost use Rattle.sd_sched.specs.declared.Event.{Event};
@@ -7,17 +7,18 @@ ghost use Rattle.sd_fleet.specs.History.World.{setting_over};
 ghost use Rattle.sd_proof_resume.specs.Law.{whole};
 ghost use Rattle.sd_cmd_files.specs.Statuses.{is_among};
 ghost use Rattle.sd_cmd_files.specs.Writes.{IsAllowed};
+ghost use Rattle.sd_proof_resume.specs.Shifts.{Shift};
 ghost use Rattle.sd_ctl_resume.specs.Compared.{IsCompared};
+ghost use Rattle.sd_ctl_resume.specs.Opened.{OpensFor};
 ghost use Rattle.sd_ctl_resume.specs.Played.{HasPlayed};
 ghost use Rattle.sd_ctl_resume.specs.Printed as words;
 
-use crate::lines::{agree_line, differ_line};
+use crate::lines::{agree_line, differ_line, dishonest_line};
+use crate::playing::DeviceReplay;
 use crate::proposal::propose;
 use crate::taking::count;
 use sd_cmd_files::{Answer, CommandError, Status};
-use sd_core::Device;
-use sd_fleet::Fleet;
-use sd_resume::{Difference, agrees};
+use sd_resume::{Difference, Dishonesty, agrees, is_honest};
 use std::alloc::Global;
 
 /// The opening stands for the schedule.
@@ -33,6 +34,17 @@ fn agree_answer(alloc: Global, one: u64, other: u64) -> Result<Answer, CommandEr
     })
 }
 
+/// The opening does not stand for the schedule, or is not honest.
+fn broken_answer(line: String) -> Answer
+    ensures text { result.text.items ≡ string_bytes line }
+    ensures status { result.status ≡ Status.Broken }
+{
+    Answer {
+        text: line.into_bytes(),
+        status: Status::Broken,
+    }
+}
+
 /// They differ in this.
 fn differ_answer(alloc: Global, difference: Difference) -> Result<Answer, CommandError>
     ensures text { IfOk result (λ answer. answer.text.items ≡ words.differ_line difference) }
@@ -40,17 +52,44 @@ fn differ_answer(alloc: Global, difference: Difference) -> Result<Answer, Comman
     ensures only { IfErr result (λ why. why ≡ CommandError.Memory) }
 {
     let line = differ_line(alloc, difference)?;
-    Ok(Answer {
-        text: line.into_bytes(),
-        status: Status::Broken,
-    })
+    Ok(broken_answer(line))
+}
+
+/// The opening is not honest in this.
+fn dishonest_answer(alloc: Global, dishonesty: Dishonesty) -> Result<Answer, CommandError>
+    ensures text { IfOk result (λ answer. answer.text.items ≡ words.dishonest_line dishonesty) }
+    ensures status { IfOk result (λ answer. answer.status ≡ Status.Broken) }
+    ensures only { IfErr result (λ why. why ≡ CommandError.Memory) }
+{
+    let line = dishonest_line(alloc, dishonesty)?;
+    Ok(broken_answer(line))
+}
+
+/// What is said of two of which the second is an opening: whether it is honest.
+fn compare_premises(
+    alloc: Global,
+    one: &DeviceReplay,
+    other: &DeviceReplay,
+) -> Result<Answer, CommandError>
+    ensures makes { (shift : Shift) (net : Network) (front plans : List Plan)
+        (events others : List Event) → OpensFor shift net front plans one.now other.now events others
+        → IsAllowed (IsCompared net front plans events others) result }
+    ensures gives { IfOk result (λ answer. IsTrue
+        (is_among (Status.Done ∷ Status.PlanRefused ∷ Status.InputRefused ∷ Status.Broken ∷ [])
+        answer.status)) }
+    ensures only { IfErr result (λ why. why ≡ CommandError.Memory) }
+{
+    match is_honest(one.premises(), other.premises()) {
+        Ok(()) => agree_answer(alloc, count(one), count(other)),
+        Err(dishonesty) => dishonest_answer(alloc, dishonesty),
+    }
 }
 
 /// What is said of the two, of which the second leaves out so many plans.
 pub(crate) fn compare(
     alloc: Global,
-    one: &Fleet<Device>,
-    other: &Fleet<Device>,
+    one: &DeviceReplay,
+    other: &DeviceReplay,
     left: u32,
 ) -> Result<Answer, CommandError>
     ensures makes { (net : Network) (front plans : List Plan) (events others : List Event)
@@ -63,9 +102,11 @@ pub(crate) fn compare(
         answer.status)) }
     ensures only { IfErr result (λ why. why ≡ CommandError.Memory) }
 {
-    let shift = propose(one, other, left);
-    match agrees(one, other, &shift) {
-        Ok(()) => agree_answer(alloc, count(one), count(other)),
+    let first = one.fleet();
+    let second = other.fleet();
+    let shift = propose(first, second, left);
+    match agrees(first, second, &shift) {
+        Ok(()) => compare_premises(alloc, one, other),
         Err(difference) => differ_answer(alloc, difference),
     }
 }

@@ -1,7 +1,7 @@
 //! `resume` of the second program: whether an opening stands for a schedule, so that all later
 //! events are the same behind both.
 //!
-//! Both texts are played through fleets of devices, and `agrees` of `sd_resume` compares these.
+//! Both texts are replayed, and `sd_resume` compares the fleets of devices and the premises.
 #![tactic(auto)]
 
 mod comparing;

@@ -3,7 +3,7 @@ ghost use Rattle.std.specs.Prelude.{◌≡◌, ◌∷◌, [], None, Some, IfOk, 
 ghost use Rattle.sd_num.specs.Texts.{text_of};
 ghost use Rattle.sd_ctl_resume.specs.Printed as words;
 
-use sd_resume::{Difference, Register};
+use sd_resume::{Difference, Dishonesty, Register};
 use sd_topo::Thing;
 use std::alloc::{AllocError, Global};
 
@@ -114,6 +114,55 @@ pub(crate) fn differ_line(alloc: Global, difference: Difference) -> Result<Strin
 {
     let word = word_of(difference);
     match number_of(difference) {
+        Some(number) => number_line(alloc, word, number),
+        None => word_line(alloc, word),
+    }
+}
+
+/// The word of what failed since the latest closing.
+fn failed_word(thing: Thing) -> &'static str
+    ensures { result.now ≡ words.failed_word thing }
+{
+    match thing {
+        Thing::Device(_) => "failed-device",
+        Thing::Link(_) => "failed-link",
+    }
+}
+
+/// The word of a dishonesty.
+fn dishonesty_word(dishonesty: Dishonesty) -> &'static str
+    ensures { result.now ≡ words.dishonesty_word dishonesty }
+{
+    match dishonesty {
+        Dishonesty::Broken => "broken",
+        Dishonesty::Drift { .. } => "drift",
+        Dishonesty::Tick { .. } => "tick",
+        Dishonesty::Awaited { .. } => "awaited",
+        Dishonesty::Untouched { .. } => "untouched",
+        Dishonesty::FailedSince { thing } => failed_word(thing),
+    }
+}
+
+/// The number behind the word of a dishonesty, if there is one.
+fn dishonesty_number(dishonesty: Dishonesty) -> Option<u64>
+    ensures { result ≡ words.dishonesty_number dishonesty }
+{
+    match dishonesty {
+        Dishonesty::Broken => None,
+        Dishonesty::Drift { device }
+        | Dishonesty::Tick { device }
+        | Dishonesty::Awaited { device }
+        | Dishonesty::Untouched { device } => Some(u64::from(device)),
+        Dishonesty::FailedSince { thing } => Some(thing_number(thing)),
+    }
+}
+
+/// In what the opening is not honest.
+pub(crate) fn dishonest_line(alloc: Global, dishonesty: Dishonesty) -> Result<String, AllocError>
+    ensures { IfOk result (λ line. string_bytes line ≡ words.dishonest_line dishonesty) }
+{
+    let word = dishonesty_word(dishonesty);
+    match dishonesty_number(dishonesty) {
         Some(number) => number_line(alloc, word, number),
         None => word_line(alloc, word),
     }

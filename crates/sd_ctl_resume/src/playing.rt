@@ -1,4 +1,4 @@
-//! A text that is played through a fleet, line by line.
+//! A text that is replayed, line by line.
 ghost use Rattle.std.specs.Prelude.{◌≡◌, [], Err, IsTrue, IfErr, IfSome, OnOk};
 ghost use Rattle.sd_outside.specs.Shelves.{KeepsShelf};
 ghost use Rattle.sd_fleet.specs.History.World.{Setting};
@@ -13,10 +13,14 @@ use crate::taking::take_line;
 use sd_cmd_files::CommandError;
 use sd_cmd_files::planfiles::SetupError;
 use sd_core::Device;
-use sd_fleet::Fleet;
+use sd_msg::NoObserver;
 use sd_outside::Shelf;
+use sd_replay::Replay;
 use sd_stream::{Buffer, LineReader};
 use std::alloc::Global;
+
+/// A replay of devices, which tells nobody of its reports.
+pub(crate) type DeviceReplay = Replay<Device, NoObserver>;
 
 /// A text: what it is called where it is refused, and the name of its file.
 #[derive(Clone, Copy)]
@@ -25,18 +29,18 @@ pub(crate) struct Text<'w> {
     pub name: &'w str,
 }
 
-/// Begins a text, and plays it through a fleet.
+/// Begins a text, and replays it.
 pub(crate) fn play<S: Shelf>(
     alloc: Global,
     shelf: &mut S,
-    fleet: &mut Fleet<Device>,
+    replay: &mut DeviceReplay,
     text: Text<'_>,
 ) -> Result<(), SetupError>
     requires name { IsTrue (S.serves shelf.old text.name.now) }
-    ensures read { OnOk result ((setting : Setting) → HasPlayed fleet.old setting []
+    ensures read { OnOk result ((setting : Setting) → HasPlayed replay.old setting []
         → IfSome (S.held shelf.old) (λ held.
-        HasRead text.entry.word.now setting (texts_of held text.entry.name.now) fleet.new)) }
-    ensures makes { IfErr result (λ early. (setting : Setting) → HasPlayed fleet.old setting []
+        HasRead text.entry.word.now setting (texts_of held text.entry.name.now) replay.new)) }
+    ensures makes { IfErr result (λ early. (setting : Setting) → HasPlayed replay.old setting []
         → IfSome (S.held shelf.old) (λ held. IsAllowed
         (AfterPart (part_work text.entry.word.now setting)
         (texts_of held text.entry.name.now) Nothing) (made_of early))) }
@@ -45,7 +49,7 @@ pub(crate) fn play<S: Shelf>(
         shelf.old shelf.new }
 {
     match shelf.begin(text.name) {
-        Ok(()) => play_begun(alloc, shelf, fleet, text.word),
+        Ok(()) => play_begun(alloc, shelf, replay, text.word),
         Err(_) => Err(SetupError::Stopped(CommandError::Shelf)),
     }
 }
@@ -54,13 +58,13 @@ pub(crate) fn play<S: Shelf>(
 fn play_begun<S: Shelf>(
     alloc: Global,
     shelf: &mut S,
-    fleet: &mut Fleet<Device>,
+    replay: &mut DeviceReplay,
     word: &str,
 ) -> Result<(), SetupError>
     requires begun { IsTrue (S.begun shelf.old) }
-    ensures read { OnOk result ((setting : Setting) → HasPlayed fleet.old setting []
-        → IfSome (S.rest shelf.old) (λ text. HasRead word.now setting text fleet.new)) }
-    ensures makes { IfErr result (λ early. (setting : Setting) → HasPlayed fleet.old setting []
+    ensures read { OnOk result ((setting : Setting) → HasPlayed replay.old setting []
+        → IfSome (S.rest shelf.old) (λ text. HasRead word.now setting text replay.new)) }
+    ensures makes { IfErr result (λ early. (setting : Setting) → HasPlayed replay.old setting []
         → IfSome (S.rest shelf.old)
         (λ text. IsAllowed (AfterPart (part_work word.now setting) text Nothing)
         (made_of early))) }
@@ -71,7 +75,7 @@ fn play_begun<S: Shelf>(
     let buffer = Buffer::new(alloc)?;
     let mut reader = LineReader::over(shelf, buffer);
     'lines: loop {
-        match take_line(alloc, &mut reader, fleet, word) {
+        match take_line(alloc, &mut reader, replay, word) {
             Ok(true) => {}
             Ok(false) => return Ok(()),
             Err(early) => return Err(early),

@@ -1,11 +1,12 @@
 //! `resume`: the topology and the plans, and then both texts.
 ghost use Rattle.std.specs.Prelude.{◌≡◌, ◌≤◌, ◌<◌, ◌∷◌, [], All, List, Err, IsTrue, IfOk, IfSome, drop, length, map, string_bytes};
 ghost use Rattle.sd_outside.specs.Shelves.{KeepsShelf};
-ghost use Rattle.sd_topo.specs.Network.{Network};
+ghost use Rattle.sd_topo.specs.Network.{Each, Network};
 ghost use Rattle.sd_topo.specs.Topologies.{network};
 ghost use Rattle.sd_plan.specs.declared.Plan.{Plan as AnyPlan};
-ghost use Rattle.sd_fleet.specs.FleetState.membership.Plans.{AreSound};
+ghost use Rattle.sd_plan.specs.Plans.{Fits};
 ghost use Rattle.sd_fleet.specs.History.World.{setting_over};
+ghost use Rattle.sd_cmd_files.specs.Checker.Verdicts.{IsAccepted};
 ghost use Rattle.sd_cmd_files.specs.Statuses.{is_among};
 ghost use Rattle.sd_cmd_files.specs.Texts.{texts_of};
 ghost use Rattle.sd_cmd_files.specs.Writes.{IsAllowed};
@@ -14,13 +15,14 @@ ghost use Rattle.sd_ctl_resume.specs.Played.{HasPlayed};
 ghost use Rattle.sd_ctl_resume.specs.Resumes.{AfterBoth, IsResuming};
 
 use crate::comparing::compare;
-use crate::playing::{Text, play};
+use crate::playing::{DeviceReplay, Text, play};
 use sd_cmd_files::planfiles::load_plans;
 use sd_cmd_files::{Answer, CommandError, Status, load_topology};
-use sd_core::Device;
-use sd_fleet::Fleet;
+use sd_msg::NoObserver;
+use sd_num::NoMemory;
 use sd_outside::Shelf;
 use sd_plan::Plan;
+use sd_replay::Replay;
 use sd_topo::Topology;
 use std::alloc::Global;
 
@@ -102,6 +104,18 @@ fn plans_behind(plans: &[Plan], left: u32) -> &[Plan]
     &plans[left as usize..]
 }
 
+/// A replay before any event, over a copy of the topology.
+fn begin(alloc: Global, topo: &Topology, plans: &[Plan]) -> Result<DeviceReplay, NoMemory>
+    requires some { 1 ≤ length plans.now }
+    requires few { length plans.now ≤ 64 }
+    requires fit { Each (Fits (network topo.now)) plans.now }
+    requires accepted { Each (IsAccepted (network topo.now)) plans.now }
+    ensures { IfOk result (λ replay. HasPlayed replay (setting_over (network topo.now) plans.now) []) }
+{
+    let copy = topo.copy(alloc)?;
+    Replay::over(alloc, copy, plans, NoObserver)
+}
+
 /// Both texts, over plans that were read and accepted.
 fn resume_both<S: Shelf>(
     alloc: Global,
@@ -114,7 +128,8 @@ fn resume_both<S: Shelf>(
     requires opening { IsTrue (S.serves shelf.old files.opening.now) }
     requires few { length plans.now ≤ 64 }
     requires left { files.left < length plans.now }
-    requires sound { AreSound (network topo.now) plans.now }
+    requires fit { Each (Fits (network topo.now)) plans.now }
+    requires accepted { Each (IsAccepted (network topo.now)) plans.now }
     ensures makes { IfSome (S.held shelf.old) (λ held. IsAllowed
         (AfterBoth (network topo.now) plans.now files.entry.left
         (texts_of held files.entry.schedule.now) (texts_of held files.entry.opening.now))
@@ -124,24 +139,28 @@ fn resume_both<S: Shelf>(
         answer.status)) }
     ensures shelf { KeepsShelf S.Shelf (result ≡ Err CommandError.Shelf) shelf.old shelf.new }
 {
-    let mut one = Fleet::new(alloc, topo, plans)?;
-    resume_beside(alloc, shelf, topo, plans, &mut one, files)
+    let mut one = begin(alloc, topo, plans)?;
+    let made = resume_beside(alloc, shelf, topo, plans, &mut one, files);
+    // for the prover: at the end of the function it would be dropped field by field
+    drop(one);
+    made
 }
 
-/// The same by a fleet in which nothing has happened.
+/// The same by a replay in which nothing has happened.
 fn resume_beside<S: Shelf>(
     alloc: Global,
     shelf: &mut S,
     topo: &Topology,
     plans: &[Plan],
-    one: &mut Fleet<Device>,
+    one: &mut DeviceReplay,
     files: Files<'_>,
 ) -> Result<Answer, CommandError>
     requires schedule { IsTrue (S.serves shelf.old files.schedule.now) }
     requires opening { IsTrue (S.serves shelf.old files.opening.now) }
     requires few { length plans.now ≤ 64 }
     requires left { files.left < length plans.now }
-    requires sound { AreSound (network topo.now) plans.now }
+    requires fit { Each (Fits (network topo.now)) plans.now }
+    requires accepted { Each (IsAccepted (network topo.now)) plans.now }
     ensures makes { HasPlayed one.old (setting_over (network topo.now) plans.now) []
         → IfSome (S.held shelf.old) (λ held. IsAllowed
         (AfterBoth (network topo.now) plans.now files.entry.left
@@ -152,16 +171,19 @@ fn resume_beside<S: Shelf>(
         answer.status)) }
     ensures shelf { KeepsShelf S.Shelf (result ≡ Err CommandError.Shelf) shelf.old shelf.new }
 {
-    let mut other = Fleet::new(alloc, topo, plans_behind(plans, files.left))?;
-    resume_fleets(alloc, shelf, one, &mut other, files)
+    let mut other = begin(alloc, topo, plans_behind(plans, files.left))?;
+    let made = resume_replays(alloc, shelf, one, &mut other, files);
+    // for the prover, as above
+    drop(other);
+    made
 }
 
-/// The same by two such fleets, which are lent.
-fn resume_fleets<S: Shelf>(
+/// The same by two such replays, which are lent.
+fn resume_replays<S: Shelf>(
     alloc: Global,
     shelf: &mut S,
-    one: &mut Fleet<Device>,
-    other: &mut Fleet<Device>,
+    one: &mut DeviceReplay,
+    other: &mut DeviceReplay,
     files: Files<'_>,
 ) -> Result<Answer, CommandError>
     requires schedule { IsTrue (S.serves shelf.old files.schedule.now) }

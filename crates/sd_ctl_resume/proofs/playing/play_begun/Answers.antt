@@ -1,4 +1,4 @@
-use Rattle.std.proofs.Common.{◌≡◌, ◌∙◌, Bool, true, false, Ok, Err, Result, ap, refl, rules, subst}
+use Rattle.std.proofs.Common.{◌≡◌, ◌∙◌, Bool, true, false, Ok, Result, ap, rules, subst}
 use Rattle.sd_stream.specs.Reader.{bytes_before, text_left}
 use Rattle.sd_cmd_files.specs.declared.planfiles.setup_error.SetupError.{SetupError}
 use Rattle.sd_cmd_files.specs.work.Nexts.{HoldsNext}
@@ -21,9 +21,9 @@ pub lines-preserved : goal.lines-preserved
 lines-preserved g c =
     let on : c.take_line.result ≡ Ok true = c.in-Ok-true.is ∙ ap Ok c.in-Ok-true.field-0-test in
     record {
-      come = λ setting played. reaches_on g.S.Shelf c.args.word.now setting _ c.lines.reader c.take_line.new.reader c.lines.fleet c.take_line.new.fleet
+      come = λ setting played. reaches_on g.S.Shelf c.args.word.now setting _ c.lines.reader c.take_line.new.reader c.lines.replay c.take_line.new.replay
           (c.lines.invariant.come setting played)
-          (subst (λ (r : Result Bool SetupError). HoldsNext (StepsOn c.args.word.now c.lines.fleet c.take_line.new.fleet r) (text_left g.S.Shelf c.lines.reader)
+          (subst (λ (r : Result Bool SetupError). HoldsNext (StepsOn c.args.word.now c.lines.replay c.take_line.new.replay r) (text_left g.S.Shelf c.lines.reader)
           (bytes_before c.lines.reader)) on c.take_line.ensures.steps)
           (c.take_line.ensures.reader.past on);
       within = search rules;
@@ -36,14 +36,14 @@ lines-preserved g c =
 pub returns-in-Ok-false-clause-read : goal.returns-in-Ok-false-clause-read
 returns-in-Ok-false-clause-read g c =
     let over : c.take_line.result ≡ Ok false = c.in-Ok-false.is ∙ ap Ok c.in-Ok-false.field-0-test in
-    λ setting played. told_read g.S.Shelf c.args.word.now setting (g.S.Shelf.rest c.args.shelf.now) c.lines.reader c.lines.fleet c.take_line.new.fleet
+    λ setting played. told_read g.S.Shelf c.args.word.now setting (g.S.Shelf.rest c.args.shelf.now) c.lines.reader c.lines.replay c.take_line.new.replay
     (c.lines.invariant.come setting played)
-    (subst (λ (r : Result Bool SetupError). HoldsNext (StepsOn c.args.word.now c.lines.fleet c.take_line.new.fleet r) (text_left g.S.Shelf c.lines.reader)
+    (subst (λ (r : Result Bool SetupError). HoldsNext (StepsOn c.args.word.now c.lines.replay c.take_line.new.replay r) (text_left g.S.Shelf c.lines.reader)
     (bytes_before c.lines.reader)) over c.take_line.ensures.steps)
 
 pub returns-in-Err-clause-makes : goal.returns-in-Err-clause-makes
 returns-in-Err-clause-makes g c =
-    λ setting played. told_stopped g.S.Shelf c.args.word.now setting (g.S.Shelf.rest c.args.shelf.now) c.lines.reader c.lines.fleet c.take_line.new.fleet
+    λ setting played. told_stopped g.S.Shelf c.args.word.now setting (g.S.Shelf.rest c.args.shelf.now) c.lines.reader c.lines.replay c.take_line.new.replay
     (c.lines.invariant.come setting played) c.in-Err.early
-    (subst (λ (r : Result Bool SetupError). HoldsNext (StepsOn c.args.word.now c.lines.fleet c.take_line.new.fleet r) (text_left g.S.Shelf c.lines.reader)
+    (subst (λ (r : Result Bool SetupError). HoldsNext (StepsOn c.args.word.now c.lines.replay c.take_line.new.replay r) (text_left g.S.Shelf c.lines.reader)
     (bytes_before c.lines.reader)) c.in-Err.is c.take_line.ensures.steps)

@@ -11,8 +11,8 @@ invariant-lines g l =
     let shelf = g.S.Shelf in
     record {
       come :
-          (setting : Setting) → HasPlayed l.fn.fleet setting []
-          → IfSome (shelf.rest l.fn.shelf) (λ text. HasReached shelf l.fn.word setting text l.reader l.fleet);
+          (setting : Setting) → HasPlayed l.fn.replay setting []
+          → IfSome (shelf.rest l.fn.shelf) (λ text. HasReached shelf l.fn.word setting text l.reader l.replay);
       within : bytes_before l.reader ≤ 2 ^ 32;
       steady : shelf.faults l.reader.shelf.now ≡ shelf.faults l.fn.shelf;
       same_held : shelf.held l.reader.shelf.now ≡ shelf.held l.fn.shelf;

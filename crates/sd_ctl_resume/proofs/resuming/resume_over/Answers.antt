@@ -1,11 +1,13 @@
 use Rattle.std.proofs.Common.{IfSome, List, map, string_bytes, subst, sym}
 use Rattle.sd_plan.specs.declared.Plan.{Plan}
-use Rattle.sd_fleet.specs.FleetState.membership.Plans.{AreSound}
+use Rattle.sd_plan.specs.Plans.{Fits}
+use Rattle.sd_cmd_files.specs.Checker.Verdicts.{IsAccepted}
 use Rattle.sd_cmd_files.specs.Texts.{texts_of}
 use Rattle.sd_cmd_files.specs.Writes.{IsAllowed}
+use Rattle.sd_topo.specs.Network.{Each}
 use Rattle.sd_topo.specs.Topologies.{network}
 use Rattle.sd_ctl_resume.specs.Resumes.{AfterBoth}
-use Rattle.sd_ctl_resume.proofs.Afterwards.{can_be_followed, keeps_early, plan_among, told_planned, told_unplanned}
+use Rattle.sd_ctl_resume.proofs.Afterwards.{keeps_early, plan_among, told_planned, told_unplanned}
 use Rattle.sd_ctl_resume.proofs.resuming.resume_over.Goals as goal
 
 pub returns-in-Err-clause-makes : goal.returns-in-Err-clause-makes
@@ -34,7 +36,10 @@ returns-in-Ok-clause-makes g c =
     (λ held. IsAllowed (AfterBoth (network c.args.topo.now) plans files.left (texts_of held files.schedule.now) (texts_of held files.opening.now))
     c.resume_both.result)) c.as_slice.ensures.value c.resume_both.ensures.makes)
 
-pub resume_both-requires-clause-sound : goal.resume_both-requires-clause-sound
-resume_both-requires-clause-sound g c =
-    subst (λ (plans : List Plan). AreSound (network c.args.topo.now) plans) (sym c.as_slice.ensures.value)
-    (can_be_followed (network c.args.topo.now) c.in-Ok.plans.items c.in-Ok.ensures.fit c.in-Ok.ensures.accepted)
+pub resume_both-requires-clause-fit : goal.resume_both-requires-clause-fit
+resume_both-requires-clause-fit g c =
+    subst (λ (plans : List Plan). Each (Fits (network c.args.topo.now)) plans) (sym c.as_slice.ensures.value) c.in-Ok.ensures.fit
+
+pub resume_both-requires-clause-accepted : goal.resume_both-requires-clause-accepted
+resume_both-requires-clause-accepted g c =
+    subst (λ (plans : List Plan). Each (IsAccepted (network c.args.topo.now)) plans) (sym c.as_slice.ensures.value) c.in-Ok.ensures.accepted
