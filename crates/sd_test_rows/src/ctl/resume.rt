@@ -103,6 +103,55 @@ fn the_first_difference_is_named(rt: HostRuntime) -> Result<(), Fail> {
 }
 
 #[test]
+fn a_dishonest_opening_is_named(rt: HostRuntime) -> Result<(), Fail> {
+    let whole =
+        "tick 111500000 2 111500000\nrecv 111700000 1 111700000 4\ntick 111800000 2 111800000\n";
+    let rows = [
+        (
+            "tick 111500000 2 111500000\ntick 111700000 1 111700000\ntick 111800000 2 111800000\n",
+            "agree 13 7\n",
+            Status::Done,
+        ),
+        // its readings allow less
+        (
+            "tick 111500000 2 111499500\ntick 111700000 1 111700000\ntick 111800000 2 111800000\n",
+            "differ drift 2\n",
+            Status::Broken,
+        ),
+        (
+            "tick 111500000 2 111500000\ntick 111700000 1 111700000\nask 111800000 2 111800000\n",
+            "differ tick 2\n",
+            Status::Broken,
+        ),
+        // the first fix breaks the premise on starts, and the second sets the estimate right
+        (
+            "fix 111600000 1 111600000 0 1\nfix 111700000 1 111700000 111700000 323700\ntick 111800000 2 111800000\n",
+            "differ broken\n",
+            Status::Broken,
+        ),
+    ];
+    for (opening, line, status) in rows {
+        assert_says(&rt, whole, opening, (line, status))?;
+    }
+    Ok(())
+}
+
+#[test]
+fn a_member_that_never_was_is_awaited(rt: HostRuntime) -> Result<(), Fail> {
+    let whole =
+        "start 0 0 0 0 500\nstart 0 1 0 0 800000\ntick 90000000 0 90000000\ntick 90000000 1 90000000\ntick 110000000 0 110000000\nrecv 110700000 1 110700000 1\n";
+    let opening =
+        "start 110000000 0 110000000 110000000 22500\nstart 110700000 1 110700000 110700000 323500\n";
+    let texts = [
+        ("topology", TRIANGLE.as_bytes()),
+        ("plan", TRIANGLE_PLAN.as_bytes()),
+        ("schedule", whole.as_bytes()),
+        ("opening", opening.as_bytes()),
+    ];
+    assert_writes(&rt, &WORDS, &texts, ("differ awaited 2\n", Status::Broken))
+}
+
+#[test]
 fn a_refused_line_is_named(rt: HostRuntime) -> Result<(), Fail> {
     let line = "input schedule 11 Refused\n";
     assert_says(&rt, "tick 0 0 0\n", "", (line, Status::InputRefused))?;
