@@ -26,23 +26,19 @@ use Rattle.sd_cmd_files.specs.work.Ending.{LeavesAt}
 use Rattle.sd_cmd_files.proofs.work.Leaving.{leaves_more, leaves_once, once_in_steps}
 use Rattle.sd_ctl_record.specs.Recordings.{IsRecording, MayRecord, RecordsAfter, RecordsOver}
 
--- the texts of a shelf, where they are told
-abbrev Held : Type 0
-Held = Option (List ℕ → Option (List ℕ))
-
 module _ (names : List (List ℕ)) (log : List ℕ) (old new : Option Pieces) (result : Result Status IoError) where
   -- the texts of the plans
   abbrev texts_at : (List ℕ → Option (List ℕ)) → List (List ℕ)
   texts_at h = map (λ name. texts_of h name) names
 
-  module _ (net : Network) (held : Held) where
+  module _ (net : Network) (held : Option (List ℕ → Option (List ℕ))) where
     -- a plan ends the command
     pub ends_early : (early : SetupError) (made : Result Answer CommandError) → made ≡ made_of early
         → IfSome held (λ h. IsAllowed (AfterAllPlans net (texts_at h) Nothing) (made_of early)) → WritesOnce (HasOutput made) old new result
         → IfSome held (λ h. LeavesAt true (MayRecord net (texts_at h) (texts_of h log)) old new result)
     ends_early early made is makes writes = by held makes
       where
-        by : (o : Held) → IfSome o (λ h. IsAllowed (AfterAllPlans net (texts_at h) Nothing) (made_of early))
+        by : (o : Option (List ℕ → Option (List ℕ))) → IfSome o (λ h. IsAllowed (AfterAllPlans net (texts_at h) Nothing) (made_of early))
             → IfSome o (λ h. LeavesAt true (MayRecord net (texts_at h) (texts_of h log)) old new result)
         by None allowed = tt
         by (Some h) allowed =
@@ -53,16 +49,16 @@ module _ (names : List (List ℕ)) (log : List ℕ) (old new : Option Pieces) (r
             (subst (λ (m : Result Answer CommandError). IsAllowed (AfterAllPlans net (texts_at h) Nothing) m) (sym is) allowed) writes))
 
     -- all plans are accepted, and the log is recorded
-    pub records_behind : (later : Held) (plans given : List Plan) → later ≡ held → given ≡ plans
+    pub records_behind : (later : Option (List ℕ → Option (List ℕ))) (plans given : List Plan) → later ≡ held → given ≡ plans
         → IfSome held (λ h. AreRead net 1 (texts_at h) plans) → Each (IsAccepted net) plans
         → IfSome later (λ h. LeavesAt true (RecordsOver net given (texts_of h log)) old new result)
         → IfSome held (λ h. LeavesAt true (MayRecord net (texts_at h) (texts_of h log)) old new result)
     records_behind later plans given same are read accepted leaves =
         by held read
         (subst (λ (ps : List Plan). IfSome held (λ h. LeavesAt true (RecordsOver net ps (texts_of h log)) old new result)) are
-        (subst (λ (o : Held). IfSome o (λ h. LeavesAt true (RecordsOver net given (texts_of h log)) old new result)) same leaves))
+        (subst (λ (o : Option (List ℕ → Option (List ℕ))). IfSome o (λ h. LeavesAt true (RecordsOver net given (texts_of h log)) old new result)) same leaves))
       where
-        by : (o : Held) → IfSome o (λ h. AreRead net 1 (texts_at h) plans)
+        by : (o : Option (List ℕ → Option (List ℕ))) → IfSome o (λ h. AreRead net 1 (texts_at h) plans)
             → IfSome o (λ h. LeavesAt true (RecordsOver net plans (texts_of h log)) old new result)
             → IfSome o (λ h. LeavesAt true (MayRecord net (texts_at h) (texts_of h log)) old new result)
         by None texts left = tt
@@ -70,16 +66,16 @@ module _ (names : List (List ℕ)) (log : List ℕ) (old new : Option Pieces) (r
             leaves_more (RecordsOver net plans (texts_of h log)) (MayRecord net (texts_at h) (texts_of h log)) old new result
             (λ pieces status written. inr (record { read = plans; are = texts; accepted = accepted; records = written })) left
 
-  module _ {T : Type 0} (view : T → Network) (topology : List ℕ) (held : Held) where
+  module _ {T : Type 0} (view : T → Network) (topology : List ℕ) (held : Option (List ℕ → Option (List ℕ))) where
     -- the topology was read
-    pub behind_topology : (later : Held) (topo : T) → later ≡ held → IfSome held (λ h. Loads view (topology_of (texts_of h topology)) (Ok topo))
+    pub behind_topology : (later : Option (List ℕ → Option (List ℕ))) (topo : T) → later ≡ held → IfSome held (λ h. Loads view (topology_of (texts_of h topology)) (Ok topo))
         → IfSome later (λ h. LeavesAt true (MayRecord (view topo) (texts_at h) (texts_of h log)) old new result)
         → IfSome held (λ h. LeavesAt true (IsRecording (texts_of h topology) (texts_at h) (texts_of h log)) old new result)
     behind_topology later topo same says leaves =
         by held says
-        (subst (λ (o : Held). IfSome o (λ h. LeavesAt true (MayRecord (view topo) (texts_at h) (texts_of h log)) old new result)) same leaves)
+        (subst (λ (o : Option (List ℕ → Option (List ℕ))). IfSome o (λ h. LeavesAt true (MayRecord (view topo) (texts_at h) (texts_of h log)) old new result)) same leaves)
       where
-        by : (o : Held) → IfSome o (λ h. Loads view (topology_of (texts_of h topology)) (Ok topo))
+        by : (o : Option (List ℕ → Option (List ℕ))) → IfSome o (λ h. Loads view (topology_of (texts_of h topology)) (Ok topo))
             → IfSome o (λ h. LeavesAt true (MayRecord (view topo) (texts_at h) (texts_of h log)) old new result)
             → IfSome o (λ h. LeavesAt true (IsRecording (texts_of h topology) (texts_at h) (texts_of h log)) old new result)
         by None is left = tt
@@ -111,7 +107,7 @@ module _ (names : List (List ℕ)) (log : List ℕ) (old new : Option Pieces) (r
         → IfSome held (λ h. LeavesAt true (IsRecording (texts_of h topology) (texts_at h) (texts_of h log)) old new result)
     without_topology why says writes = by held says
       where
-        by : (o : Held) → IfSome o (λ h. Loads view (topology_of (texts_of h topology)) (Err why))
+        by : (o : Option (List ℕ → Option (List ℕ))) → IfSome o (λ h. Loads view (topology_of (texts_of h topology)) (Err why))
             → IfSome o (λ h. LeavesAt true (IsRecording (texts_of h topology) (texts_at h) (texts_of h log)) old new result)
         by None says = tt
         by (Some h) says = refused h why says writes
