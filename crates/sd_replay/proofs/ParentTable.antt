@@ -1,5 +1,5 @@
 -- What a `ParentTable` keeps of devices is how they stand after an event, and answers for loops and roots of the history.
-use Rattle.std.specs.Prelude.{◌≡◌, ◌≢◌, ℕ, zero, suc, ◌+◌, ◌<◌, Bool, false, List, [], ◌∷◌, ◌++◌, length, filter, find, nat_eq, replicate, slice_get, Option, Some, None, is_some, option_and_then, MatchOption, refl, if◌then◌else◌}
+use Rattle.std.specs.Prelude.{◌≡◌, ◌≢◌, ℕ, zero, suc, ◌+◌, ◌<◌, Bool, false, List, [], ◌∷◌, ◌++◌, length, filter, find, nat_eq, replicate, slice_get, Option, Some, None, is_some, MatchOption, refl, if◌then◌else◌}
 use Rattle.std.specs.List.{list_any}
 use Rattle.std.proofs.Common.{sym, ap, ◌∙◌, subst, arith, inl, inr}
 use Rattle.std.proofs.lemmas.Bool.{cases_lt, cases_Bool, eqb-true, eqb-false, ne_eqb, le-leb}
@@ -16,6 +16,7 @@ use Rattle.sd_sched.specs.Events.{device_of}
 use Rattle.sd_history.specs.World.{Setting}
 use Rattle.sd_history.specs.Steps.{Step}
 use Rattle.sd_history.specs.Accepted.{AreSteps}
+use Rattle.sd_history.proofs.Shared.{same_follow}
 use Rattle.sd_history.specs.Lines.{RootsAlarm, counted_parent, first_on_loop, roots, loop_lines, root_lines}
 use Rattle.sd_replay.proofs.Loops.{UpIsKnown, parents_known, first_is}
 use Rattle.sd_watch.specs.parent_table.ParentTable as parent_table
@@ -149,15 +150,6 @@ none_changed setting s earlier kept is open_ named are =
 never_some : {A : Type 0} (o : Option A) → ((x : A) → o ≡ Some x → ⊥) → o ≡ None
 never_some None never = refl
 never_some (Some x) never = absurd (never x refl)
-
--- two functions that agree lead to the same devices
-same_follow : (p q : ℕ → Option ℕ) → ((d : ℕ) → p d ≡ q d) → (n d : ℕ) → follow p n d ≡ follow q n d
-same_follow p q same zero d = refl
-same_follow p q same (suc n) d = ap (option_and_then p) (same_follow p q same n d) ∙ by (follow q n d)
-  where
-    by : (o : Option ℕ) → option_and_then p o ≡ option_and_then q o
-    by None = refl
-    by (Some x) = same x
 
 same_loop : (p q : ℕ → Option ℕ) → ((d : ℕ) → p d ≡ q d) → (d : ℕ) → IsOnLoop p d → IsOnLoop q d
 same_loop p q same d loop = record { steps = loop.steps; back = sym (same_follow p q same (suc loop.steps) d) ∙ loop.back }
