@@ -7,3 +7,4 @@ pub mod Popping
 pub mod Growth
 pub mod Queueing
 pub mod Working
+pub mod Laws

@@ -26,12 +26,13 @@ popped_at queues p first q None lines from none = (stays, λ kept. none_settled 
     stays : set queues p q ≡ queues
     stays = ap (set queues p) is ∙ set-get_or queues p new_queue
 popped_at queues p first q (Some x) lines from none =
-    let is : q ≡ left_of (get_or queues p new_queue) q.waiting = same_queue q (get_or queues p new_queue) from in
-    (
+    let is : q ≡ left_of (get_or queues p new_queue) q.waiting = same_queue q (get_or queues p new_queue) from in (
       comes_first queues p first x q.waiting lines ∙ ap (λ (r : Queue). x ∷ merged_waiting (set queues p r)) (sym is),
       ap (λ (r : Queue). froms (set queues p r)) is ∙ same_froms queues p first x q.waiting lines,
-      λ kept. (is_settled queues p first x q.waiting lines kept,
-      subst (λ (r : Queue). AreKept (set queues p r)) (sym is) (others_kept queues p first x q.waiting lines kept)),
+      λ kept. (
+        is_settled queues p first x q.waiting lines kept,
+        subst (λ (r : Queue). AreKept (set queues p r)) (sym is) (others_kept queues p first x q.waiting lines kept),
+      ),
     )
 
 pub popped : (queues : List Queue) (p : ℕ) (d : Queue) → IsFirstLeast (bounds_of queues) p → (q : Queue) (o : Option LogLine)

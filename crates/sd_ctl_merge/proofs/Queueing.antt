@@ -44,13 +44,13 @@ passed_kept number reference q kept =
     λ i d more.
     (let is = kept i d more in
     let reached = is.reached in
-    record { of_log = is.of_log; reached = omega (arith, reached); within = is.within; })
+    record { of_log = is.of_log; reached = omega (arith, reached); within = is.within })
 
 pushed_kept : (number : ℕ) (x : LogLine) (q : Queue) → IsKept number q → x.log ≡ number → x.reference ≤ 2 ^ 60 → IsKept number (pushed x q)
 pushed_kept number x q kept of_log within =
     All-append (IsReached number (max x.reference q.from)) q.waiting (x ∷ []) (passed_kept number x.reference q kept)
     (All-cons (IsReached number (max x.reference q.from)) x []
-    (record { of_log = of_log; reached = omega arith; within = within; }) (All-nil (IsReached number (max x.reference q.from))))
+    (record { of_log = of_log; reached = omega arith; within = within }) (All-nil (IsReached number (max x.reference q.from))))
 
 queues_numbered : (queues : List Queue) → AreKept queues → AreNumbered 1 (map waiting_in queues)
 queues_numbered queues kept k more =
@@ -126,12 +126,11 @@ module _ (queues : List Queue) (line : List ℕ) (number : ℕ) (is : log_number
       → (taken : List Said) → Follows queues taken
       → (s : Said) × (said (length queues) taken line ≡ Ok s) × HasGrown (length queues) (set queues p q) taken s
   grows_past reference tells q passes taken follows =
-      let s : Said = record { log = number; reference = reference; entry = None } in
-      (
+      let s : Said = record { log = number; reference = reference; entry = None } in (
         s,
         told_as (length queues) taken line number (PastAt reference) is tells,
         subst (λ (r : Queue). HasGrown (length queues) (set queues p r) taken s) (sym (passes ∙ ap (passed reference) here))
-        (grown_past queues taken follows p inside s place refl),
+            (grown_past queues taken follows p inside s place refl),
       )
 
   pub grows_entry : (reference : ℕ) → told_in (behind_number line) ≡ Ok (EntryAt reference) → (get_or queues p d).from ≤ reference → reference ≤ 2 ^ 60
@@ -142,15 +141,14 @@ module _ (queues : List Queue) (line : List ℕ) (number : ℕ) (is : log_number
       let s : Said = record { log = number; reference = reference; entry = Some (behind_number line) } in
       let same = ap (λ (r : Queue). r.from) here in
       let from = from_is queues taken follows p inside in
-      let order : from_of taken number ≤ reference = let at = ap (from_of taken) place in omega (arith, high, same, from, at) in
-      (
+      let order : from_of taken number ≤ reference = let at = ap (from_of taken) place in omega (arith, high, same, from, at) in (
         s,
         told_as (length queues) taken line number (EntryAt reference) is tells
-        ∙ ap (λ b. if b then Err OutOfOrder else Ok s) (le-ltb reference (from_of taken number) order),
+            ∙ ap (λ b. if b then Err OutOfOrder else Ok s) (le-ltb reference (from_of taken number) order),
         subst (λ (r : Queue). HasGrown (length queues) (set queues p r) taken s)
-        (sym (pushes ∙ ap (λ (y : LogLine). pushed y (get_or queues p d)) line_is
-        ∙ ap (pushed (record { log = number; reference = reference; bytes = behind_number line })) here))
-        (grown_entry queues taken follows p inside s (behind_number line) place refl (omega (arith, high, same)) bounded),
+            (sym (pushes ∙ ap (λ (y : LogLine). pushed y (get_or queues p d)) line_is
+            ∙ ap (pushed (record { log = number; reference = reference; bytes = behind_number line })) here))
+            (grown_entry queues taken follows p inside s (behind_number line) place refl (omega (arith, high, same)) bounded),
       )
 
   pub refused_late : (reference : ℕ) → told_in (behind_number line) ≡ Ok (EntryAt reference) → reference < (get_or queues p d).from

@@ -93,7 +93,7 @@ ended_kept queues kept k more =
     subst (λ (q : Queue). All (IsReached (k + 1) q.from) q.waiting) (sym (ended_at queues k within))
     (λ i d inside. (let is = kept k within i d inside in
     let low = is.within in
-    record { of_log = is.of_log; reached = omega (arith, low); within = low; }))
+    record { of_log = is.of_log; reached = omega (arith, low); within = low }))
 
 -- no line comes so late
 abbrev InTime : LogLine → Type 0
@@ -163,7 +163,7 @@ none_waits : (numbers : List ℕ) → merged_waiting (new_queues numbers) ≡ []
 none_waits [] = refl
 none_waits (n ∷ numbers) = none_waits numbers
 
-none_merged : (numbers : List ℕ) → merge_all (map (log_of []) numbers) ≡ []
+pub none_merged : (numbers : List ℕ) → merge_all (map (log_of []) numbers) ≡ []
 none_merged [] = refl
 none_merged (n ∷ numbers) = none_merged numbers
 

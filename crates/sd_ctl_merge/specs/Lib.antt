@@ -7,3 +7,4 @@ pub mod Works
 pub mod Queues
 pub mod Follows
 pub mod Doing
+pub mod Laws

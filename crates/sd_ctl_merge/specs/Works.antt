@@ -2,7 +2,8 @@
 use Rattle.std.specs.Prelude.{ℕ, true, List, Result, Ok, Err, codes}
 use Rattle.sd_outside.specs.Pieces.{piece_of}
 use Rattle.sd_cmd_files.specs.declared.Status.TheVariants.{Done}
-use Rattle.sd_cmd_files.specs.work.Works.{Work}
+use Rattle.sd_cmd_files.specs.Answering.{InWrites, MayWrite}
+use Rattle.sd_cmd_files.specs.work.Works.{InSteps, IsOutcome, Work}
 use Rattle.sd_ctl_merge.specs.Feeds.{said}
 use Rattle.sd_ctl_merge.specs.Growing.{Said, newly_settled, waiting}
 use Rattle.sd_ctl_merge.specs.Lines.{text_of_lines}
@@ -25,3 +26,7 @@ merge_work count =
       last_pieces = λ taken. piece_of (text_of_lines (waiting count taken));
       last_status = λ taken. Done;
     }
+
+-- what may be written for a feed of so many logs: for each of its lines by one write, and so for its end
+abbrev pub IsMerging : (count : ℕ) → (feed : List ℕ) → MayWrite
+IsMerging count feed = InWrites (InSteps (merge_work count) feed) (IsOutcome (merge_work count) feed)

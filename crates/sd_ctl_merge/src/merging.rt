@@ -1,5 +1,5 @@
 //! A feed of logs that is merged line by line.
-ghost use Rattle.std.specs.Prelude.{◌≡◌, ◌≤◌, ◌<◌, ◌^◌, [], ◌∷◌, List, true, length, Err, IsTrue, IfOk, IfSome};
+ghost use Rattle.std.specs.Prelude.{◌≡◌, [], ◌∷◌, ℕ, List, true, Err, IsTrue, IfOk, IfSome};
 ghost use Rattle.sd_outside.specs.Causes.{RisesFor};
 ghost use Rattle.sd_outside.specs.Shelves.{KeepsShelf};
 ghost use Rattle.sd_cmd_files.specs.Answering.{InWrites};
@@ -10,7 +10,8 @@ ghost use Rattle.sd_cmd_files.specs.work.WholeLines.{WritesWhole};
 ghost use Rattle.sd_cmd_files.specs.work.Works.{InSteps, IsOutcome, Work};
 ghost use Rattle.sd_ctl_merge.specs.Doing.{DoesMerge};
 ghost use Rattle.sd_ctl_merge.specs.Growing.{Said};
-ghost use Rattle.sd_ctl_merge.specs.Works.{merge_work};
+ghost use Rattle.sd_ctl_merge.specs.Laws.{StaysSettled, WritesMerge};
+ghost use Rattle.sd_ctl_merge.specs.Works.{IsMerging};
 
 use crate::merger::Merger;
 use sd_cmd_files::work::work_through;
@@ -54,10 +55,12 @@ pub fn merge_feed<S: Shelf, O: Sink>(
 ) -> Result<Status, IoError>
     requires feed { IsTrue (S.serves shelf.old feed.now) }
     ensures outcome { IfSome (S.held shelf.old)
-        (λ held. LeavesAt true
-        (InWrites (InSteps (merge_work count) (texts_of held feed.now))
-        (IsOutcome (merge_work count) (texts_of held feed.now)))
+        (λ held. LeavesAt true (IsMerging count (texts_of held feed.now))
         (O.written out.old) (O.written out.new) result) }
+    // What is written for its lines leads the merge of the logs, however they go on, and all that
+    // is written of a feed that is not refused is that merge.
+    ensures lawful { (text : List ℕ) → WritesMerge count text }
+    ensures stays { StaysSettled count }
     ensures gives { IfOk result
         (λ status. IsTrue (is_among (Status.InputRefused ∷ Status.Done ∷ []) status)) }
     ensures shelf { KeepsShelf S.Shelf (result ≡ Err IoError.Shelf) shelf.old shelf.new }

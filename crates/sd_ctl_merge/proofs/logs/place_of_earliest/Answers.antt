@@ -11,7 +11,7 @@ loop-place-preserved c =
     get_or-map bound_of c.args.logs.now c.loop-place.place c.index-logs-place.result 0 c.loop-place-test.true
     ∙ sym (c.bound-bound.ensures ∙ ap bound_of c.index-logs-place.is) in
     elim c.if-bound-least.branch [
-      then-bound-least w ↦ record {
+      | then-bound-least w ↦ record {
         within = omega arith;
         is = w.least-is ∙ sym here ∙ ap (λ (m : ℕ). get_or bounds m 0) (sym w.earliest-is);
         before = λ k below. (let low = c.loop-place.invariant.lowest k (omega arith) in omega arith);

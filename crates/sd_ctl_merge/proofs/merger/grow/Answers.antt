@@ -15,10 +15,9 @@ returns-then-reference-from c =
     let tells : told_in (behind_number c.args.line.now) ≡ Ok (EntryAt c.in-Ok-EntryAt.reference) =
     sym (ap told_in c.behind_number-bytes.ensures) ∙ sym c.read_told.ensures.told ∙ c.in-Ok-EntryAt.is
     ∙ ap (λ (t : Told). Ok t) c.in-Ok-EntryAt.field-0-is in
-    let place : c.in-Some.number ≡ 1 + (c.in-Some.number - 1) = omega (arith, c.in-Some.ensures.some) in
-    (
+    let place : c.in-Some.number ≡ 1 + (c.in-Some.number - 1) = omega (arith, c.in-Some.ensures.some) in (
       refused_late c.args.logs.now c.args.line.now c.in-Some.number number c.in-Some.ensures.some c.in-Some.ensures.within (c.in-Some.number - 1) place
-      c.index-logs-number.result c.in-Ok-EntryAt.reference tells (omega (arith, c.from.ensures)) taken follows,
+          c.index-logs-number.result c.in-Ok-EntryAt.reference tells (omega (arith, c.from.ensures)) taken follows,
       set-get_or c.args.logs.now (c.in-Some.number - 1) c.index-logs-number.result,
     ))
 
