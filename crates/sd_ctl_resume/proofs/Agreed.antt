@@ -11,8 +11,6 @@ use Rattle.sd_fleet.specs.History.World.{Seen, Setting, setting_over}
 use Rattle.sd_fleet.specs.History.Steps.{events_of, seen_of}
 use Rattle.sd_fleet.specs.History.Nodes.{NodeStep, steps_of}
 use Rattle.sd_fleet.specs.Standing as fleets
-use Rattle.sd_premise.specs.Standing as premises
-use Rattle.sd_premise.specs.declared.premises.Premises.{Premises}
 use Rattle.sd_replay.specs.Replaying.{StandsFor}
 use Rattle.sd_proof_resume.specs.Shifts.{Shift}
 use Rattle.sd_proof_resume.specs.Law.{whole}
@@ -54,12 +52,6 @@ go_on shift net front plans first second opens honest =
 abbrev Drives : TextReplay → DeviceFleet → Type 0
 Drives replay fleet =
     (setting : Setting) (run : List (NodeStep Registers)) → StandsFor device nobody replay setting run → fleets.StandsFor device fleet setting run
-
--- the premises stand for what the replay that judges them has seen
-abbrev Judges : TextReplay → Premises → Type 0
-Judges replay judged =
-    (setting : Setting) (run : List (NodeStep Registers)) → StandsFor device nobody replay setting run
-    → premises.StandsFor judged setting (seen_of (steps_of run))
 
 -- the runs of two replays
 runs : (shift : Shift) (net : Network) (front plans : List Plan) (one other : TextReplay) (events others : List Event)
@@ -111,66 +103,64 @@ module _ (shift : Shift) (one other : TextReplay) (first second : DeviceFleet) (
   differing_makes what (Err ended.Shelf) differs text status only = cc
   differing_makes what (Err (ended.Refused why)) differs text status only = cc
 
--- What the comparison of the premises says
+-- What the comparison of the premises that they judge says
 
 module _ (shift : Shift) (net : Network) (front plans : List Plan) (one other : TextReplay) (events others : List Event)
-    (opened : OpensFor shift net front plans one other events others) (first second : Premises) (judges : Judges one first) (judges_other : Judges other second)
-  where
-    of_histories : (P : Setting → (one other : List Seen) → Type 0) → OfHistories first second P
-        → P (setting_over net plans) (seen_of (steps_of opened.first.run)) (seen_of (steps_of opened.second.run))
-    of_histories P holds =
-        holds shift net front plans (seen_of (steps_of opened.first.run)) (seen_of (steps_of opened.second.run))
-        (judges (whole net front plans) opened.first.run opened.first.stands) (judges_other (setting_over net plans) opened.second.run opened.second.stands)
-        opened.opens.opening.seen
+    (opened : OpensFor shift net front plans one other events others) where
+  of_histories : (P : Setting → (one other : List Seen) → Type 0) → OfHistories one.monitors.premises other.monitors.premises P
+      → P (setting_over net plans) (seen_of (steps_of opened.first.run)) (seen_of (steps_of opened.second.run))
+  of_histories P holds =
+      holds shift net front plans (seen_of (steps_of opened.first.run)) (seen_of (steps_of opened.second.run))
+      opened.first.stands.has_seen.premises opened.second.stands.has_seen.premises opened.opens.opening.seen
 
-    on_events : IsHonestOpening (setting_over net plans) (seen_of (steps_of opened.first.run)) (seen_of (steps_of opened.second.run))
-        → GoOnAlike shift net front plans events others
-    on_events honest =
-        subst (λ (es : List Event). GoOnAlike shift net front plans es others) opened.first.happened
-        (subst (λ (es : List Event). GoOnAlike shift net front plans (events_of (steps_of opened.first.run)) es) opened.second.happened
-        (go_on shift net front plans opened.first.run opened.second.run opened.opens honest))
+  on_events : IsHonestOpening (setting_over net plans) (seen_of (steps_of opened.first.run)) (seen_of (steps_of opened.second.run))
+      → GoOnAlike shift net front plans events others
+  on_events honest =
+      subst (λ (es : List Event). GoOnAlike shift net front plans es others) opened.first.happened
+      (subst (λ (es : List Event). GoOnAlike shift net front plans (events_of (steps_of opened.first.run)) es) opened.second.happened
+      (go_on shift net front plans opened.first.run opened.second.run opened.opens honest))
 
-    -- where the opening is honest
-    pub agreed_makes : (n m : ℕ) (made : Result Answer CommandError) → OfHistories first second IsHonest → n ≡ length events → m ≡ length others
-        → IfOk made (λ answer. answer.text.items ≡ agree_line n m) → IfOk made (λ answer. answer.status ≡ Done) → IfErr made (λ why. why ≡ ended.Memory)
-        → IsAllowed (IsCompared net front plans events others) made
-    agreed_makes n m (Ok answer) honest all_one all_other text status only =
-        let found : IsHonest (setting_over net plans) (seen_of (steps_of opened.first.run)) (seen_of (steps_of opened.second.run)) =
-        of_histories IsHonest honest in
-        inl
-        (record {
-          shift = shift;
-          first = opened.first.run;
-          second = opened.second.run;
-          runs = runs shift net front plans one other events others opened.first opened.second opened.behind;
-          opens = opened.opens;
-          honest = found;
-          behind = on_events found.opening;
-          line = text ∙ ap (λ (k : ℕ). agree_line k m) all_one ∙ ap (agree_line (length events)) all_other;
-          done = status;
-        })
-    agreed_makes n m (Err ended.Memory) honest all_one all_other text status only = tt
-    agreed_makes n m (Err ended.Shelf) honest all_one all_other text status only = cc
-    agreed_makes n m (Err (ended.Refused why)) honest all_one all_other text status only = cc
+  -- where the opening is honest
+  pub agreed_makes : (n m : ℕ) (made : Result Answer CommandError) → OfHistories one.monitors.premises other.monitors.premises IsHonest → n ≡ length events → m ≡ length others
+      → IfOk made (λ answer. answer.text.items ≡ agree_line n m) → IfOk made (λ answer. answer.status ≡ Done) → IfErr made (λ why. why ≡ ended.Memory)
+      → IsAllowed (IsCompared net front plans events others) made
+  agreed_makes n m (Ok answer) honest all_one all_other text status only =
+      let found : IsHonest (setting_over net plans) (seen_of (steps_of opened.first.run)) (seen_of (steps_of opened.second.run)) =
+      of_histories IsHonest honest in
+      inl
+      (record {
+        shift = shift;
+        first = opened.first.run;
+        second = opened.second.run;
+        runs = runs shift net front plans one other events others opened.first opened.second opened.behind;
+        opens = opened.opens;
+        honest = found;
+        behind = on_events found.opening;
+        line = text ∙ ap (λ (k : ℕ). agree_line k m) all_one ∙ ap (agree_line (length events)) all_other;
+        done = status;
+      })
+  agreed_makes n m (Err ended.Memory) honest all_one all_other text status only = tt
+  agreed_makes n m (Err ended.Shelf) honest all_one all_other text status only = cc
+  agreed_makes n m (Err (ended.Refused why)) honest all_one all_other text status only = cc
 
-    -- where it is not
-    pub dishonest_makes : (what : Dishonesty) (made : Result Answer CommandError) → AreDishonest first second what
-        → IfOk made (λ answer. answer.text.items ≡ dishonest_line what) → IfOk made (λ answer. answer.status ≡ Broken) → IfErr made (λ why. why ≡ ended.Memory)
-        → IsAllowed (IsCompared net front plans events others) made
-    dishonest_makes what (Ok answer) dishonest text status only =
-        inr
-        (inr
-        (record {
-          shift = shift;
-          first = opened.first.run;
-          second = opened.second.run;
-          runs = runs shift net front plans one other events others opened.first opened.second opened.behind;
-          opens = opened.opens;
-          what = what;
-          dishonest = of_histories (λ part one' other'. IsDishonest part one' other' what) dishonest;
-          line = text;
-          broken = status;
-        }))
-    dishonest_makes what (Err ended.Memory) dishonest text status only = tt
-    dishonest_makes what (Err ended.Shelf) dishonest text status only = cc
-    dishonest_makes what (Err (ended.Refused why)) dishonest text status only = cc
+  -- where it is not
+  pub dishonest_makes : (what : Dishonesty) (made : Result Answer CommandError) → AreDishonest one.monitors.premises other.monitors.premises what
+      → IfOk made (λ answer. answer.text.items ≡ dishonest_line what) → IfOk made (λ answer. answer.status ≡ Broken) → IfErr made (λ why. why ≡ ended.Memory)
+      → IsAllowed (IsCompared net front plans events others) made
+  dishonest_makes what (Ok answer) dishonest text status only =
+      inr
+      (inr
+      (record {
+        shift = shift;
+        first = opened.first.run;
+        second = opened.second.run;
+        runs = runs shift net front plans one other events others opened.first opened.second opened.behind;
+        opens = opened.opens;
+        what = what;
+        dishonest = of_histories (λ part one' other'. IsDishonest part one' other' what) dishonest;
+        line = text;
+        broken = status;
+      }))
+  dishonest_makes what (Err ended.Memory) dishonest text status only = tt
+  dishonest_makes what (Err ended.Shelf) dishonest text status only = cc
+  dishonest_makes what (Err (ended.Refused why)) dishonest text status only = cc
