@@ -1,5 +1,5 @@
 -- What a line of a feed does to the merge of the logs, and to what of it is settled.
-use Rattle.std.specs.Prelude.{◌≡◌, ◌≢◌, ◌<◌, ◌≤◌, ℕ, ◌+◌, All, Bool, true, false, List, [], ◌∷◌, ◌++◌, get_or, length, map, max, nat_eq, Option, Some, None, refl, if◌then◌else◌}
+use Rattle.std.specs.Prelude.{◌≡◌, ◌≢◌, ◌<◌, ◌≤◌, ℕ, ◌+◌, All, Bool, true, false, List, [], ◌∷◌, ◌++◌, get_or, map, max, nat_eq, Option, Some, None, refl, if◌then◌else◌}
 use Rattle.std.specs.List.{range_with_len}
 use Rattle.std.proofs.Common.{arith, sym, ◌∙◌, ap, subst, set}
 use Rattle.std.proofs.lemmas.Bool.{eqb-false, eqb-true, eq-eqb}

@@ -4,7 +4,6 @@ use Rattle.std.proofs.Common.{arith, sym, subst, set}
 use Rattle.std.proofs.lemmas.Bool.{eqb-false, eqb-true}
 use Rattle.std.proofs.lemmas.Grind.{get_or-set_at}
 use Rattle.std.proofs.lemmas.List.{get_or-set_other, length-set}
-use Rattle.sd_ctl_merge.specs.Lines.{LogLine}
 use Rattle.sd_ctl_merge.specs.Queues.{AreKept, IsReached, Queue, new_queue}
 
 -- what waits of a log is of this number

@@ -1,5 +1,5 @@
 -- What a merge of a feed is worth.
-use Rattle.std.specs.Prelude.{◌≡◌, ◌<◌, ◌≤◌, ℕ, zero, suc, ◌+◌, ◌-◌, Bool, true, false, List, [], ◌∷◌, ◌++◌, drop, length, nat_eq, nat_le, nat_lt, Option, Some, None, Result, Ok, Err, IfSome, refl, if◌then◌else◌}
+use Rattle.std.specs.Prelude.{◌≡◌, ◌<◌, ◌≤◌, ℕ, ◌+◌, ◌-◌, Bool, true, false, List, [], ◌∷◌, ◌++◌, drop, length, nat_le, nat_lt, Option, Some, None, Result, Ok, Err, IfSome, refl, if◌then◌else◌}
 use Rattle.std.specs.List.{concat, range_with_len}
 use Rattle.std.proofs.Common.{arith, append_assoc, sym, ◌∙◌, ap, subst}
 use Rattle.std.proofs.lemmas.Bool.{leb-true, ltb-false}
@@ -18,7 +18,7 @@ use Rattle.sd_ctl_merge.specs.Laws.{GoesOn, IsFrontOf, IsNext, StaysSettled, Wri
 use Rattle.sd_ctl_merge.specs.Lines.{LogLine, settled_by, text_of_lines}
 use Rattle.sd_ctl_merge.specs.Works.{in_words, merge_work}
 use Rattle.sd_ctl_merge.specs.declared.feed.FeedFault.{FeedFault}
-use Rattle.sd_ctl_merge.specs.declared.feed.FeedFault.TheVariants.{Line, OutOfOrder, UnknownLog}
+use Rattle.sd_ctl_merge.specs.declared.feed.FeedFault.TheVariants.{OutOfOrder, UnknownLog}
 use Rattle.sd_ctl_merge.specs.declared.feed.Told.{Told}
 use Rattle.sd_ctl_merge.specs.declared.feed.Told.TheVariants.{EntryAt, PastAt}
 use Rattle.sd_ctl_merge.proofs.Growth.{merge_grows, new_line, same_merge, settles}

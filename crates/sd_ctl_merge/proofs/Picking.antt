@@ -1,13 +1,12 @@
 -- Which line of all that wait is the first of their merge, and whether it is settled.
-use Rattle.std.specs.Prelude.{◌≡◌, ◌≢◌, ◌<◌, ◌≤◌, ℕ, zero, suc, ◌+◌, All, Bool, true, false, List, [], ◌∷◌, ◌++◌, get_or, length, map, nat_lt, refl, if◌then◌else◌}
+use Rattle.std.specs.Prelude.{◌≡◌, ◌≢◌, ◌<◌, ◌≤◌, ℕ, zero, suc, ◌+◌, All, Bool, true, false, List, [], ◌∷◌, get_or, length, map, nat_lt, refl}
 use Rattle.std.proofs.Common.{arith, sym, ◌∙◌, ap, subst, set}
-use Rattle.std.proofs.lemmas.Bool.{eqb-false, eqb-true}
-use Rattle.std.proofs.lemmas.List.{get_or-map, get_or-set_other, get_or-set_same, length-map, length-set, map-set, set-get_or}
+use Rattle.std.proofs.lemmas.List.{get_or-map, length-map, map-set}
 use Rattle.std.proofs.lemmas.List.Elements.{All-head, All-tail}
 use Rattle.std.proofs.Math.Seq.{map-set_same}
 use Rattle.sd_num.specs.Lists.{leading}
 use Rattle.sd_ctl_logs.proofs.Laws.{by_heads, heads}
-use Rattle.sd_ctl_merge.specs.Lines.{LogLine, line_at, merge_all, precedes, settled_by}
+use Rattle.sd_ctl_merge.specs.Lines.{LogLine, line_at, merge_all, settled_by}
 use Rattle.sd_ctl_merge.specs.Queues.{AreKept, IsFirstLeast, IsReached, Queue, bound_of, bounds_of, first_or, froms, merged_waiting, new_queue, settled_front}
 use Rattle.sd_ctl_merge.proofs.Keeping.{kept_set}
 use Rattle.sd_ctl_merge.proofs.Order.{before, not_before}

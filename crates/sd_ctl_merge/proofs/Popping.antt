@@ -1,5 +1,5 @@
 -- Settled lines leave the front one by one.
-use Rattle.std.specs.Prelude.{◌≡◌, ◌<◌, ℕ, ◌+◌, All, List, [], ◌∷◌, ◌++◌, get_or, length, map, Option, Some, None, true, refl}
+use Rattle.std.specs.Prelude.{◌≡◌, ◌<◌, ℕ, List, [], ◌∷◌, ◌++◌, get_or, length, Option, Some, None, true, refl}
 use Rattle.std.specs.Option.{option_to_list}
 use Rattle.std.proofs.Common.{arith, append_assoc, sym, ◌∙◌, ap, subst, set}
 use Rattle.std.proofs.lemmas.List.{append-nil, get_or_default, length-map, set-get_or}

@@ -1,18 +1,16 @@
 -- What a line of a feed does to what waits.
-use Rattle.std.specs.Prelude.{◌≡◌, ◌<◌, ◌≤◌, ℕ, ◌+◌, ◌^◌, All, List, [], ◌∷◌, ◌++◌, get_or, length, map, max, nat_lt, Option, Some, None, Ok, Err, Result, refl, if◌then◌else◌}
+use Rattle.std.specs.Prelude.{◌≡◌, ◌<◌, ◌≤◌, ℕ, ◌+◌, ◌^◌, All, List, [], ◌∷◌, ◌++◌, get_or, length, map, max, Option, Some, None, Ok, Err, refl, if◌then◌else◌}
 use Rattle.std.proofs.Common.{arith, sym, ◌∙◌, ap, subst, set}
 use Rattle.std.proofs.lemmas.Bool.{le-ltb, lt-ltb}
 use Rattle.std.proofs.lemmas.List.{get_or_default, length-map, length-set, map-set}
 use Rattle.std.proofs.lemmas.List.Elements.{All-append, All-cons, All-nil}
 use Rattle.std.proofs.Math.Seq.{map-set_same}
 use Rattle.sd_num.specs.Lists.{leading, map_or}
-use Rattle.sd_sched.specs.declared.LineFault.{LineFault}
 use Rattle.sd_ctl_merge.specs.Feeds.{behind_number, log_number, placed, said, said_of, told_in}
 use Rattle.sd_ctl_merge.specs.Follows.{Follows, HasGrown}
 use Rattle.sd_ctl_merge.specs.Growing.{Said, from_of, froms_of, merged, settled}
 use Rattle.sd_ctl_merge.specs.Lines.{LogLine, merge_all, settled_by}
-use Rattle.sd_ctl_merge.specs.Queues.{AreKept, IsReached, Queue, froms, merged_waiting, new_queue, settled_front}
-use Rattle.sd_ctl_merge.specs.declared.feed.FeedFault.{FeedFault}
+use Rattle.sd_ctl_merge.specs.Queues.{AreKept, IsReached, Queue, froms, merged_waiting, new_queue}
 use Rattle.sd_ctl_merge.specs.declared.feed.FeedFault.TheVariants.{OutOfOrder, UnknownLog}
 use Rattle.sd_ctl_merge.specs.declared.feed.Told.{Told}
 use Rattle.sd_ctl_merge.specs.declared.feed.Told.TheVariants.{EntryAt, PastAt}

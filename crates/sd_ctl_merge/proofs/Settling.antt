@@ -1,6 +1,6 @@
 -- Which lines are settled, and which of them lead.
-use Rattle.std.specs.Prelude.{◌≡◌, ◌<◌, ◌≤◌, ℕ, zero, suc, ◌+◌, ◌&&◌, All, Bool, true, false, List, [], ◌∷◌, ◌++◌, drop, get_or, length, refl, if◌then◌else◌}
-use Rattle.std.proofs.Common.{arith, sym, ◌∙◌, ap, subst, set, append_assoc}
+use Rattle.std.specs.Prelude.{◌≡◌, ◌<◌, ◌≤◌, ℕ, zero, suc, ◌+◌, ◌&&◌, All, Bool, true, false, List, [], ◌∷◌, ◌++◌, get_or, length, refl, if◌then◌else◌}
+use Rattle.std.proofs.Common.{arith, ◌∙◌, ap, subst}
 use Rattle.std.proofs.lemmas.List.Elements.{All-cons, All-head, All-nil, All-tail}
 use Rattle.sd_num.specs.Lists.{leading}
 use Rattle.sd_ctl_merge.specs.Lines.{LogLine, precedes, settled_by}

@@ -1,6 +1,6 @@
 -- That a merger does the work of a feed.
-use Rattle.std.specs.Prelude.{◌≡◌, ◌<◌, ◌≤◌, ℕ, ◌+◌, ◌-◌, ◌^◌, All, Bool, true, false, List, [], ◌∷◌, ◌++◌, drop, get_or, length, map, Option, Some, None, Ok, Err, IfSome, refl}
-use Rattle.std.specs.List.{list_any, range_with_len}
+use Rattle.std.specs.Prelude.{◌≡◌, ◌<◌, ◌≤◌, ℕ, ◌+◌, ◌^◌, All, true, false, List, [], ◌∷◌, ◌++◌, drop, get_or, length, map, Option, Some, None, IfSome, refl}
+use Rattle.std.specs.List.{range_with_len}
 use Rattle.std.proofs.Common.{arith, append_assoc, sym, ◌∙◌, ap, subst}
 use Rattle.std.proofs.lemmas.List.{append-nil, drop_at, get_or-map, get_or_default, length-map}
 use Rattle.std.proofs.lemmas.List.Elements.{All-nil}
@@ -17,14 +17,11 @@ use Rattle.sd_cmd_files.specs.work.Works.{Work}
 use Rattle.sd_cmd_files.proofs.work.Whole.{append_whole, text_whole}
 use Rattle.sd_ctl_logs.proofs.Laws.{all_logs}
 use Rattle.sd_ctl_merge.specs.Doing.{DoesMerge}
-use Rattle.sd_ctl_merge.specs.Feeds.{said}
 use Rattle.sd_ctl_merge.specs.Follows.{Follows, Grows, HasGrown}
 use Rattle.sd_ctl_merge.specs.Growing.{Said, from_of, froms_of, log_of, merged, newly_settled, settled, waiting}
-use Rattle.sd_ctl_merge.specs.Lines.{LogLine, line_at, merge_all, precedes, settled_by, text_of_lines}
+use Rattle.sd_ctl_merge.specs.Lines.{LogLine, line_at, merge_all, settled_by, text_of_lines}
 use Rattle.sd_ctl_merge.specs.Queues.{AreKept, HasSettled, IsReached, Queue, ended, froms, merged_waiting, new_queue, settled_front}
-use Rattle.sd_ctl_merge.specs.Reasons.{reason}
 use Rattle.sd_ctl_merge.specs.Works.{in_words, merge_work}
-use Rattle.sd_ctl_merge.specs.declared.feed.FeedFault.{FeedFault}
 use Rattle.sd_ctl_merge.specs.declared.merger.Merger.{Merger}
 use Rattle.sd_ctl_merge.proofs.Order.{before}
 use Rattle.sd_ctl_merge.proofs.Picking.{from_at, from_in, waiting_in}

@@ -1,5 +1,5 @@
 -- How logs grow by what the lines of a feed say, and what of their merge is settled by then.
-use Rattle.std.specs.Prelude.{◌≡◌, ◌≤◌, ℕ, List, [], ◌∷◌, ◌++◌, drop, length, map, max, nat_eq, Option, Some, None, if◌then◌else◌}
+use Rattle.std.specs.Prelude.{ℕ, List, [], ◌∷◌, ◌++◌, drop, length, map, max, nat_eq, Option, Some, None, if◌then◌else◌}
 use Rattle.std.specs.List.{range_with_len}
 use Rattle.sd_num.specs.Lists.{leading}
 use Rattle.sd_ctl_merge.specs.Lines.{LogLine, merge_all, settled_by}

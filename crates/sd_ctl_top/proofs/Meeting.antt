@@ -19,7 +19,7 @@ use Rattle.sd_cmd_files.specs.work.Ending.{LeavesAt}
 use Rattle.sd_cmd_files.specs.work.Leaving.{Leaves}
 use Rattle.sd_ctl_top.specs.Promise.{IsUsageLine, MeetsOutcome, MeetsResult, task_of}
 use Rattle.sd_ctl_top.specs.Words.{Command, command_of}
-use Rattle.sd_ctl_top.specs.Words.Command.{Search, Renew, Bounds, Resume, Record}
+use Rattle.sd_ctl_top.specs.Words.Command.{Search, Renew, Bounds, Resume, Record, Merge}
 
 -- the command of the words meets its task
 pub meets : (held : Option (List ℕ → Option (List ℕ))) (words : List (List ℕ)) (command : Option Command) (old new : Option Pieces)
@@ -73,6 +73,9 @@ never_stopped (Some (Resume topology plans left schedule opening)) Memory among 
 never_stopped (Some (Record topology plans log)) ShelfFault among = cc
 never_stopped (Some (Record topology plans log)) SinkFault among = cc
 never_stopped (Some (Record topology plans log)) Memory among = cc
+never_stopped (Some (Merge logs feed)) ShelfFault among = cc
+never_stopped (Some (Merge logs feed)) SinkFault among = cc
+never_stopped (Some (Merge logs feed)) Memory among = cc
 never_stopped _ _ among = refl
 
 -- a run that ended

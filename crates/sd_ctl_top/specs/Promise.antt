@@ -9,18 +9,19 @@ use Rattle.sd_cmd_files.specs.declared.Status.TheVariants.{Done, PlanRefused, Us
 use Rattle.sd_cmd_files.specs.declared.command_error.IoError.{IoError}
 use Rattle.sd_cmd_files.specs.work.Ending.{LeavesAt}
 use Rattle.sd_cmd_files.specs.work.Leaving.{Leaves}
+use Rattle.sd_ctl_merge.specs.Works.{IsMerging}
 use Rattle.sd_ctl_record.specs.Recordings.{IsRecording}
 use Rattle.sd_ctl_resume.specs.Resumes.{IsResuming}
 use Rattle.sd_ctl_top.specs.Bounded.{IsBounding}
 use Rattle.sd_ctl_top.specs.Findings.{IsRenewing, IsSearch}
 use Rattle.sd_ctl_top.specs.Words.{Command, command_of}
-use Rattle.sd_ctl_top.specs.Words.Command.{Search, Renew, Bounds, Resume, Record}
+use Rattle.sd_ctl_top.specs.Words.Command.{Search, Renew, Bounds, Resume, Record, Merge}
 
 -- the usage line, with its status
 abbrev pub IsUsageLine : Allowed
 IsUsageLine bytes status =
     (bytes
-    ≡ codes "usage: sundialctl search TOPOLOGY BASE HOLD SEED STEPS | renew TOPOLOGY PLAN ABSENT BASE HOLD SEED STEPS | bounds TOPOLOGY PLAN BASE HOLD | resume TOPOLOGY PLAN.. SCHEDULE / PLAN.. OPENING | record TOPOLOGY PLAN.. LOG\n")
+    ≡ codes "usage: sundialctl search TOPOLOGY BASE HOLD SEED STEPS | renew TOPOLOGY PLAN ABSENT BASE HOLD SEED STEPS | bounds TOPOLOGY PLAN BASE HOLD | resume TOPOLOGY PLAN.. SCHEDULE / PLAN.. OPENING | record TOPOLOGY PLAN.. LOG | merge LOGS FEED\n")
     × (status ≡ Usage)
 
 -- what is promised of a command
@@ -53,6 +54,7 @@ task_of (Some (Resume topology plans left schedule opening)) =
     (λ texts. IsResuming (texts topology) (map texts plans) left (texts schedule) (texts opening))
 task_of (Some (Record topology plans log)) =
     line_by_line (Done ∷ PlanRefused ∷ InputRefused ∷ []) (λ texts. IsRecording (texts topology) (map texts plans) (texts log))
+task_of (Some (Merge logs feed)) = line_by_line (InputRefused ∷ Done ∷ []) (λ texts. IsMerging logs (texts feed))
 
 -- what a run wrote, with its status, is what the task allows
 abbrev pub Meets : Task → Texts → Option Pieces → Option Pieces → Status → Type 0

@@ -6,6 +6,7 @@ use Rattle.sd_num.specs.Lists.{map_or}
 use Rattle.sd_num.specs.declared.NumFault.{NumFault}
 use Rattle.sd_ctl_search.specs.Drill.declared.Budget.{Budget}
 use Rattle.sd_ctl_search.specs.declared.searching.Settings.{Settings}
+use Rattle.sd_ctl_merge.specs.Feeds.{from_one}
 
 -- a command, with the names of its files and its settings or its budget, or how many plans an opening leaves out
 pub data Command : Type 0 where
@@ -14,6 +15,7 @@ pub data Command : Type 0 where
   Bounds : (topology plan : List ℕ) (budget : Budget) → Command
   Resume : (topology : List ℕ) (plans : List (List ℕ)) (left : ℕ) (schedule opening : List ℕ) → Command
   Record : (topology : List ℕ) (plans : List (List ℕ)) (log : List ℕ) → Command
+  Merge : (logs : ℕ) (feed : List ℕ) → Command
 
 -- the number that was read, where it is not above the greatest
 abbrev pub if_at_most : ℕ → Result ℕ NumFault → Option ℕ
@@ -131,6 +133,15 @@ abbrev pub record_of : List (List ℕ) → Option Command
 record_of [] = None
 record_of (topology ∷ others) = record_over topology others
 
+-- the number of logs of a word, 1 to 4096
+abbrev pub log_count : List ℕ → Option ℕ
+log_count word = map_or (read_up_to 4096 word) None from_one
+
+-- the merge of the words for the number of logs and the feed
+abbrev pub merge_of : List (List ℕ) → Option Command
+merge_of (count ∷ feed ∷ []) = map_or (log_count count) None (λ logs. Some (Merge logs feed))
+merge_of _ = None
+
 -- the command of the words, if they are in the table
 abbrev pub command_of : List (List ℕ) → Option Command
 command_of [] = None
@@ -140,6 +151,7 @@ command_of (word ∷ others) =
     else if bytes_eq word (codes "bounds") then bounds_of others
     else if bytes_eq word (codes "resume") then resume_of others
     else if bytes_eq word (codes "record") then record_of others
+    else if bytes_eq word (codes "merge") then merge_of others
     else None
 
 -- the names of the files that a command reads, in the order of its work
@@ -150,3 +162,4 @@ names_of (Some (Renew topology plan absent settings)) = topology ∷ plan ∷ ab
 names_of (Some (Bounds topology plan budget)) = topology ∷ plan ∷ []
 names_of (Some (Resume topology plans left schedule opening)) = topology ∷ (plans ++ schedule ∷ opening ∷ [])
 names_of (Some (Record topology plans log)) = topology ∷ (plans ++ log ∷ [])
+names_of (Some (Merge logs feed)) = feed ∷ []

@@ -14,6 +14,7 @@ use crate::renewal::{RenewalFiles, renewal_answer};
 use crate::whole::whole_answer;
 use crate::words::{Command, command_of};
 use sd_cmd_files::{IoError, Status, write_answer};
+use sd_ctl_merge::merge_feed;
 use sd_ctl_record::record_files;
 use sd_ctl_resume::resume;
 use sd_outside::{Shelf, Sink};
@@ -22,7 +23,7 @@ use std::alloc::Global;
 /// Does the work of the words that follow the program's name, and answers how it ended.
 ///
 /// The files that the words name are begun on the shelf, and what is printed goes to the sink by one
-/// write, or, of a recording, each step by one.
+/// write, or, of a recording or a merge, each step by one.
 pub fn run<S: Shelf, O: Sink>(alloc: Global, words: &[String], shelf: &mut S, out: &mut O) -> Status
     requires fresh { S.begun shelf.old ≡ false }
     requires serves { All (λ name. IsTrue (S.serves shelf.old name))
@@ -32,7 +33,8 @@ pub fn run<S: Shelf, O: Sink>(alloc: Global, words: &[String], shelf: &mut S, ou
     // where the checker accepts it, and it leaves out just what is absent. No plan is printed only
     // where the checker refuses the greedy one too: what `sundial plan` prints, or `sundial renew`.
     // It is printed that an opening agrees only where all later events are the same behind both. Of
-    // a recording each line of the log has its lines of the schedule by one write.
+    // a recording each line of the log has its lines of the schedule by one write, and of a merge
+    // each line of the feed the lines of logs that it has settled.
     ensures outcome { MeetsOutcome (S.held shelf.old) (map string_bytes words.now)
         (O.written out.old) (O.written out.new) result }
 
@@ -116,6 +118,7 @@ fn perform<S: Shelf, O: Sink>(
             write_answer(alloc, &made, out)
         }
         Some(Command::Record { files }) => record_files(alloc, shelf, files, out),
+        Some(Command::Merge { logs, feed }) => merge_feed(alloc, shelf, logs as usize, feed, out),
         None => usage(out),
     }
 }
@@ -127,7 +130,7 @@ fn usage<O: Sink>(out: &mut O) -> Result<Status, IoError>
     ensures sink { RisesFor (result ≡ Err IoError.Sink) (O.faults out.old) (O.faults out.new) }
 {
     match out.write(
-        b"usage: sundialctl search TOPOLOGY BASE HOLD SEED STEPS | renew TOPOLOGY PLAN ABSENT BASE HOLD SEED STEPS | bounds TOPOLOGY PLAN BASE HOLD | resume TOPOLOGY PLAN.. SCHEDULE / PLAN.. OPENING | record TOPOLOGY PLAN.. LOG\n",
+        b"usage: sundialctl search TOPOLOGY BASE HOLD SEED STEPS | renew TOPOLOGY PLAN ABSENT BASE HOLD SEED STEPS | bounds TOPOLOGY PLAN BASE HOLD | resume TOPOLOGY PLAN.. SCHEDULE / PLAN.. OPENING | record TOPOLOGY PLAN.. LOG | merge LOGS FEED\n",
     ) {
         Ok(()) => Ok(Status::Usage),
         Err(_) => Err(IoError::Sink),

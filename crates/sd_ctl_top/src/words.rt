@@ -35,7 +35,14 @@ pub(crate) enum Command<'w> {
     Record {
         files: RecordFiles<'w>,
     },
+    Merge {
+        logs: u64,
+        feed: &'w str,
+    },
 }
+
+/// How many logs are merged at most.
+const MOST_LOGS: u64 = 4096;
 
 /// How many plans a schedule or a log has at most.
 const MOST_PLANS: usize = 64;
@@ -379,6 +386,31 @@ fn record_of(words: &[String]) -> Option<Command<'_>>
     record_over(topology.as_str(), others)
 }
 
+/// The number of logs of a word.
+fn log_count(word: &str) -> Option<u64>
+    ensures { result ≡ meaning.log_count word.now }
+{
+    let count = read_up_to(word, MOST_LOGS)?;
+    if count >= 1 { Some(count) } else { None }
+}
+
+/// The merge of the words for the number of logs and the feed.
+fn merge_of(words: &[String]) -> Option<Command<'_>>
+    ensures is { option_map named result ≡ meaning.merge_of (map string_bytes words.now) }
+    ensures granted { IfSome result IsGranted }
+{
+    match words {
+        [count, feed] => {
+            let logs = log_count(count.as_str())?;
+            Some(Command::Merge {
+                logs,
+                feed: feed.as_str(),
+            })
+        }
+        _ => None,
+    }
+}
+
 /// The command of the words, if they are in the table.
 pub(crate) fn command_of(words: &[String]) -> Option<Command<'_>>
     ensures is { option_map named result ≡ meaning.command_of (map string_bytes words.now) }
@@ -397,6 +429,8 @@ pub(crate) fn command_of(words: &[String]) -> Option<Command<'_>>
         resume_of(others)
     } else if word.as_str() == "record" {
         record_of(others)
+    } else if word.as_str() == "merge" {
+        merge_of(others)
     } else {
         None
     }

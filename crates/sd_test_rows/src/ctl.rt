@@ -8,13 +8,14 @@ use std::process::Abort;
 use std::test::Fail;
 
 mod bounds;
+mod merging;
 mod recording;
 mod resume;
 mod searches;
 
 /// What is written for words that are no command's.
 const USAGE: &str =
-    "usage: sundialctl search TOPOLOGY BASE HOLD SEED STEPS | renew TOPOLOGY PLAN ABSENT BASE HOLD SEED STEPS | bounds TOPOLOGY PLAN BASE HOLD | resume TOPOLOGY PLAN.. SCHEDULE / PLAN.. OPENING | record TOPOLOGY PLAN.. LOG\n";
+    "usage: sundialctl search TOPOLOGY BASE HOLD SEED STEPS | renew TOPOLOGY PLAN ABSENT BASE HOLD SEED STEPS | bounds TOPOLOGY PLAN BASE HOLD | resume TOPOLOGY PLAN.. SCHEDULE / PLAN.. OPENING | record TOPOLOGY PLAN.. LOG | merge LOGS FEED\n";
 
 /// A run of words over texts. The calls of the shelf that are listed fail, and so do the writes.
 fn run_over(
@@ -47,7 +48,7 @@ fn assert_writes(
 
 #[test]
 fn other_words_are_usage(rt: HostRuntime) -> Result<(), Fail> {
-    let cases: [&[&str]; 18] = [
+    let cases: [&[&str]; 23] = [
         &[],
         &["plan", "topology"],
         &["search", "topology", "1", "1", "1"],
@@ -57,6 +58,11 @@ fn other_words_are_usage(rt: HostRuntime) -> Result<(), Fail> {
         &["bounds", "topology", "plan", "1"],
         &["bounds", "topology", "plan", "1", "1", "1"],
         &["bounds", "topology", "plan", "1", "1152921504606846977"],
+        &["merge"],
+        &["merge", "2"],
+        &["merge", "0", "feed"],
+        &["merge", "02", "feed"],
+        &["merge", "4097", "feed"],
         &["record"],
         &["record", "topology"],
         &["record", "topology", "log"],

@@ -1,4 +1,4 @@
-use Rattle.std.proofs.Common.{arith, length, sym, ◌∙◌}
+use Rattle.std.proofs.Common.{arith, sym, ◌∙◌}
 use Rattle.std.proofs.lemmas.List.{ext_get_or, get_or-map, length-map}
 use Rattle.sd_ctl_merge.specs.Queues.{ended, new_queue}
 use Rattle.sd_ctl_merge.proofs.merger.end_all.Goals as goal

@@ -1,8 +1,6 @@
-use Rattle.std.proofs.Common.{◌≡◌, ◌≤◌, arith, ap, sym, ◌∙◌, ◌-◌, ◌+◌, ◌^◌, ℕ, length, List, Ok, Result, Some, subst}
+use Rattle.std.proofs.Common.{◌≡◌, ◌≤◌, arith, ap, sym, ◌∙◌, ◌-◌, ◌+◌, ◌^◌, ℕ, length, List, Ok, Some, subst}
 use Rattle.std.proofs.lemmas.List.{set-get_or}
-use Rattle.sd_sched.specs.declared.LineFault.{LineFault}
 use Rattle.sd_ctl_merge.specs.Feeds.{behind_number, log_number, reference_told, told_in}
-use Rattle.sd_ctl_merge.specs.Lines.{LogLine}
 use Rattle.sd_ctl_merge.specs.declared.feed.Told.{Told}
 use Rattle.sd_ctl_merge.specs.declared.feed.Told.TheVariants.{EntryAt, PastAt}
 use Rattle.sd_ctl_merge.proofs.Queueing.{grows_entry, grows_past, refused_late}

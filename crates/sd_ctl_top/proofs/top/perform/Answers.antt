@@ -6,7 +6,7 @@ use Rattle.sd_ctl_top.specs.Bounded.{IsBounding}
 use Rattle.sd_ctl_top.specs.Findings.{IsRenewing, IsSearch}
 use Rattle.sd_ctl_top.specs.Parsed.{named}
 use Rattle.sd_ctl_top.specs.Words.{command_of, names_of}
-use Rattle.sd_ctl_top.specs.Words.Command.{Search, Renew, Bounds, Resume, Record}
+use Rattle.sd_ctl_top.specs.Words.Command.{Search, Renew, Bounds, Resume, Record, Merge}
 use Rattle.sd_ctl_top.specs.declared.words.Command.{Command as Parsed}
 use Rattle.sd_ctl_top.proofs.Meeting.{made_once, meets, usage_meets}
 use Rattle.sd_ctl_top.proofs.Served.{end_served, first_served, inner_served, last_served, middle_served, name_served, second_served, third_served}
@@ -147,6 +147,17 @@ returns-in-Some-Record-clause-outcome g c =
     let files = c.in-Some-Record.files in
     meets _ _ (Some (Record files.topology.now (map string_bytes files.plans.now) files.log.now)) _ _ _
     (ap (λ (x : Parsed). Some (named x)) (sym c.in-Some-Record.field-0-is) ∙ c.in-Some-Record.ensures.is) c.record_files.ensures.outcome
+
+pub merge_feed-requires : goal.merge_feed-requires
+merge_feed-requires g c =
+    first_served (λ name. IsTrue (g.S.Shelf.serves c.args.shelf.now name)) (names_of (command_of (map string_bytes c.args.words.now)))
+    c.in-Some-Merge.feed.now []
+    (ap names_of (ap (λ (x : Parsed). Some (named x)) (sym c.in-Some-Merge.field-0-is) ∙ c.in-Some-Merge.ensures.is)) c.requires
+
+pub returns-in-Some-Merge-clause-outcome : goal.returns-in-Some-Merge-clause-outcome
+returns-in-Some-Merge-clause-outcome g c =
+    meets _ _ (Some (Merge c.in-Some-Merge.logs c.in-Some-Merge.feed.now)) _ _ _
+    (ap (λ (x : Parsed). Some (named x)) (sym c.in-Some-Merge.field-0-is) ∙ c.in-Some-Merge.ensures.is) c.merge_feed.ensures.outcome
 
 pub returns-in-None-clause-outcome : goal.returns-in-None-clause-outcome
 returns-in-None-clause-outcome g c = usage_meets _ _ _ _ _ c.in-None.ensures.is c.usage.ensures.outcome

@@ -1,5 +1,4 @@
-use Rattle.std.proofs.Common.{◌≡◌, arith, ap, subst, sym, ◌∙◌, length, List, map, ℕ, Err}
-use Rattle.std.specs.Vec.{with_items}
+use Rattle.std.proofs.Common.{arith, ap, subst, ◌∙◌, List, map, Err}
 use Rattle.std.proofs.lemmas.List.{with_items_is}
 use Rattle.sd_outside.specs.Pieces.{AddsPieces, Pieces, piece_of}
 use Rattle.sd_cmd_files.specs.Writes.{Adds}

@@ -1,4 +1,4 @@
-use Rattle.std.proofs.Common.{◌≡◌, arith, ap, true, refl, subst, sym, ◌∙◌, length, List, Option, None}
+use Rattle.std.proofs.Common.{◌≡◌, arith, ap, true, refl, subst, sym, ◌∙◌, length, List, Option}
 use Rattle.std.specs.Vec.{with_items}
 use Rattle.std.proofs.lemmas.List.{with_items_is}
 use Rattle.sd_ctl_merge.specs.Follows.{Grows}
