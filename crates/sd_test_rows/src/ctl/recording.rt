@@ -10,7 +10,10 @@ use std::test::Fail;
 const WORDS: [&str; 4] = ["record", "topology", "plan", "log"];
 
 /// Where `b` has a backup, and where it has none.
-const ONE_PARENT: (&str, &str) = (r#""backup":"x","backup_link":"bx","device":"b""#, r#""device":"b""#);
+const ONE_PARENT: (&str, &str) = (
+    r#""backup":"x","backup_link":"bx","device":"b""#,
+    r#""device":"b""#,
+);
 
 /// Up to the second tick of the root, which sends messages 1 and 2. A schedule has the same lines.
 const SENT: &str = "\
@@ -69,10 +72,7 @@ fn a_refused_line_of_a_log_is_named(rt: HostRuntime) -> Result<(), Fail> {
             "input log 8 UnknownMessage\n",
         ),
         ("tick 109999999 1 109999999\n", "input log 8 TimeFalls\n"),
-        (
-            "recv 110700000 1 110700000 1\n",
-            "input log 8 FieldCount\n",
-        ),
+        ("recv 110700000 1 110700000 1\n", "input log 8 FieldCount\n"),
         ("tack 110700000\n", "input log 8 UnknownWord\n"),
         ("", "input log 8 NoEnd\n"),
         (
