@@ -19,6 +19,7 @@ use Rattle.sd_ctl_record.specs.Recorded.{Events, add, go_on, lose_all, record_en
 use Rattle.sd_ctl_record.specs.Standing.{Becomes, Came, HoldsSince, StandsFor}
 use Rattle.sd_ctl_record.specs.declared.recorder.Recorder.{Recorder}
 use Rattle.sd_ctl_record.proofs.Laws.{recorded}
+use Rattle.sd_ctl_record.proofs.Losing.{still_holds}
 use Rattle.sd_ctl_record.proofs.Standing.{is_history}
 
 -- an entry's reference is within its limit
@@ -51,19 +52,22 @@ losses_refused old lost entry why setting events came =
     ap (λ (r : Events). go_on r (λ before. add setting (event_in (chronicle setting before) entry) before)) came
 
 -- they happened, and the event comes to this
-pub event_came : (lost new : Recorder) (entry : Entry) (e : Event) (number : ℕ) (refused : Option ApplyFault) (setting : Setting) (events : List Event)
+pub event_came : (lost named' new : Recorder) (entry : Entry) (e : Event) (number : ℕ) (refused : Option ApplyFault) (setting : Setting) (events : List Event)
     → e ≡ event_with entry number
     → ((s : Setting) (es : List Event) → StandsFor lost s es → number ≡ map_or (name_of entry) 0 (λ name. number_named name (chronicle s es)))
-    → Becomes lost new (λ s. add s e) refused
+    → named'.text ≡ lost.text
+    → ((s : Setting) (es : List Event) → StandsFor lost s es → StandsFor named' s es)
+    → Becomes named' new (λ s. add s e) refused
     → Came lost setting events (lose_all setting (reference_in entry) events) None
     → Came new setting events (record_entry setting entry events) refused
-event_came lost new entry e number refused setting events is named becomes losses =
+event_came lost named' new entry e number refused setting events is named same stands becomes losses =
     let (before, came, holds) = losses in
     let its : e ≡ event_in (chronicle setting before) entry = is ∙ ap (event_with entry) (named setting before holds.stands) in
     let done : record_entry setting entry events ≡ add setting e before =
     ap (λ (r : Events). go_on r (λ es. add setting (event_in (chronicle setting es) entry) es)) came
     ∙ ap (λ (x : Event). add setting x before) (sym its) in
-    subst (λ (r : Events). Came new setting events r refused) (sym done) (becomes setting events before holds)
+    subst (λ (r : Events). Came new setting events r refused) (sym done)
+    (becomes setting events before (still_holds lost named' setting events before same stands holds))
 
 -- what came of the entry is its record
 pub has_recorded : (old new : Recorder) (entry : Entry) (setting : Setting) (events : List Event) → StandsFor old setting events

@@ -1,13 +1,12 @@
 -- An event happens to a recorder, or is refused.
 use Rattle.std.specs.Prelude.{◌≡◌, true, false, List, ◌∷◌, ◌++◌, Option, Some, None}
-use Rattle.std.proofs.Common.{append_assoc, sym, ◌∙◌, ap, subst, inl, inr}
-use Rattle.sd_msg.specs.Books.{AreNumbered}
+use Rattle.std.specs.Prelude.{ℕ}
+use Rattle.std.proofs.Common.{append_assoc, sym, ◌∙◌, ap, inl, inr, Vec, Global}
 use Rattle.sd_core.specs.contracts.device.DeviceNode.TheImpl.{ghosts as device}
 use Rattle.sd_core.specs.declared.registers.Registers.{Registers}
 use Rattle.sd_sched.specs.declared.Event.{Event}
 use Rattle.sd_fleet.specs.History.World.{Setting}
-use Rattle.sd_fleet.specs.History.Steps.{Step, events_of, flight_count}
-use Rattle.sd_fleet.specs.History.Open.{unspent}
+use Rattle.sd_fleet.specs.History.Steps.{Step, events_of}
 use Rattle.sd_fleet.specs.History.Chronicle.{chronicle}
 use Rattle.sd_fleet.specs.History.Nodes.{IsRun, NodeStep, steps_of}
 use Rattle.sd_fleet.specs.History.Refusals.{refusal}
@@ -20,23 +19,23 @@ use Rattle.sd_ctl_record.specs.Printed.{line_bytes, schedule_text}
 use Rattle.sd_ctl_record.specs.Recorded.{add, add_unless, is_refusal}
 use Rattle.sd_ctl_record.specs.Standing.{Came, HoldsSince}
 use Rattle.sd_ctl_record.specs.declared.recorder.Recorder.{Recorder}
-use Rattle.sd_ctl_record.proofs.Standing.{passed_after, steps_are}
+use Rattle.sd_ctl_record.proofs.Keeping.{keeps_after}
+use Rattle.sd_ctl_record.proofs.Standing.{steps_are}
 
 -- an event that happened to the fleet, once there was room, is one more
-pub happened : (old new : Recorder) (ready : Fleet Registers device) (e : Event) (outcome : Outcome)
+pub happened : (old : Recorder) (ready fleet : Fleet Registers device) (text : Vec ℕ Global) (e : Event) (outcome : Outcome)
     → ((setting : Setting) (run : List (NodeStep Registers)) → fleets.StandsFor device old.fleet setting run → fleets.StandsFor device ready setting run)
-    → fleets.HasHappened device ready new.fleet e outcome → new.passed ≡ old.passed → new.text.items ≡ old.text.items ++ line_bytes e
+    → fleets.HasHappened device ready fleet e outcome → text.items ≡ old.text.items ++ line_bytes e
     → (setting : Setting) (start events : List Event) → HoldsSince old setting start events
-    → Came new setting start (add setting e events) None
-happened old new ready e outcome prepared happens same printed setting start events h =
+    → Came (record old { fleet = fleet; text = text }) setting start (add setting e events) None
+happened old ready fleet text e outcome prepared happens printed setting start events h =
     let run = h.stands.run in
     let it = happens.accepted setting run (prepared setting run h.stands.fleet) in
     let is : IsRun device setting (it.next ∷ run) = it.stands.is_run in
     let steps : steps_of run ≡ chronicle setting events = steps_are old setting events h.stands in
     let free : refusal setting (chronicle setting events) e ≡ None =
     ap (λ (s : List Step). refusal setting s e) (sym steps) ∙ ap (refusal setting (steps_of run)) (sym it.happens) ∙ is.1 in
-    let passed : AreNumbered old.passed (flight_count (it.next.step ∷ steps_of run)) (unspent (it.next.step ∷ steps_of run) 0) =
-    passed_after setting it.next.step (steps_of run) old.passed (run_is_accepted device setting (it.next ∷ run) is) h.stands.passed in (
+    let k = keeps_after setting it.next.step (steps_of run) (run_is_accepted device setting (it.next ∷ run) is) old h.stands.keeps in (
       e ∷ events,
       ap (λ (o : Option ApplyFault). add_unless o e events) free,
       record {
@@ -46,7 +45,7 @@ happened old new ready e outcome prepared happens same printed setting start eve
               run = it.next ∷ run;
               fleet = it.stands;
               happened = ap (λ (x : Event). x ∷ events_of (steps_of run)) it.happens ∙ ap (λ (es : List Event). e ∷ es) h.stands.happened;
-              passed = subst (λ n. AreNumbered n (flight_count (it.next.step ∷ steps_of run)) (unspent (it.next.step ∷ steps_of run) 0)) (sym same) passed;
+              keeps = record { passed = k.passed; looked = k.looked; listed = k.listed; newest = k.newest };
             };
         text =
             ap (λ t. t ++ line_bytes e) h.text ∙ append_assoc (schedule_text start) old.text.items (line_bytes e)

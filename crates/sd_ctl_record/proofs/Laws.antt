@@ -1,50 +1,29 @@
 -- Only losses come before the event of an entry, each at the last moment of its message, and none is left.
-use Rattle.std.specs.Prelude.{◌≡◌, ℕ, zero, suc, ◌+◌, ◌-◌, ◌≤◌, ◌^◌, Bool, true, false, not, List, [], ◌∷◌, ◌++◌, cond, filter, length, nat_lt, Option, Some, None, Result, Ok, Err, ◌⊎◌, refl, if◌then◌else◌}
+use Rattle.std.specs.Prelude.{◌≡◌, ℕ, zero, suc, ◌+◌, ◌-◌, ◌≤◌, ◌^◌, Bool, true, false, List, [], ◌∷◌, ◌++◌, filter, length, nat_lt, Option, Some, None, Ok, Err, ◌⊎◌, refl, if◌then◌else◌}
 use Rattle.std.proofs.Common.{arith, append_assoc, sym, ◌∙◌, ap, subst, inl, inr}
 use Rattle.std.proofs.lemmas.Bool.{ltb-true}
-use Rattle.sd_num.specs.Lists.{map_or}
 use Rattle.sd_msg.specs.declared.Flight.{Flight}
-use Rattle.sd_msg.specs.declared.TakeFault.{TakeFault}
-use Rattle.sd_msg.specs.declared.TakeFault.TheVariants as fault
 use Rattle.sd_sched.specs.declared.Event.{Event}
 use Rattle.sd_sched.specs.declared.Event.TheVariants.{Lose}
 use Rattle.sd_fleet.specs.History.World.{Setting}
-use Rattle.sd_fleet.specs.History.Steps.{Step, flight_numbered}
 use Rattle.sd_fleet.specs.History.Open.{unspent}
-use Rattle.sd_fleet.specs.History.Accepted.{AreSteps}
 use Rattle.sd_fleet.specs.History.Chronicle.{chronicle, IsHistory}
-use Rattle.sd_fleet.specs.History.Refusals.{is_spent, refusal}
+use Rattle.sd_fleet.specs.History.Refusals.{refusal}
 use Rattle.sd_fleet.specs.History.declared.ApplyFault.{ApplyFault}
-use Rattle.sd_fleet.specs.History.flights.Flights.{look_in, sent_in_order}
 use Rattle.sd_fleet.proofs.History.Accepting.{history_is_accepted}
 use Rattle.sd_fleet.proofs.History.Admitted.{length-chronicle}
 use Rattle.sd_fleet.proofs.History.Among.{Among, first, later}
 use Rattle.sd_fleet.proofs.History.flights.Counts.{steps_few}
-use Rattle.sd_fleet.proofs.History.flights.Finds.{finds}
-use Rattle.sd_fleet.proofs.History.flights.Numbers.{found_in_order, numbered_in_order}
 use Rattle.sd_ctl_logs.specs.Entries.{reference_in}
 use Rattle.sd_ctl_logs.specs.declared.Entry.{Entry}
 use Rattle.sd_ctl_record.specs.Laws.{AreLosses, IsLoss, IsRecordOf}
 use Rattle.sd_ctl_record.specs.Losing.{is_past, next_lost, soonest, sooner}
 use Rattle.sd_ctl_record.specs.Naming.{event_in}
 use Rattle.sd_ctl_record.specs.Recorded.{Events, add, add_unless, go_on, lose_all, lose_next, lose_up_to, record_entry}
-use Rattle.sd_ctl_record.specs.declared.finding.Ending.{Ending}
+use Rattle.sd_ctl_record.specs.declared.endings.Ending.{Ending}
+use Rattle.sd_ctl_record.proofs.Members.{kept, on_way_found}
 
 -- A message that is lost
-
--- what a filter keeps is of the list, and passes
-kept : {A : Type 0} (p : A → Bool) (xs : List A) (x : A) → Among x (filter p xs) → Among x xs × (p x ≡ true)
-kept p [] x a = elim a [ ]
-kept {A = A} p (y ∷ ys) x a = go (p y) refl a (kept p ys x)
-  where
-    at_head : (zs : List A) (b : A) → p b ≡ true → Among x (b ∷ zs) → (Among x zs → Among x ys × (p x ≡ true)) → Among x (b ∷ ys) × (p x ≡ true)
-    at_head zs b passes first rest = (first, passes)
-    at_head zs b passes (later c) rest = let it = rest c in (later it.0, it.1)
-
-    go : (b : Bool) → p y ≡ b → Among x (cond b (y ∷ filter p ys) (filter p ys)) → (Among x (filter p ys) → Among x ys × (p x ≡ true))
-        → Among x (y ∷ ys) × (p x ≡ true)
-    go true passes b rest = at_head (filter p ys) y passes b rest
-    go false fails b rest = let it = rest b in (later it.0, it.1)
 
 -- a message that ends so is among these
 pub record Ends (fs : List Flight) (ending : Ending) : Type 0 where
@@ -72,19 +51,6 @@ soonest_is (f ∷ fs) best ending is = elim (soonest_is fs (sooner best f.last f
   | inl before ↦ ending_by f fs best ending before
   | inr found ↦ inr (later_ends f fs ending found)
 ]
-
--- a message that is not spent is found under its number
-on_way_found : (setting : Setting) (steps : List Step) (f : Flight) → AreSteps setting steps → Among f (unspent steps 0) → look_in steps f.number ≡ Ok f
-on_way_found setting steps f are a =
-    let it = kept (λ g. not (is_spent steps 0 g)) (sent_in_order steps) f a in
-    let numbered : flight_numbered steps f.number ≡ Some f =
-    sym (found_in_order setting steps f.number are) ∙ finds 1 (sent_in_order steps) f (numbered_in_order setting steps are) it.0 in
-    ap (λ (o : Option Flight). map_or o (Err fault.Unknown) (λ g. if is_spent steps 0 g then Err fault.Spent else Ok g)) numbered
-    ∙ by (is_spent steps 0 f) it.1
-  where
-    by : (b : Bool) → not b ≡ true → ◌≡◌ {A = Result Flight TakeFault} (if b then Err fault.Spent else Ok f) (Ok f)
-    by true spent = cc
-    by false unspent' = refl
 
 -- the message that is lost next
 next_is_loss : (setting : Setting) (reference : ℕ) (events : List Event) (ending : Ending) → IsHistory setting events

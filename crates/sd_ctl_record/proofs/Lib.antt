@@ -1,3 +1,7 @@
+pub mod Listing
+pub mod Members
+pub mod Passing
+pub mod Keeping
 pub mod Looking
 pub mod Standing
 pub mod Found

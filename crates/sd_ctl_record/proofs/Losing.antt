@@ -1,6 +1,6 @@
 -- Messages that are lost, one after the other.
-use Rattle.std.specs.Prelude.{◌≡◌, ℕ, suc, List, Option, Some, None, Err, refl}
-use Rattle.std.proofs.Common.{sym, ◌∙◌, ap, subst}
+use Rattle.std.specs.Prelude.{◌≡◌, ℕ, suc, List, ◌++◌, Option, Some, None, Err, refl}
+use Rattle.std.proofs.Common.{sym, ◌∙◌, ap, subst, Vec, Global}
 use Rattle.sd_sched.specs.declared.Event.{Event}
 use Rattle.sd_sched.specs.declared.Event.TheVariants.{Lose}
 use Rattle.sd_fleet.specs.History.World.{Setting}
@@ -8,9 +8,21 @@ use Rattle.sd_fleet.specs.History.Chronicle.{chronicle}
 use Rattle.sd_fleet.specs.History.declared.ApplyFault.{ApplyFault}
 use Rattle.sd_ctl_record.specs.Losing.{next_lost}
 use Rattle.sd_ctl_record.specs.Recorded.{Events, add, go_on, lose_next, lose_up_to}
-use Rattle.sd_ctl_record.specs.Standing.{Came, HoldsSince}
-use Rattle.sd_ctl_record.specs.declared.finding.Ending.{Ending}
+use Rattle.sd_ctl_record.specs.Printed.{schedule_text}
+use Rattle.sd_ctl_record.specs.Standing.{Came, HoldsSince, StandsFor}
+use Rattle.sd_ctl_record.specs.declared.endings.Ending.{Ending}
 use Rattle.sd_ctl_record.specs.declared.recorder.Recorder.{Recorder}
+
+-- one that stands for the same, with the same text, holds the same
+pub still_holds : (old new : Recorder) (setting : Setting) (start events : List Event) → new.text ≡ old.text
+    → ((s : Setting) (es : List Event) → StandsFor old s es → StandsFor new s es)
+    → HoldsSince old setting start events
+    → HoldsSince new setting start events
+still_holds old new setting start events same stands h =
+    record {
+      stands = stands setting events h.stands;
+      text = h.text ∙ ap (λ (t : Vec ℕ Global). schedule_text start ++ t.items) (sym same);
+    }
 
 -- so many losses more make it what is meant
 pub record StillTo (r : Recorder) (setting : Setting) (start : List Event) (reference n : ℕ) (meant : Events) : Type 0 where
@@ -27,6 +39,14 @@ pub counted : (r : Recorder) (setting : Setting) (start : List Event) (reference
     → StillTo r setting start reference m meant
     → StillTo r setting start reference n meant
 counted r setting start reference m n meant same still = subst (λ (k : ℕ). StillTo r setting start reference k meant) same still
+
+-- so many make it what is meant of one that stands for the same, with the same text
+abbrev pub still_to : (old new : Recorder) (setting : Setting) (start : List Event) (reference n : ℕ) (meant : Events) → new.text ≡ old.text
+    → ((s : Setting) (events : List Event) → StandsFor old s events → StandsFor new s events)
+    → StillTo old setting start reference n meant
+    → StillTo new setting start reference n meant
+still_to old new setting start reference n meant same stands still =
+    record { events = still.events; holds = still_holds old new setting start still.events same stands still.holds; rest = still.rest }
 
 module _ (old new : Recorder) (setting : Setting) (start : List Event) (reference n : ℕ) (meant : Events)
     (still : StillTo old setting start reference (suc n) meant) where

@@ -1,7 +1,11 @@
 -- What is recorded of entries, and for which history a recorder stands.
+pub mod EndingOrder
+pub mod Endings
+pub mod Newest
 pub mod Naming
 pub mod Losing
 pub mod Looks
+pub mod Noting
 pub mod Recorded
 pub mod Printed
 pub mod Standing

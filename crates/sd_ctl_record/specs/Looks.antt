@@ -1,12 +1,11 @@
--- What a look under one number adds to what was found before it.
-use Rattle.std.specs.Prelude.{ℕ, Bool, true, false, nat_lt, Option, Result, Ok, Err, if◌then◌else◌}
+-- What a look under one number tells.
+use Rattle.std.specs.Prelude.{ℕ, Bool, true, false, nat_eq, Result, Ok, Err, if◌then◌else◌}
 use Rattle.sd_msg.specs.declared.Flight.{Flight}
 use Rattle.sd_msg.specs.declared.TakeFault.{TakeFault}
 use Rattle.sd_msg.specs.declared.TakeFault.TheVariants.{Spent}
 use Rattle.sd_ctl_logs.specs.declared.MessageName.{MessageName}
-use Rattle.sd_ctl_record.specs.Losing.{sooner}
 use Rattle.sd_ctl_record.specs.Naming.{has_name}
-use Rattle.sd_ctl_record.specs.declared.finding.Ending.{Ending}
+use Rattle.sd_ctl_record.specs.declared.endings.Ending.{Ending}
 
 -- the message of the number is on its way no more
 abbrev pub is_gone : Result Flight TakeFault → Bool
@@ -18,7 +17,11 @@ abbrev pub is_named : MessageName → Result Flight TakeFault → Bool
 is_named name (Ok f) = has_name name f
 is_named name (Err e) = false
 
--- the soonest ending so far, where this was found under a number
-abbrev pub with_found : (reference number : ℕ) → Option Ending → Result Flight TakeFault → Option Ending
-with_found reference number best (Ok f) = if nat_lt f.last reference then sooner best f.last number else best
-with_found reference number best (Err e) = best
+-- a message was found, and has the last moment of the ending
+abbrev pub has_ending : Ending → Result Flight TakeFault → Bool
+has_ending ending (Ok f) = nat_eq f.last ending.last
+has_ending ending (Err e) = false
+
+-- the last message with the name so far, where this was found under a number
+abbrev pub with_found : MessageName → (number last : ℕ) → Result Flight TakeFault → ℕ
+with_found name number last found = if is_named name found then number else last

@@ -3,7 +3,7 @@ use Rattle.std.specs.Prelude.{ℕ, Bool, List, [], ◌∷◌, filter, nat_lt, Op
 use Rattle.sd_msg.specs.declared.Flight.{Flight}
 use Rattle.sd_fleet.specs.History.Steps.{Step}
 use Rattle.sd_fleet.specs.History.Open.{unspent}
-use Rattle.sd_ctl_record.specs.declared.finding.Ending.{Ending}
+use Rattle.sd_ctl_record.specs.declared.endings.Ending.{Ending}
 
 -- the message can be received no more at this reference
 abbrev pub is_past : ℕ → Flight → Bool

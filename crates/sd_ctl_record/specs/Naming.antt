@@ -1,5 +1,5 @@
 -- Which event an entry is, where the messages on their way are known.
-use Rattle.std.specs.Prelude.{ℕ, Bool, ◌&&◌, List, find, nat_eq}
+use Rattle.std.specs.Prelude.{ℕ, Bool, ◌&&◌, List, [], ◌∷◌, nat_eq, if◌then◌else◌}
 use Rattle.sd_num.specs.Lists.{map_or}
 use Rattle.sd_msg.specs.declared.Flight.{Flight}
 use Rattle.sd_sched.specs.declared.Event.{Event}
@@ -15,9 +15,14 @@ has_name name f =
     nat_eq f.receiver name.receiver && nat_eq f.link name.link && nat_eq f.message.epoch name.epoch && nat_eq f.message.stamp.term name.term
     && nat_eq f.message.stamp.round name.round
 
--- the number of the first message on its way that has the name; 0, which no message has, where none has it
+-- the number of the last of these messages that has the name, and the one before them where none has it
+abbrev pub last_named : MessageName → (before : ℕ) → List Flight → ℕ
+last_named name before [] = before
+last_named name before (f ∷ fs) = last_named name (if has_name name f then f.number else before) fs
+
+-- the number of the last message on its way that has the name; 0, which no message has, where none has it
 abbrev pub number_named : MessageName → List Step → ℕ
-number_named name steps = map_or (find (has_name name) (unspent steps 0)) 0 (λ f. f.number)
+number_named name steps = last_named name 0 (unspent steps 0)
 
 -- the event of an entry after these steps
 abbrev pub event_in : List Step → Entry → Event

@@ -11,7 +11,7 @@ use Rattle.sd_ctl_logs.specs.Entries.{reference_in}
 use Rattle.sd_ctl_logs.specs.declared.Entry.{Entry}
 use Rattle.sd_ctl_record.specs.Losing.{next_lost}
 use Rattle.sd_ctl_record.specs.Naming.{event_in}
-use Rattle.sd_ctl_record.specs.declared.finding.Ending.{Ending}
+use Rattle.sd_ctl_record.specs.declared.endings.Ending.{Ending}
 
 -- the event is refused: it is not memory that was wanting
 abbrev pub is_refusal : ApplyFault → Bool

@@ -1,6 +1,8 @@
 -- For which history a recorder stands, and what it has written.
-use Rattle.std.specs.Prelude.{◌≡◌, List, ◌++◌, Option, Some, None, Ok, Err}
+use Rattle.std.specs.Prelude.{◌≡◌, ℕ, ◌<◌, ◌≤◌, List, ◌++◌, length, Option, Some, None, Ok, Err}
+use Rattle.std.specs.List.{Contains}
 use Rattle.sd_topo.specs.Limits.{IsNetwork}
+use Rattle.sd_msg.specs.declared.Flight.{Flight}
 use Rattle.sd_msg.specs.Books.{AreNumbered}
 use Rattle.sd_core.specs.contracts.device.DeviceNode.TheImpl.{ghosts as device}
 use Rattle.sd_core.specs.declared.registers.Registers.{Registers}
@@ -8,20 +10,47 @@ use Rattle.sd_sched.specs.declared.Event.{Event}
 use Rattle.sd_fleet.specs.History.World.{Setting}
 use Rattle.sd_fleet.specs.History.Steps.{events_of, flight_count}
 use Rattle.sd_fleet.specs.History.Open.{unspent}
+use Rattle.sd_fleet.specs.History.Chronicle.{chronicle}
 use Rattle.sd_fleet.specs.History.Nodes.{NodeStep, steps_of}
 use Rattle.sd_fleet.specs.History.declared.ApplyFault.{ApplyFault}
 use Rattle.sd_fleet.specs.Standing as fleets
+use Rattle.sd_ctl_record.specs.Endings.{Lists}
+use Rattle.sd_ctl_record.specs.Newest.{newest_over}
 use Rattle.sd_ctl_record.specs.Printed.{schedule_text}
 use Rattle.sd_ctl_record.specs.Recorded.{Events}
+use Rattle.sd_ctl_record.specs.declared.endings.Endings.{Endings}
+use Rattle.sd_ctl_record.specs.declared.newest.Newest.{Newest}
 use Rattle.sd_ctl_record.specs.declared.recorder.Recorder.{Recorder}
 
--- Its fleet stands for a run of these events, the newest first. No message is on its way whose number it has passed.
+-- The ending of each of these messages is listed whose number is at most the given one.
+abbrev pub AreListed : Endings → (looked : ℕ) → List Flight → Type 0
+AreListed endings looked flights =
+    (f : Flight) → Contains flights f → f.number ≤ looked → Lists endings (record { last = f.last; number = f.number })
+
+-- No message of these is newer than the one over its link in the table, where its number is at most the given one and the table has its link.
+abbrev pub AreNewest : List Newest → (looked : ℕ) → List Flight → Type 0
+AreNewest table looked flights =
+    (f : Flight) → Contains flights f → f.number ≤ looked → f.link < length table → f.number ≤ newest_over table f.link f.receiver
+
+-- What a recorder keeps is right of the messages that are on their way, of which so many numbers were given: none of them has a number that it
+-- has passed, and those that it has looked at are kept by their endings and their links.
+pub record Keeps (recorder : Recorder) (count : ℕ) (flights : List Flight) : Type 0 where
+  pub passed : AreNumbered recorder.passed count flights
+  pub looked : recorder.looked ≤ count
+  pub listed : AreListed recorder.endings recorder.looked flights
+  pub newest : AreNewest recorder.newest.items recorder.looked flights
+
+-- Its fleet stands for a run of these events, the newest first, and what it keeps is right of the messages that are on their way.
 pub record StandsFor (recorder : Recorder) (setting : Setting) (events : List Event) : Type 0 where
   pub net : IsNetwork setting.net
   pub run : List (NodeStep Registers)
   pub fleet : fleets.StandsFor device recorder.fleet setting run
   pub happened : events_of (steps_of run) ≡ events
-  pub passed : AreNumbered recorder.passed (flight_count (steps_of run)) (unspent (steps_of run) 0)
+  pub keeps : Keeps recorder (flight_count (steps_of run)) (unspent (steps_of run) 0)
+
+-- it has looked at each message of these events
+abbrev pub HasSeenAll : Recorder → Setting → List Event → Type 0
+HasSeenAll recorder setting events = flight_count (chronicle setting events) ≤ recorder.looked
 
 -- it stands for these events, and its text has the lines of those that came since the start
 pub record HoldsSince (recorder : Recorder) (setting : Setting) (start events : List Event) : Type 0 where

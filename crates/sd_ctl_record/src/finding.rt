@@ -1,29 +1,26 @@
-//! Which messages are on their way: they are looked up number by number.
-ghost use Rattle.std.specs.Prelude.{◌≡◌, ◌≤◌, ◌<◌, ◌^◌, List, IfSome};
+//! Which messages are on their way: each is looked at once when it was sent, and kept by its ending
+//! and its link.
+ghost use Rattle.std.specs.Prelude.{◌≡◌, ◌≤◌, ◌<◌, ◌^◌, List, OnOk, IfOk, IfSome};
 ghost use Rattle.sd_sched.specs.declared.Event.{Event as AnyEvent};
 ghost use Rattle.sd_fleet.specs.History.World.{Setting};
+ghost use Rattle.sd_fleet.specs.History.Steps.{flight_count};
 ghost use Rattle.sd_fleet.specs.History.Chronicle.{chronicle};
-ghost use Rattle.sd_fleet.specs.History.flights.Flights.{says_unknown};
+ghost use Rattle.sd_fleet.specs.History.flights.Flights.{look_in, says_unknown};
 ghost use Rattle.sd_ctl_record.specs.Looks as looks;
 ghost use Rattle.sd_ctl_record.specs.Losing as losing;
 ghost use Rattle.sd_ctl_record.specs.Naming as naming;
-ghost use Rattle.sd_ctl_record.specs.Standing.{StandsFor};
+ghost use Rattle.sd_ctl_record.specs.Noting.{HasNoted};
+ghost use Rattle.sd_ctl_record.specs.Standing.{HasSeenAll, StandsFor};
 
 use crate::Recorder;
+use crate::endings::Ending;
+use crate::newest::{newest_over, note};
 use sd_ctl_logs::MessageName;
 use sd_msg::{Flight, TakeFault};
+use sd_num::NoMemory;
 
 /// More messages than any schedule has.
 const MOST: u64 = 1 << 60;
-
-/// How a message ends that nobody receives.
-#[derive(Clone, Copy, Debug, PartialEq, Eq)]
-pub(crate) struct Ending {
-    /// The last moment at which it can be received, in ps.
-    pub last: u64,
-    /// Its number.
-    pub number: u64,
-}
 
 /// Whether no message has the number.
 fn is_unknown(found: &Result<Flight, TakeFault>) -> bool
@@ -55,91 +52,166 @@ fn is_named(found: &Result<Flight, TakeFault>, name: &MessageName) -> bool
     }
 }
 
-/// The sooner of two endings, and the first where both come at once.
-fn sooner(best: Option<Ending>, ending: Ending) -> Option<Ending>
-    ensures { result ≡ losing.sooner best ending.last ending.number }
+/// Whether what was found is on its way, and ends so.
+fn has_ending(found: &Result<Flight, TakeFault>, ending: &Ending) -> bool
+    ensures { result ≡ looks.has_ending ending.now found.now }
 {
-    match best {
-        Some(before) => {
-            if ending.last < before.last {
-                Some(ending)
-            } else {
-                Some(before)
-            }
-        }
-        None => Some(ending),
+    match found {
+        Ok(flight) => flight.last == ending.last,
+        Err(_) => false,
     }
 }
 
-/// The soonest ending so far, where this was found under the next number.
-fn with_found(
-    best: Option<Ending>,
-    found: &Result<Flight, TakeFault>,
-    number: u64,
-    reference: u64,
-) -> Option<Ending>
-    ensures { result ≡ looks.with_found reference number best found.now }
+/// The number of the last message with a name so far, where this was found under the next number.
+fn with_found(last: u64, found: &Result<Flight, TakeFault>, name: &MessageName, number: u64) -> u64
+    ensures { result ≡ looks.with_found name.now number last found.now }
 {
-    match found {
-        Ok(flight) => {
-            if flight.last < reference {
-                sooner(
-                    best,
-                    Ending {
-                        last: flight.last,
-                        number,
-                    },
-                )
-            } else {
-                best
-            }
-        }
-        Err(_) => best,
-    }
+    if is_named(found, name) { number } else { last }
 }
 
 impl Recorder {
-    /// The number of the first message on its way that has the name, and 0 where none has.
-    pub(crate) fn number_of(&self, name: &MessageName) -> u64
+    /// The number of the last message on its way that has the name, and 0 where none has.
+    pub(crate) fn number_of(&mut self, name: &MessageName) -> Result<u64, NoMemory>
+        ensures number { IfOk result (λ number. (setting : Setting) (events : List AnyEvent)
+            → StandsFor self.old setting events
+            → number ≡ naming.number_named name.now (chronicle setting events)) }
+        ensures within { IfOk result (λ number. number ≤ 2 ^ 60) }
+        ensures stands { OnOk result ((setting : Setting) (events : List AnyEvent)
+            → StandsFor self.old setting events → StandsFor self.new setting events) }
+        ensures text { self.new.text ≡ self.old.text }
+    {
+        self.look_on()?;
+        if let Some(number) = self.newest_named(name) {
+            return Ok(number);
+        }
+        self.pass_on();
+        Ok(self.last_named(name))
+    }
+
+    /// The number of the newest message over the link of a name, where it is on its way and has the
+    /// name: mostly it does, and nothing else need be looked at.
+    fn newest_named(&self, name: &MessageName) -> Option<u64>
+        ensures number { IfSome result (λ number. (setting : Setting) (events : List AnyEvent)
+            → StandsFor self.now setting events → HasSeenAll self.now setting events
+            → number ≡ naming.number_named name.now (chronicle setting events)) }
+        ensures within { IfSome result (λ number. number ≤ 2 ^ 60) }
+    {
+        let number = newest_over(self.newest.as_slice(), name.link, name.receiver)?;
+        if is_named(&self.on_its_way(number), name) {
+            Some(number)
+        } else {
+            None
+        }
+    }
+
+    /// The message of a number, if it is on its way.
+    // A flight is large: inlined, it is not copied once more.
+    #[inline(always)]
+    fn on_its_way(&self, number: u64) -> Result<Flight, TakeFault>
+        ensures flight { (setting : Setting) (events : List AnyEvent)
+            → StandsFor self.now setting events
+            → result ≡ look_in (chronicle setting events) number }
+        ensures within { OnOk result (number ≤ 2 ^ 60) }
+    {
+        // No message has a greater number: said for the prover.
+        if number > MOST {
+            return Err(TakeFault::Unknown);
+        }
+        self.fleet.flight(number)
+    }
+
+    /// The same, looked up number by number.
+    fn last_named(&self, name: &MessageName) -> u64
         ensures number { (setting : Setting) (events : List AnyEvent)
             → StandsFor self.now setting events
             → result ≡ naming.number_named name.now (chronicle setting events) }
         ensures within { result ≤ 2 ^ 60 }
     {
+        let mut last = 0;
         for passed in self.passed..MOST {
-            let found = self.fleet.flight(passed + 1);
+            let found = self.on_its_way(passed + 1);
             if is_unknown(&found) {
-                return 0;
+                return last;
             }
-            if is_named(&found, name) {
-                return passed + 1;
-            }
+            last = with_found(last, &found, name, passed + 1);
         }
-        0
+        last
     }
 
     /// The ending of the message that an event at the reference finds to be past, if there is one:
     /// of several the soonest.
-    pub(crate) fn next_lost(&self, reference: u64) -> Option<Ending>
+    pub(crate) fn next_lost(&mut self, reference: u64) -> Result<Option<Ending>, NoMemory>
+        ensures lost { IfOk result (λ lost. (setting : Setting) (events : List AnyEvent)
+            → StandsFor self.old setting events
+            → lost ≡ losing.next_lost reference (chronicle setting events)) }
+        ensures past { IfOk result (λ lost. IfSome lost (λ ending. ending.last < reference)) }
+        ensures within { IfOk result (λ lost. IfSome lost (λ ending. ending.number ≤ 2 ^ 60)) }
+        ensures stands { OnOk result ((setting : Setting) (events : List AnyEvent)
+            → StandsFor self.old setting events → StandsFor self.new setting events) }
+        ensures text { self.new.text ≡ self.old.text }
+    {
+        self.look_on()?;
+        Ok(self.soonest_before(reference))
+    }
+
+    /// The same, where each message was looked at. Endings of messages that are on their way no
+    /// more are dropped.
+    fn soonest_before(&mut self, reference: u64) -> Option<Ending>
         ensures lost { (setting : Setting) (events : List AnyEvent)
-            → StandsFor self.now setting events
+            → StandsFor self.old setting events → HasSeenAll self.old setting events
             → result ≡ losing.next_lost reference (chronicle setting events) }
         ensures past { IfSome result (λ ending. ending.last < reference) }
         ensures within { IfSome result (λ ending. ending.number ≤ 2 ^ 60) }
+        ensures stands { (setting : Setting) (events : List AnyEvent)
+            → StandsFor self.old setting events → StandsFor self.new setting events }
+        ensures text { self.new.text ≡ self.old.text }
     {
-        let mut best = None;
-        for passed in self.passed..MOST {
-            let found = self.fleet.flight(passed + 1);
-            if is_unknown(&found) {
-                return best;
+        'endings: while let Some(ending) = self.endings.first_before(reference) {
+            if has_ending(&self.on_its_way(ending.number), &ending) {
+                return Some(ending);
             }
-            best = with_found(best, &found, passed + 1, reference);
+            self.endings.drop_first();
         }
-        best
+        None
+    }
+
+    /// Looks at the messages that were sent since the last look.
+    fn look_on(&mut self) -> Result<(), NoMemory>
+        ensures stands { OnOk result ((setting : Setting) (events : List AnyEvent)
+            → StandsFor self.old setting events → StandsFor self.new setting events) }
+        ensures all { OnOk result ((setting : Setting) (events : List AnyEvent)
+            → StandsFor self.old setting events → HasSeenAll self.new setting events) }
+        ensures text { self.new.text ≡ self.old.text }
+    {
+        for looked in self.looked..MOST {
+            let found = self.on_its_way(looked + 1);
+            if is_unknown(&found) {
+                return Ok(());
+            }
+            self.look_at(looked + 1, &found)?;
+        }
+        Ok(())
+    }
+
+    /// Notes what was found under the next number.
+    fn look_at(&mut self, number: u64, found: &Result<Flight, TakeFault>) -> Result<(), NoMemory>
+        ensures noted { OnOk result (HasNoted number found.now self.old self.new) }
+        ensures text { self.new.text ≡ self.old.text }
+    {
+        self.looked = number;
+        let Ok(flight) = found else {
+            return Ok(());
+        };
+        self.endings.add(Ending {
+            last: flight.last,
+            number,
+        })?;
+        note(&mut self.newest, flight.link, flight.receiver, number);
+        Ok(())
     }
 
     /// Goes past the numbers of messages that are on their way no more, up to the first that is.
-    pub(crate) fn pass_on(&mut self)
+    fn pass_on(&mut self)
         ensures stands { (setting : Setting) (events : List AnyEvent)
             → StandsFor self.old setting events → StandsFor self.new setting events }
         ensures text { self.new.text ≡ self.old.text }
@@ -148,7 +220,7 @@ impl Recorder {
             if self.passed >= MOST {
                 return;
             }
-            let found = self.fleet.flight(self.passed + 1);
+            let found = self.on_its_way(self.passed + 1);
             if !is_gone(&found) {
                 return;
             }

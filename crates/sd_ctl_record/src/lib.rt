@@ -7,8 +7,10 @@
 #![tactic(auto)]
 
 mod command;
+mod endings;
 mod finding;
 mod log;
+mod newest;
 mod reasons;
 mod recorder;
 mod recording;

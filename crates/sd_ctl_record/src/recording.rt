@@ -51,25 +51,28 @@ impl Recorder {
             → HasRecorded self.new setting entry.now events }
     {
         self.text.clear();
-        self.pass_on();
         if let Some(fault) = self.lose_all(alloc, entry.reference())? {
             return Ok(Some(fault));
         }
-        let event = entry.event(self.number_in(entry));
+        let number = self.number_in(entry)?;
+        let event = entry.event(number);
         self.happen(alloc, &event)
     }
 
     /// The number of the message that an entry names, and 0 where it names none that is on its way.
-    fn number_in(&self, entry: &Entry) -> u64
-        ensures number { (setting : Setting) (events : List AnyEvent)
-            → StandsFor self.now setting events
-            → result ≡ map_or (name_of entry.now) 0
-            (λ name. number_named name (chronicle setting events)) }
-        ensures within { result ≤ 2 ^ 60 }
+    fn number_in(&mut self, entry: &Entry) -> Result<u64, NoMemory>
+        ensures number { IfOk result (λ number. (setting : Setting) (events : List AnyEvent)
+            → StandsFor self.old setting events
+            → number ≡ map_or (name_of entry.now) 0
+            (λ name. number_named name (chronicle setting events))) }
+        ensures within { IfOk result (λ number. number ≤ 2 ^ 60) }
+        ensures stands { OnOk result ((setting : Setting) (events : List AnyEvent)
+            → StandsFor self.old setting events → StandsFor self.new setting events) }
+        ensures text { self.new.text ≡ self.old.text }
     {
         match entry.name() {
             Some(name) => self.number_of(&name),
-            None => 0,
+            None => Ok(0),
         }
     }
 
@@ -80,7 +83,7 @@ impl Recorder {
             (Becomes self.old self.new (λ setting. words.lose_all setting reference)) }
     {
         'losses: for _ in 0..u64::MAX {
-            let Some(ending) = self.next_lost(reference) else {
+            let Some(ending) = self.next_lost(reference)? else {
                 return Ok(None);
             };
             let loss = Event::Lose {

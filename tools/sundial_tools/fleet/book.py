@@ -56,9 +56,9 @@ class Book:
             self.earliest = flight.last
 
     def find(self, key: Key) -> Optional[int]:
-        """The number of the message, the least where there are several."""
+        """The number of the message, the greatest where there are several."""
         numbers = self._by_key.get(key)
-        return numbers[0] if numbers else None
+        return numbers[-1] if numbers else None
 
     def get(self, number: int) -> Optional[Flight]:
         return self._flights.get(number)

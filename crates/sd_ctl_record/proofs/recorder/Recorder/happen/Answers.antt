@@ -1,4 +1,4 @@
-use Rattle.std.proofs.Common.{refl, sym, ◌∙◌}
+use Rattle.std.proofs.Common.{sym, ◌∙◌}
 use Rattle.sd_ctl_record.proofs.Happening.{happened, refused}
 use Rattle.sd_ctl_record.proofs.recorder.Recorder.happen.Goals as goal
 
@@ -8,5 +8,5 @@ returns-in-Err c =
 
 pub returns : goal.returns
 returns c =
-    happened c.args.self.now (record c.args.self.now { fleet = c.happen.new.self; text = c.add_line.new.text }) c.prepare.new.self c.args.event.now
-    c.happen.new.outcome c.prepare.ensures.stands c.happen.ensures refl c.in_ok-add_line.ensures
+    happened c.args.self.now c.prepare.new.self c.happen.new.self c.add_line.new.text c.args.event.now c.happen.new.outcome c.prepare.ensures.stands
+    c.happen.ensures c.in_ok-add_line.ensures

@@ -1,9 +1,9 @@
-use Rattle.std.proofs.Common.{arith, suc, ◌-◌, ◌^◌, ◌+◌, sym, subst, Option}
+use Rattle.std.proofs.Common.{arith, suc, ◌-◌, ◌^◌, ◌+◌, sym, ◌∙◌, subst, Option}
 use Rattle.sd_sched.specs.declared.Event.TheVariants.{Lose}
 use Rattle.sd_fleet.specs.History.declared.ApplyFault.{ApplyFault}
 use Rattle.sd_ctl_record.specs.Recorded.{add, lose_all}
 use Rattle.sd_ctl_record.specs.Standing.{Came}
-use Rattle.sd_ctl_record.proofs.Losing.{all_lost, begins, counted, no_more, one_more, refused_loss}
+use Rattle.sd_ctl_record.proofs.Losing.{all_lost, begins, counted, no_more, one_more, refused_loss, still_to}
 use Rattle.sd_ctl_record.proofs.recorder.Recorder.lose_all.Goals as goal
 
 pub losses-init : goal.losses-init
@@ -12,11 +12,15 @@ losses-init c = λ setting start events holds. begins c.args.self.now setting st
 pub losses-preserved : goal.losses-preserved
 losses-preserved c =
     λ setting start events holds.
-    (let still =
+    (let before =
     counted c.losses.self setting start c.args.reference (2 ^ 64 - 1 - c.losses.counter) (suc (2 ^ 64 - 1 - (c.losses.counter + 1)))
     (lose_all setting c.args.reference events) (omega (arith, c.losses-test.true)) (c.losses.invariant setting start events holds) in
-    one_more c.losses.self c.happen.new.self setting start c.args.reference (2 ^ 64 - 1 - (c.losses.counter + 1)) (lose_all setting c.args.reference events)
-    still c.in-Some.ending (sym (c.in-Some.ensures.lost setting still.events still.holds.stands))
+    let still =
+    still_to c.losses.self c.next_lost.new.self setting start c.args.reference (suc (2 ^ 64 - 1 - (c.losses.counter + 1)))
+    (lose_all setting c.args.reference events) c.in_ok-ending.ensures.text c.in_ok-ending.ensures.stands before in
+    one_more c.next_lost.new.self c.happen.new.self setting start c.args.reference (2 ^ 64 - 1 - (c.losses.counter + 1))
+    (lose_all setting c.args.reference events) still c.in-Some.ending
+    (sym (c.in_ok-ending.ensures.lost setting before.events before.holds.stands) ∙ c.in-Some.is)
     (subst (λ (o : Option ApplyFault). Came c.happen.new.self setting start
     (add setting (Lose c.in-Some.ending.last c.in-Some.ending.number) still.events) o) c.in_default-2.is
     (c.in_ok-fault.ensures setting start still.events still.holds)))
@@ -24,21 +28,28 @@ losses-preserved c =
 pub returns-in_default : goal.returns-in_default
 returns-in_default c =
     λ setting start events holds.
-    (let still =
+    (let before =
     counted c.losses.self setting start c.args.reference (2 ^ 64 - 1 - c.losses.counter) (suc (2 ^ 64 - 1 - (c.losses.counter + 1)))
     (lose_all setting c.args.reference events) (omega (arith, c.losses-test.true)) (c.losses.invariant setting start events holds) in
-    no_more c.losses.self c.losses.self setting start c.args.reference (2 ^ 64 - 1 - (c.losses.counter + 1)) (lose_all setting c.args.reference events)
-    still (sym (c.in_default.ensures.lost setting still.events still.holds.stands)))
+    let still =
+    still_to c.losses.self c.next_lost.new.self setting start c.args.reference (suc (2 ^ 64 - 1 - (c.losses.counter + 1)))
+    (lose_all setting c.args.reference events) c.in_ok-ending.ensures.text c.in_ok-ending.ensures.stands before in
+    no_more c.next_lost.new.self c.next_lost.new.self setting start c.args.reference (2 ^ 64 - 1 - (c.losses.counter + 1))
+    (lose_all setting c.args.reference events) still
+    (sym (c.in_ok-ending.ensures.lost setting before.events before.holds.stands) ∙ c.in_default.is))
 
 pub returns-in-Some-2 : goal.returns-in-Some-2
 returns-in-Some-2 c =
     λ setting start events holds.
-    (let still =
+    (let before =
     counted c.losses.self setting start c.args.reference (2 ^ 64 - 1 - c.losses.counter) (suc (2 ^ 64 - 1 - (c.losses.counter + 1)))
     (lose_all setting c.args.reference events) (omega (arith, c.losses-test.true)) (c.losses.invariant setting start events holds) in
-    refused_loss c.losses.self c.happen.new.self setting start c.args.reference (2 ^ 64 - 1 - (c.losses.counter + 1))
+    let still =
+    still_to c.losses.self c.next_lost.new.self setting start c.args.reference (suc (2 ^ 64 - 1 - (c.losses.counter + 1)))
+    (lose_all setting c.args.reference events) c.in_ok-ending.ensures.text c.in_ok-ending.ensures.stands before in
+    refused_loss c.next_lost.new.self c.happen.new.self setting start c.args.reference (2 ^ 64 - 1 - (c.losses.counter + 1))
     (lose_all setting c.args.reference events) still c.in-Some.ending c.in-Some-2.fault
-    (sym (c.in-Some.ensures.lost setting still.events still.holds.stands))
+    (sym (c.in_ok-ending.ensures.lost setting before.events before.holds.stands) ∙ c.in-Some.is)
     (subst (λ (o : Option ApplyFault). Came c.happen.new.self setting start
     (add setting (Lose c.in-Some.ending.last c.in-Some.ending.number) still.events) o) c.in-Some-2.is
     (c.in_ok-fault.ensures setting start still.events still.holds)))

@@ -1,5 +1,6 @@
-use Rattle.std.proofs.Common.{arith, refl, sym, subst, []}
+use Rattle.std.proofs.Common.{refl, sym, subst, []}
 use Rattle.sd_topo.specs.Limits.{IsNetwork}
+use Rattle.sd_ctl_record.proofs.Keeping.{keeps_nothing}
 use Rattle.sd_ctl_record.proofs.recorder.Recorder.new.Goals as goal
 
 pub returns : goal.returns
@@ -10,5 +11,5 @@ returns c =
       run = [];
       fleet = c.in_ok-fleet.ensures.stands setting net plans;
       happened = refl;
-      passed = omega arith;
+      keeps = keeps_nothing _ refl refl;
     }

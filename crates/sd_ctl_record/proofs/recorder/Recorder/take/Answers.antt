@@ -1,4 +1,4 @@
-use Rattle.std.proofs.Common.{◌∙◌, ap, Vec, Global, ℕ, Option, None}
+use Rattle.std.proofs.Common.{Option, None}
 use Rattle.std.proofs.lemmas.Result.{IfOk-weaker, IfOk-at_ok}
 use Rattle.sd_fleet.specs.History.declared.ApplyFault.{ApplyFault}
 use Rattle.sd_ctl_record.specs.Recorded.{add, record_entry}
@@ -12,30 +12,28 @@ pub returns-in-Some-clause-records : goal.returns-in-Some-clause-records
 returns-in-Some-clause-records c =
     λ setting events stands.
     losses_refused c.args.self.now c.lose_all.new.self c.args.entry.now c.in-Some.fault setting events
-    (losses_came c.pass_on.new.self c.lose_all.new.self c.args.entry.now c.reference.result _ _ c.reference.ensures c.in-Some.is c.in_ok-fault.ensures
-    (ap (λ (v : Vec ℕ Global). v.items) c.pass_on.ensures.text ∙ c.clear.ensures.items) setting events
-    (c.pass_on.ensures.stands setting events (with_text c.args.self.now setting events c.clear.new.self stands)))
+    (losses_came (record c.args.self.now { text = c.clear.new.self }) c.lose_all.new.self c.args.entry.now c.reference.result _ _ c.reference.ensures c.in-Some.is c.in_ok-fault.ensures
+    c.clear.ensures.items setting events (with_text c.args.self.now setting events c.clear.new.self stands))
 
 -- the losses happened, and the event comes to this
 entered : (c : After-happen) (refused : Option ApplyFault)
-    → Becomes c.lose_all.new.self c.happen.new.self (λ setting. add setting c.event-event.result) refused
+    → Becomes c.number_in.new.self c.happen.new.self (λ setting. add setting c.event-event.result) refused
     → Records c.args.self.now c.happen.new.self (λ setting. record_entry setting c.args.entry.now) refused
 entered c refused becomes =
     λ setting events stands.
-    event_came c.lose_all.new.self c.happen.new.self c.args.entry.now c.event-event.result c.number_in.result refused setting events
-    c.event-event.ensures.event c.number_in.ensures.number becomes
-    (losses_came c.pass_on.new.self c.lose_all.new.self c.args.entry.now c.reference.result _ _ c.reference.ensures c.in_default.is c.in_ok-fault.ensures
-    (ap (λ (v : Vec ℕ Global). v.items) c.pass_on.ensures.text ∙ c.clear.ensures.items) setting events
-    (c.pass_on.ensures.stands setting events (with_text c.args.self.now setting events c.clear.new.self stands)))
+    event_came c.lose_all.new.self c.number_in.new.self c.happen.new.self c.args.entry.now c.event-event.result c.in_ok-number.number refused
+    setting events c.event-event.ensures.event c.in_ok-number.ensures.number c.in_ok-number.ensures.text c.in_ok-number.ensures.stands becomes
+    (losses_came (record c.args.self.now { text = c.clear.new.self }) c.lose_all.new.self c.args.entry.now c.reference.result _ _ c.reference.ensures c.in_default.is c.in_ok-fault.ensures
+    c.clear.ensures.items setting events (with_text c.args.self.now setting events c.clear.new.self stands))
 
 pub returns-clause-records : goal.returns-clause-records
 returns-clause-records c =
-    IfOk-weaker c.happen.result (Becomes c.lose_all.new.self c.happen.new.self (λ setting. add setting c.event-event.result))
+    IfOk-weaker c.happen.result (Becomes c.number_in.new.self c.happen.new.self (λ setting. add setting c.event-event.result))
     (Records c.args.self.now c.happen.new.self (λ setting. record_entry setting c.args.entry.now)) (entered c) c.happen.ensures
 
 pub returns-clause-lawful : goal.returns-clause-lawful
 returns-clause-lawful c =
     λ is setting events stands.
     has_recorded c.args.self.now c.happen.new.self c.args.entry.now setting events stands
-    (entered c None (IfOk-at_ok (Becomes c.lose_all.new.self c.happen.new.self (λ setting'. add setting' c.event-event.result)) is c.happen.ensures)
+    (entered c None (IfOk-at_ok (Becomes c.number_in.new.self c.happen.new.self (λ setting'. add setting' c.event-event.result)) is c.happen.ensures)
     setting events stands)
