@@ -12,7 +12,7 @@ from sundial_tools.errors import ToolError
 from sundial_tools.plan import read_plan
 from sundial_tools.record.compact import parse_entry
 from sundial_tools.record.fleet import JudgedFleet, Refusal
-from sundial_tools.schedule import MOST_NUMBER, event_line
+from sundial_tools.schedule import event_line
 from sundial_tools.topology import read_topology
 
 def record(topology_path, *paths):
@@ -56,9 +56,9 @@ def merge(count, path):
                 return refuse("feed", place, "UnknownLog")
             is_past = text.startswith("past ")
             ref = int(text.split(" ")[1]) if is_past else parse_entry(text, "feed", place).ref
-            if ref < past[number] or ref > MOST_NUMBER:
+            if ref < past[number] and not is_past:
                 return refuse("feed", place, "OutOfOrder")
-            past[number] = ref
+            past[number] = max(ref, past[number])
             if not is_past:
                 waiting[number].append((ref, text))
             settle(False)
