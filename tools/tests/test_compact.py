@@ -211,6 +211,22 @@ class Merged(Written):
                 silent.flush()
                 self.assertEqual(tool.end()[0], 1)
 
+    def test_a_file_that_grows(self):
+        lines = (LOGS / "r.jsonl").read_text().splitlines(keepends=True)
+        with directory() as path:
+            (path / "silent").write_text("")
+            (path / "r").write_text(lines[0] + lines[1][:20])
+            words = [LOGS / "topology.toml", path / "r", path / "silent", "--counters", "life", "--feed", "--origin", "1767225600s", "--horizon", "50us", "--follow"]
+            with Fed(TOOLS / "sundial-record", *words) as tool, open(path / "r", "a") as log:
+                self.assertEqual(tool.line(), "1 start 1000000000000 0 0 1000000000000 500")
+                self.assertEqual(tool.line(), "2 past 999950000000")
+                for text, time in (lines[1][20:], 1000090000000), (lines[2], 1000110000000):
+                    log.write(text)
+                    log.flush()
+                    self.assertEqual(tool.line().split(" ")[:3], ["1", "tick", str(time)])
+                    self.assertEqual(tool.line(), f"2 past {time - 50000000}")
+                self.assertIsNone(tool.process.poll())
+
     def test_the_origin_waits_for_the_first_line_of_each_log(self):
         lines = {name: (LOGS / f"{name}.jsonl").read_text().splitlines(keepends=True) for name in "rb"}
         with directory() as path:

@@ -20,15 +20,21 @@ from sundial_tools.schedule import MOST_DEVICE, MOST_NUMBER, Event
 from sundial_tools.topology import Topology
 
 MOST_BYTES = 1 << 16
+# For so many milliseconds nobody looks whether a file has grown.
+WAIT = 50
 # A log that is silent is told to be past in steps of this part of the horizon.
 STEPS = 16
 
 
 class Growing(Log):
-    """One log, read as far as it goes. A file ends where it ends, and a FIFO when all its writers have closed it."""
+    """One log, read as far as it goes. A FIFO ends when all its writers have closed it.
 
-    def __init__(self, path: str, topology: Topology) -> None:
+    A file ends where it ends now, or, if it `grows`, never.
+    """
+
+    def __init__(self, path: str, topology: Topology, grows: bool = False) -> None:
         super().__init__(path, topology)
+        self._grows = grows
         self.file = os.dup(0) if path == "-" else os.open(path, os.O_RDONLY | os.O_NONBLOCK)
         self.is_file = stat.S_ISREG(os.fstat(self.file).st_mode)
         self._rest, self._line = b"", 0
@@ -41,6 +47,8 @@ class Growing(Log):
         try:
             data = os.read(self.file, MOST_BYTES)
         except BlockingIOError:
+            return False
+        if not data and self._grows and self.is_file:
             return False
         lines = (self._rest + data).split(b"\n")
         self._rest = lines.pop()
@@ -99,12 +107,20 @@ class Feed:
 
     def _read(self) -> List[int]:
         """Reads on in the file that is furthest behind, and in each FIFO that has something. Answers which have nothing."""
-        files = [log for log in self._logs if log.is_file and not log.ended]
+        files = [number for number, log in enumerate(self._logs, 1) if log.is_file and not log.ended]
+        silent, has_read = [], False
+        for number in sorted(files, key=self._last_of):
+            has_read = self._logs[number - 1].read()
+            if has_read:
+                break
+            silent.append(number)
         pipes = {log.file: number for number, log in enumerate(self._logs, 1) if not log.is_file and not log.ended}
-        ready = _ready(list(pipes), wait=not files)
-        if files:
-            min(files, key=lambda log: -1 if log.last is None else log.last).read()
-        return [number for file, number in pipes.items() if file not in ready or not self._logs[number - 1].read()]
+        ready = _ready(list(pipes), 0 if has_read else WAIT if files else None)
+        return silent + [number for file, number in pipes.items() if file not in ready or not self._logs[number - 1].read()]
+
+    def _last_of(self, number: int) -> int:
+        last = self._logs[number - 1].last
+        return -1 if last is None else last
 
     def _begins(self) -> bool:
         """Whether each log has an event or has ended: only then the origin is known, where it is not given."""
@@ -195,14 +211,12 @@ class Feed:
         self._counted(len(lines))
 
 
-def _ready(files: Sequence[int], wait: bool) -> List[int]:
-    """Those of these FIFOs that have something, or have ended."""
-    if not files:
-        return []
+def _ready(files: Sequence[int], wait: Optional[int]) -> List[int]:
+    """Those of these FIFOs that have something, or have ended. Waits for one, so many milliseconds if they are said."""
     poll = select.poll()
     for file in files:
         poll.register(file, select.POLLIN)
-    return [file for file, _ in poll.poll(None if wait else 0)]
+    return [file for file, _ in poll.poll(wait)] if files or wait is not None else []
 
 
 def _reference(read: Tuple[int, LogEvent]) -> int:

@@ -60,7 +60,7 @@ def _record(options: argparse.Namespace, topology: Topology, plans: Sequence[Pla
 
 def _feed(options: argparse.Namespace, topology: Topology, text: TextIO, progress: Progress) -> str:
     """Writes the feed of a merge. Answers what was done."""
-    logs = [Growing(path, topology) for path in options.logs]
+    logs = [Growing(path, topology, options.follow) for path in options.logs]
     feed = Feed(logs, topology, text, options.origin, options.counters == "life", options.horizon, progress.step)
     feed.write()
     return f"{feed.entries} entries of {len(logs)} logs; origin {feed.origin} ps"
@@ -97,7 +97,7 @@ def _parser() -> argparse.ArgumentParser:
     parser.add_argument("--counters", choices=("keep", "life"), default="keep", help="keep counters, or count from each start and join")
     parser.add_argument("--no-losses", action="store_true", help="write no lose line that the logs do not have")
     parser.add_argument("--compact", action="store_true", help="write the merged log for sundialctl record, in place of a schedule")
-    parser.add_argument("--feed", action="store_true", help="write the logs as they grow, for sundialctl merge; needs no plan")
+    parser.add_argument("--feed", action="store_true", help="write the logs as they grow, for sundialctl merge; needs no plan; with --follow also those in files, until it is stopped")
     parser.add_argument("--horizon", type=_time, metavar="TIME", help="of a feed: after this reference time a silent log holds up no other")
     parser.add_argument("--follow", "-f", action="store_true", help=FOLLOW)
     parser.add_argument("--output", "-o", metavar="FILE", help=OUTPUT)
