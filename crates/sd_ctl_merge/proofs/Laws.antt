@@ -10,6 +10,7 @@ use Rattle.sd_num.specs.declared.NumFault.{NumFault}
 use Rattle.sd_sched.specs.Lines.{first_field, number_within}
 use Rattle.sd_sched.specs.declared.LineFault.{LineFault}
 use Rattle.sd_outside.specs.Pieces.{piece_of}
+use Rattle.sd_outside.proofs.Adding.{concat_piece}
 use Rattle.sd_stream.specs.Lines.{lines}
 use Rattle.sd_cmd_files.specs.work.Works.{Reading, all_bytes, judged, length_fault, read_on, reading, reading_from, unless_too_long, written_for}
 use Rattle.sd_ctl_merge.specs.Feeds.{behind_number, from_one, log_number, placed, said, said_of, told_in}
@@ -162,10 +163,6 @@ all_written count (s ∷ taken) goes =
     ∙ front_text (settled count taken) (settled count (s ∷ taken))
     (settled_grows count taken s (subst (λ (earlier : List Said). IsNext count earlier s) (append-nil taken) goes.1))
 
-one_piece : (bytes : List ℕ) → concat (piece_of bytes) ≡ bytes
-one_piece [] = refl
-one_piece (byte ∷ bytes) = append-nil (byte ∷ bytes)
-
 -- The reading of a feed
 
 -- each line that is taken may come next
@@ -205,7 +202,7 @@ writes_merge count text =
           λ free.
           (ap (λ (o : Option (List ℕ)). written_for (merge_work count) (record { taken = r.taken; refused = o })) free
           ∙ ap (λ (bytes : List ℕ). bytes ++ concat (piece_of (text_of_lines (waiting count r.taken)))) (all_written count r.taken goes)
-          ∙ ap (λ (bytes : List ℕ). text_of_lines (settled count r.taken) ++ bytes) (one_piece (text_of_lines (waiting count r.taken)))
+          ∙ ap (λ (bytes : List ℕ). text_of_lines (settled count r.taken) ++ bytes) (concat_piece (text_of_lines (waiting count r.taken)))
           ∙ front_text (settled count r.taken) (merged count r.taken) (waiting count r.taken, merge_splits count r.taken));
     }
   where

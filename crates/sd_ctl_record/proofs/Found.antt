@@ -24,6 +24,7 @@ use Rattle.sd_ctl_record.specs.Newest.{newest_over}
 use Rattle.sd_ctl_record.specs.Standing.{HasSeenAll, Keeps}
 use Rattle.sd_ctl_record.specs.declared.endings.Ending.{Ending}
 use Rattle.sd_ctl_record.specs.declared.recorder.Recorder.{Recorder}
+use Rattle.sd_ctl_record.proofs.Keeping.{ending_of}
 use Rattle.sd_ctl_record.proofs.Looking.{Looking, looking_begins, look_never_other, look_ok, look_spent, look_unknown}
 use Rattle.sd_ctl_record.proofs.Members.{among_above, among_given, contained, found_on_way}
 
@@ -120,9 +121,6 @@ newest_is_named r setting events name (Ok f) number are k all link newest is nam
         (eqb-true g.receiver name'.receiver ends.0, eqb-true g.link name'.link ends.1)
 
 -- The soonest ending
-
-abbrev pub ending_of : Flight → Ending
-ending_of f = record { last = f.last; number = f.number }
 
 -- where none of them is past
 none_past : (reference : ℕ) (fs : List Flight) (best : Option Ending) → ((f : Flight) → Among f fs → reference ≤ f.last)

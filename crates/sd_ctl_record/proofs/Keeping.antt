@@ -30,7 +30,8 @@ use Rattle.sd_ctl_record.specs.declared.recorder.Recorder.{Recorder}
 use Rattle.sd_ctl_record.proofs.Members.{among, among_above, contained, kept, known_given, on_way_found}
 use Rattle.sd_ctl_record.proofs.Passing.{passed_after}
 
-abbrev ending_of : Flight → Ending
+-- how it ends, if nobody receives it
+abbrev pub ending_of : Flight → Ending
 ending_of f = record { last = f.last; number = f.number }
 
 -- Behind a step
