@@ -4,7 +4,6 @@ use Rattle.std.proofs.Common.{ap, ◌∙◌, subst}
 use Rattle.std.proofs.Math.Logic.{∥∥₁_elim}
 use Rattle.sd_core.specs.declared.registers.Registers.{Registers}
 use Rattle.sd_core.specs.contracts.device.DeviceNode.TheImpl.{ghosts as device}
-use Rattle.sd_msg.specs.declared.observer.NoObserver.{NoObserver}
 use Rattle.sd_msg.specs.contracts.observer.NoObserverObserver.TheImpl.{ghosts as nobody}
 use Rattle.sd_replay.specs.Sched.declared.Event.{Event}
 use Rattle.sd_replay.specs.Sched.declared.LineFault.{LineFault}
@@ -18,15 +17,12 @@ use Rattle.sd_gen.specs.Driving.{Run, IsAccepted, IsRefused, HasHappened}
 use Rattle.sd_replay.specs.declared.Tally.{Tally}
 use Rattle.sd_replay.specs.declared.faults.ReplayFault.{ReplayFault}
 use Rattle.sd_replay.specs.declared.faults.ReplayFault.TheVariants as fault
-use Rattle.sd_replay.specs.declared.replay.Replay.{Replay}
+use Rattle.sd_replay.specs.Devices.{QuietReplay}
 use Rattle.sd_replay.specs.Replaying as replays
 use Rattle.sd_replay.specs.Standing.{HasRun}
 use Rattle.sd_replay.specs.Tallies.{tally_of}
 use Rattle.sd_cmd_case.specs.Replayed.{StandsFor}
 use Rattle.sd_cmd_case.specs.declared.replayed.Replayed.{Replayed}
-
-abbrev DeviceReplay : Type 0
-DeviceReplay = Replay Registers NoObserver device nobody
 
 -- an event that the replay accepted
 pub accepted : (new : Replayed) (setting : Setting) (run : Run) (e : Event) (outcome : Outcome)
@@ -41,7 +37,7 @@ refused new setting run e what why is (stands, said) =
     record { why = why; refused = subst (λ (f : ReplayFault). replays.IsFault f setting (steps_of run) e) is said; stands = stands }
 
 -- it never answers that an event is no line
-pub never_line : (old new : DeviceReplay) (e : Event) (what : ReplayFault) (why : LineFault) → what ≡ fault.Line why
+pub never_line : (old new : QuietReplay) (e : Event) (what : ReplayFault) (why : LineFault) → what ≡ fault.Line why
     → ∥ HasRun device nobody old.fleet old.monitors old.event_output old.observer ∥₁
     → ((s : Setting) (run : Run) → replays.StandsFor device nobody old s run
     → replays.StandsFor device nobody new s run × replays.IsFault what s (steps_of run) e) → ⊥

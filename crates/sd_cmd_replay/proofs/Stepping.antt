@@ -23,21 +23,11 @@ use Rattle.sd_replay.specs.declared.replay.Replay.{Replay}
 use Rattle.sd_replay.specs.Devices.{HasReplayed}
 use Rattle.sd_replay.specs.Replaying.{StandsFor, IsStepped, IsLineFault}
 use Rattle.sd_replay.specs.Tallies.{tally_of}
-use Rattle.sd_replay.proofs.Kept.{devices_keep_chronicle, replayed_next}
+use Rattle.sd_replay.proofs.Kept.{devices_keep_chronicle, not_refused, replayed_next, went_on}
 use Rattle.sd_cmd_files.specs.work.Taking.{Takes}
 use Rattle.sd_cmd_files.specs.declared.work.Taken.TheVariants as taken
 use Rattle.sd_cmd_replay.specs.Reasons.{line_reason, apply_name}
 use Rattle.sd_cmd_replay.specs.Replays.{accepted, replay_work, unless_refused}
-
--- what went on was not refused
-went_on : (result : Result (Unit {0}) ReplayFault) (u : Unit {0}) (why : ReplayFault) → result ≡ Ok u → result ≡ Err why → ⊥
-went_on (Ok u) v why went refused = cc
-went_on (Err w) v why went refused = cc
-
-not_refused : (r : Option ApplyFault) (result : Result (Unit {0}) ReplayFault) (u : Unit {0}) → result ≡ Ok u → IfSome r (λ why. result ≡ Err (fault.Apply why))
-    → r ≡ None
-not_refused None result u went refused = refl
-not_refused (Some why) result u went refused = absurd (went_on result u (fault.Apply why) went refused)
 
 -- the end of a history shows in its events
 ends_as : (steps : List Step) → after_end (seen_of steps) ≡ list_any is_end_event (events_of steps)

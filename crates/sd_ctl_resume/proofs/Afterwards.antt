@@ -32,7 +32,8 @@ use Rattle.sd_cmd_files.proofs.Shared.{makes_more, verdict_more}
 use Rattle.sd_cmd_files.proofs.planfiles.Reading.{through}
 use Rattle.sd_ctl_resume.specs.Compared.{IsCompared}
 use Rattle.sd_ctl_resume.specs.Parts.{AfterLines, AfterPart, part_work}
-use Rattle.sd_ctl_resume.specs.Played.{HasPlayed, HasRead, IsInputRefused, TextReplay}
+use Rattle.sd_replay.specs.Devices.{QuietReplay}
+use Rattle.sd_ctl_resume.specs.Played.{HasPlayed, HasRead, IsInputRefused}
 use Rattle.sd_ctl_resume.specs.Resumes.{AfterBoth}
 
 -- the texts of a shelf
@@ -134,7 +135,7 @@ module _ (net : Network) (plans : List Plan) (left : ℕ) where
   abbrev After_second : List ℕ → List Event → Allowed
   After_second opening one = AfterPart second_work opening (λ other. IsCompared net (take left plans) (drop left plans) one other)
 
-  over_both : (replay : TextReplay) (events : List Event) → HasPlayed replay (setting_over net plans) events
+  over_both : (replay : QuietReplay) (events : List Event) → HasPlayed replay (setting_over net plans) events
       → HasPlayed replay (whole net (take left plans) (drop left plans)) events
   over_both replay events played = subst (λ (ps : List Plan). HasPlayed replay (setting_over net ps) events) (sym (take-append-drop left plans)) played
 
@@ -146,7 +147,7 @@ module _ (net : Network) (plans : List Plan) (left : ℕ) where
         (makes_more (AfterPart first_work schedule Nothing) (AfterBoth net plans left schedule opening) (made_of early)
         (early_part first_work schedule (After_second opening)) makes)
 
-    second_stopped : (early : SetupError) (one : TextReplay) → made ≡ made_of early → HasRead (codes "schedule") (setting_over net plans) schedule one
+    second_stopped : (early : SetupError) (one : QuietReplay) → made ≡ made_of early → HasRead (codes "schedule") (setting_over net plans) schedule one
         → IsAllowed (AfterPart second_work opening Nothing) (made_of early) → IsAllowed (AfterBoth net plans left schedule opening) made
     second_stopped early one is read makes =
         subst (IsAllowed (AfterBoth net plans left schedule opening)) (sym is)
@@ -155,7 +156,7 @@ module _ (net : Network) (plans : List Plan) (left : ℕ) where
         (early_part second_work opening (λ other. IsCompared net (take left plans) (drop left plans) (reading first_work schedule).taken other) bytes status
         written)) makes)
 
-    both_read : (one other : TextReplay) → HasRead (codes "schedule") (setting_over net plans) schedule one
+    both_read : (one other : QuietReplay) → HasRead (codes "schedule") (setting_over net plans) schedule one
         → HasRead (codes "opening") (setting_over net (drop left plans)) opening other
         → ((events others : List Event) → HasPlayed one (whole net (take left plans) (drop left plans)) events
         → HasPlayed other (setting_over net (drop left plans)) others
@@ -182,7 +183,7 @@ module _ (net : Network) (plans : List Plan) (left : ℕ) where
         by None told = tt
         by (Some h) told = first_stopped (texts_of h schedule) (texts_of h opening) made early is told
 
-    pub told_second_stopped : (later : Option Told) (early : SetupError) (one : TextReplay) → later ≡ held → made ≡ made_of early
+    pub told_second_stopped : (later : Option Told) (early : SetupError) (one : QuietReplay) → later ≡ held → made ≡ made_of early
         → IfSome held (λ h. HasRead (codes "schedule") (setting_over net plans) (texts_of h schedule) one)
         → IfSome later (λ h. IsAllowed (AfterPart second_work (texts_of h opening) Nothing) (made_of early))
         → IfSome held (λ h. IsAllowed (AfterBoth net plans left (texts_of h schedule) (texts_of h opening)) made)
@@ -195,7 +196,7 @@ module _ (net : Network) (plans : List Plan) (left : ℕ) where
         by None was told = tt
         by (Some h) was told = second_stopped (texts_of h schedule) (texts_of h opening) made early one is was told
 
-    pub told_both : (later : Option Told) (one other : TextReplay) → later ≡ held
+    pub told_both : (later : Option Told) (one other : QuietReplay) → later ≡ held
         → IfSome held (λ h. HasRead (codes "schedule") (setting_over net plans) (texts_of h schedule) one)
         → IfSome later (λ h. HasRead (codes "opening") (setting_over net (drop left plans)) (texts_of h opening) other)
         → ((events others : List Event) → HasPlayed one (whole net (take left plans) (drop left plans)) events

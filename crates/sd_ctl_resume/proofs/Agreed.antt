@@ -30,7 +30,8 @@ use Rattle.sd_cmd_files.specs.declared.command_error.CommandError.TheVariants as
 use Rattle.sd_ctl_resume.specs.Behind.{GoOnAlike}
 use Rattle.sd_ctl_resume.specs.Compared.{AreRuns, IsCompared}
 use Rattle.sd_ctl_resume.specs.Opened.{OpensFor}
-use Rattle.sd_ctl_resume.specs.Played.{HasPlayed, TextReplay}
+use Rattle.sd_replay.specs.Devices.{QuietReplay}
+use Rattle.sd_ctl_resume.specs.Played.{HasPlayed}
 use Rattle.sd_ctl_resume.specs.Printed.{agree_line, differ_line, dishonest_line}
 
 -- behind an honest opening all later events are as behind the history that it opens, and no more breaks
@@ -49,12 +50,12 @@ go_on shift net front plans first second opens honest =
     }
 
 -- the fleet stands for the runs of the replay that drives it
-abbrev Drives : TextReplay → DeviceFleet → Type 0
+abbrev Drives : QuietReplay → DeviceFleet → Type 0
 Drives replay fleet =
     (setting : Setting) (run : List (NodeStep Registers)) → StandsFor device nobody replay setting run → fleets.StandsFor device fleet setting run
 
 -- the runs of two replays
-runs : (shift : Shift) (net : Network) (front plans : List Plan) (one other : TextReplay) (events others : List Event)
+runs : (shift : Shift) (net : Network) (front plans : List Plan) (one other : QuietReplay) (events others : List Event)
     (played : HasPlayed one (whole net front plans) events) (also : HasPlayed other (setting_over net plans) others) → shift.plans ≡ length front
     → AreRuns shift net front plans events others played.run also.run
 runs shift net front plans one other events others played also behind =
@@ -68,7 +69,7 @@ runs shift net front plans one other events others played also behind =
 
 -- What the comparison of the fleets says
 
-module _ (shift : Shift) (one other : TextReplay) (first second : DeviceFleet) (drives : Drives one first) (drives_other : Drives other second) (net : Network)
+module _ (shift : Shift) (one other : QuietReplay) (first second : DeviceFleet) (drives : Drives one first) (drives_other : Drives other second) (net : Network)
     (front plans : List Plan) (events others : List Event) (behind : length front ≡ shift.plans) (played : HasPlayed one (whole net front plans) events)
     (also : HasPlayed other (setting_over net plans) others) where
   of_runs : (P : Network → (front plans : List Plan) → (one other : List (NodeStep Registers)) → Type 0) → OfRuns shift first second P
@@ -105,7 +106,7 @@ module _ (shift : Shift) (one other : TextReplay) (first second : DeviceFleet) (
 
 -- What the comparison of the premises that they judge says
 
-module _ (shift : Shift) (net : Network) (front plans : List Plan) (one other : TextReplay) (events others : List Event)
+module _ (shift : Shift) (net : Network) (front plans : List Plan) (one other : QuietReplay) (events others : List Event)
     (opened : OpensFor shift net front plans one other events others) where
   of_histories : (P : Setting → (one other : List Seen) → Type 0) → OfHistories one.monitors.premises other.monitors.premises P
       → P (setting_over net plans) (seen_of (steps_of opened.first.run)) (seen_of (steps_of opened.second.run))

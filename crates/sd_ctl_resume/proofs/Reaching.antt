@@ -29,38 +29,39 @@ use Rattle.sd_cmd_files.specs.work.Works.{Reading, Work, last_pieces_for, readin
 use Rattle.sd_cmd_files.proofs.work.Coming.{told_comes, told_comes_on}
 use Rattle.sd_cmd_files.proofs.work.Reading.{EndsWith, reads_end}
 use Rattle.sd_ctl_resume.specs.Parts.{AfterLines, AfterPart, part_work}
-use Rattle.sd_ctl_resume.specs.Played.{ComesTo, HasPlayed, HasRead, StepsOn, TextReplay}
+use Rattle.sd_replay.specs.Devices.{QuietReplay}
+use Rattle.sd_ctl_resume.specs.Played.{ComesTo, HasPlayed, HasRead, StepsOn}
 
 -- the work is that over a text of this name, and the replay has played these events
-abbrev pub Plays : (word : List ℕ) → Setting → TextReplay → Work Event → List Event → Type 0
+abbrev pub Plays : (word : List ℕ) → Setting → QuietReplay → Work Event → List Event → Type 0
 Plays word setting replay work events = (work ≡ part_work word setting) × HasPlayed replay setting events
 
 -- the lines before the reader were accepted, and the replay has played them
-abbrev pub HasReached : {S : Type 0} (g : Ghosts S) (word : List ℕ) (setting : Setting) (text : List ℕ) → LineReader S Buffer g → TextReplay → Type 0
+abbrev pub HasReached : {S : Type 0} (g : Ghosts S) (word : List ℕ) (setting : Setting) (text : List ℕ) → LineReader S Buffer g → QuietReplay → Type 0
 HasReached g word setting text reader replay =
     HasCome g (part_work word setting) (Plays word setting replay (part_work word setting)) text reader None None
 
 -- before the first line
 pub reaches_none : {S : Type 0} (g : Ghosts S) (word : List ℕ) (setting : Setting) (rest : Option (List ℕ)) (reader : LineReader S Buffer g)
-    (replay : TextReplay) → HasPlayed replay setting [] → text_left g reader ≡ rest → bytes_before reader ≡ 0
+    (replay : QuietReplay) → HasPlayed replay setting [] → text_left g reader ≡ rest → bytes_before reader ≡ 0
     → IfSome rest (λ text. HasReached g word setting text reader replay)
 reaches_none g word setting rest reader replay played left none =
     told_comes g (part_work word setting) (Plays word setting replay (part_work word setting)) rest reader None (refl, played) left none
 
-makes_next : (word : List ℕ) (was now : TextReplay) (left : Option (List ℕ)) (before : ℕ) (setting : Setting)
+makes_next : (word : List ℕ) (was now : QuietReplay) (left : Option (List ℕ)) (before : ℕ) (setting : Setting)
     → HoldsNext (StepsOn word was now (Ok true)) left before → MakesNext left before (Plays word setting was) (Plays word setting now) (Ok None)
 makes_next word was now None before setting steps = tt
 makes_next word was now (Some text) before setting steps =
     λ work events plays. let made = steps work events setting plays.0 plays.1 in (made.0, made.1, (plays.0, made.2))
 
-adds_nothing : (word : List ℕ) (setting : Setting) (was : TextReplay) (left : Option (List ℕ)) (before : ℕ)
+adds_nothing : (word : List ℕ) (setting : Setting) (was : QuietReplay) (left : Option (List ℕ)) (before : ℕ)
     → AddsNext {T = Option Status} left before (Plays word setting was) None None (Ok None)
 adds_nothing word setting was None before = tt
 adds_nothing word setting was (Some text) before = λ work events plays. refl
 
 -- after a line that was accepted
 pub reaches_on : {S : Type 0} (g : Ghosts S) (word : List ℕ) (setting : Setting) (rest : Option (List ℕ)) (old new : LineReader S Buffer g)
-    (was now : TextReplay) → IfSome rest (λ text. HasReached g word setting text old was)
+    (was now : QuietReplay) → IfSome rest (λ text. HasReached g word setting text old was)
     → HoldsNext (StepsOn word was now (Ok true)) (text_left g old) (bytes_before old)
     → IfSome (text_left g old) (GoesPast (bytes_before old) (bytes_before new) (text_left g new))
     → IfSome rest (λ text. HasReached g word setting text new now)
@@ -94,7 +95,7 @@ not_refused : (word : List ℕ) (setting : Setting) (events : List Event) (o : O
 not_refused word setting events None is = refl
 not_refused word setting events (Some why) is = cc
 
-module _ {S : Type 0} (g : Ghosts S) (word : List ℕ) (setting : Setting) (text : List ℕ) (reader : LineReader S Buffer g) (was now : TextReplay)
+module _ {S : Type 0} (g : Ghosts S) (word : List ℕ) (setting : Setting) (text : List ℕ) (reader : LineReader S Buffer g) (was now : QuietReplay)
     (reached : HasReached g word setting text reader was) where
   abbrev next : Step Event
   next =
@@ -144,7 +145,7 @@ module _ {S : Type 0} (g : Ghosts S) (word : List ℕ) (setting : Setting) (text
       by (Stopped ended.Memory) came = tt
 
 -- the same of a text that is told or not
-module _ {S : Type 0} (g : Ghosts S) (word : List ℕ) (setting : Setting) (rest : Option (List ℕ)) (reader : LineReader S Buffer g) (was now : TextReplay)
+module _ {S : Type 0} (g : Ghosts S) (word : List ℕ) (setting : Setting) (rest : Option (List ℕ)) (reader : LineReader S Buffer g) (was now : QuietReplay)
     (reached : IfSome rest (λ text. HasReached g word setting text reader was)) where
   pub told_read : HoldsNext (StepsOn word was now (Ok false)) (text_left g reader) (bytes_before reader)
       → IfSome rest (λ text. HasRead word setting text now)
@@ -170,7 +171,7 @@ from_rest P None name rest is p = tt
 from_rest P (Some h) name None is p = absurd is
 from_rest P (Some h) name (Some bytes) is p = subst P is p
 
-module _ (word name : List ℕ) (old new : TextReplay) (held : Option (List ℕ → Option (List ℕ))) (rest : Option (List ℕ)) (is : RestIs held name rest)
+module _ (word name : List ℕ) (old new : QuietReplay) (held : Option (List ℕ → Option (List ℕ))) (rest : Option (List ℕ)) (is : RestIs held name rest)
     (result : Result (Unit {0}) SetupError) where
   pub all_read : OnOk result ((setting : Setting) → HasPlayed old setting [] → IfSome rest (λ text. HasRead word setting text new))
       → OnOk result ((setting : Setting) → HasPlayed old setting [] → IfSome held (λ h. HasRead word setting (texts_of h name) new))

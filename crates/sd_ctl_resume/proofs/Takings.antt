@@ -21,22 +21,23 @@ use Rattle.sd_fleet.specs.History.declared.ApplyFault.{ApplyFault}
 use Rattle.sd_replay.specs.Replaying.{StandsFor, IsLineFault, IsStepped}
 use Rattle.sd_replay.specs.declared.faults.ReplayFault.{ReplayFault}
 use Rattle.sd_replay.specs.declared.faults.ReplayFault.TheVariants as fault
-use Rattle.sd_replay.proofs.Kept.{devices_keep_chronicle, replayed_next}
+use Rattle.sd_replay.proofs.Kept.{devices_keep_chronicle, not_refused, replayed_next, went_on}
 use Rattle.sd_cmd_files.specs.declared.command_error.CommandError.TheVariants as ended
 use Rattle.sd_cmd_files.specs.declared.planfiles.setup_error.SetupError.{SetupError}
 use Rattle.sd_cmd_files.specs.declared.planfiles.setup_error.SetupError.TheVariants.{Answered, Stopped}
 use Rattle.sd_cmd_files.specs.work.Steps.{Step, end_step, refused_step, step_for}
 use Rattle.sd_cmd_files.specs.work.Works.{Work}
 use Rattle.sd_ctl_resume.specs.Parts.{accepted, part_work, unless_refused}
-use Rattle.sd_ctl_resume.specs.Played.{ComesTo, EndsWithLine, HasPlayed, IsInputRefused, IsTaken, StepsOn, TextReplay}
+use Rattle.sd_replay.specs.Devices.{QuietReplay}
+use Rattle.sd_ctl_resume.specs.Played.{ComesTo, EndsWithLine, HasPlayed, IsInputRefused, IsTaken, StepsOn}
 
 -- the steps of a replay that has played events are their chronicle
-chronicled : (replay : TextReplay) (setting : Setting) (events : List Event) (played : HasPlayed replay setting events)
+chronicled : (replay : QuietReplay) (setting : Setting) (events : List Event) (played : HasPlayed replay setting events)
     → steps_of played.run ≡ chronicle setting events
 chronicled replay setting events played = (devices_keep_chronicle nobody replay setting events played).chronicle
 
 -- it has counted them
-pub counted : (replay : TextReplay) (setting : Setting) (events : List Event) → HasPlayed replay setting events
+pub counted : (replay : QuietReplay) (setting : Setting) (events : List Event) → HasPlayed replay setting events
     → replay.fleet.fabric.membership.world.events ≡ length events
 counted replay setting events played =
     let run : List (NodeStep Registers) = played.run in
@@ -45,7 +46,7 @@ counted replay setting events played =
     ∙ ap (λ (es : List Event). length es) played.happened
 
 -- before the first line, over a copy of the network
-pub begins : (net copy : Network) (plans : List Plan) (result : Result TextReplay NoMemory) → copy ≡ net
+pub begins : (net copy : Network) (plans : List Plan) (result : Result QuietReplay NoMemory) → copy ≡ net
     → IfOk result (λ replay. (setting : Setting) → setting.net ≡ copy → setting.plans ≡ plans → StandsFor device nobody replay setting [])
     → IfOk result (λ replay. HasPlayed replay (setting_over net plans) [])
 begins net copy plans (Ok replay) is stands =
@@ -55,24 +56,14 @@ begins net copy plans (Err why) is stands = tt
 -- A line that is tried
 
 -- what is said of a line by whatever run the replay stood for
-abbrev OfRuns : TextReplay → ((setting : Setting) (run : List (NodeStep Registers)) → Type 0) → Type 0
+abbrev OfRuns : QuietReplay → ((setting : Setting) (run : List (NodeStep Registers)) → Type 0) → Type 0
 OfRuns replay P = (setting : Setting) (run : List (NodeStep Registers)) → StandsFor device nobody replay setting run → P setting run
-
--- an answer is one of both
-not_both : (result : Result (Unit {0}) ReplayFault) (done : Unit {0}) (why : ReplayFault) → result ≡ Ok done → result ≡ Err why → ⊥
-not_both (Ok done) u why goes fails = cc
-not_both (Err why) u other goes fails = cc
-
-unrefused : (result : Result (Unit {0}) ReplayFault) (done : Unit {0}) → result ≡ Ok done → (r : Option ApplyFault)
-    → IfSome r (λ why. result ≡ Err (fault.Apply why)) → r ≡ None
-unrefused result done is None said = refl
-unrefused result done is (Some why) said = absurd (not_both result done (fault.Apply why) is said)
 
 -- what holds of an answer that is none
 on_ok : {P : Type 0} (result : Result (Unit {0}) ReplayFault) (done : Unit {0}) → result ≡ Ok done → OnOk result P → P
 on_ok {P = P} result done is holds = subst (λ (r : Result (Unit {0}) ReplayFault). OnOk r P) is holds
 
-module _ (old new : TextReplay) (setting : Setting) (events : List Event) (line : List ℕ) (played : HasPlayed old setting events) where
+module _ (old new : QuietReplay) (setting : Setting) (events : List Event) (line : List ℕ) (played : HasPlayed old setting events) where
   -- what the history says of an event is what the run says
   in_history : (e : Event) (r : Option ApplyFault) → refusal setting (steps_of played.run) e ≡ r → event_of_line line ≡ Ok e
       → accepted setting events (event_of_line line) ≡ unless_refused r e
@@ -99,9 +90,9 @@ module _ (old new : TextReplay) (setting : Setting) (events : List Event) (line 
       by : (said : Result Event LineFault) → event_of_line line ≡ said → IfErr said (λ why. result ≡ Err (fault.Line why))
           → IfOk said (λ e. OfRuns old (λ s run. IfSome (refusal s (steps_of run) e) (λ why. result ≡ Err (fault.Apply why))))
           → IfOk said (λ e. OfRuns old (λ s run. IsStepped device nobody new s run e)) → IsTaken new setting events line true
-      by (Err why) read said none steps = absurd (not_both result done (fault.Line why) is said)
+      by (Err why) read said none steps = absurd (went_on result done (fault.Line why) is said)
       by (Ok e) read said none steps =
-          taken e read (unrefused result done is (refusal setting (steps_of played.run) e) (none setting played.run played.stands))
+          taken e read (not_refused (refusal setting (steps_of played.run) e) result done is (none setting played.run played.stands))
           (steps setting played.run played.stands)
 
   -- or refused
@@ -116,7 +107,7 @@ module _ (old new : TextReplay) (setting : Setting) (events : List Event) (line 
 
 -- What comes next, of whatever work over a text of this name.
 
-module _ (word : List ℕ) (old new : TextReplay) (result : Result Bool SetupError) where
+module _ (word : List ℕ) (old new : QuietReplay) (result : Result Bool SetupError) where
   -- a line
   pub on_line : (line : List ℕ)
       → ((setting : Setting) (events : List Event) → HasPlayed old setting events
@@ -147,7 +138,7 @@ module _ (word : List ℕ) (old new : TextReplay) (result : Result Bool SetupErr
       λ setting same played. subst (λ (r : Result Bool SetupError). ComesTo work setting new events step r) (sym is) tt
 
 -- a refusal at the next line
-pub refuses : (word why : List ℕ) (replay : TextReplay) (setting : Setting) (events : List Event) (n : ℕ) (early : SetupError)
+pub refuses : (word why : List ℕ) (replay : QuietReplay) (setting : Setting) (events : List Event) (n : ℕ) (early : SetupError)
     → HasPlayed replay setting events → n ≡ length events → EndsWithLine (text_of (codes "input" ∷ word ∷ decimal (n + 1) ∷ why ∷ [])) early
     → ComesTo (part_work word setting) setting replay events (refused_step (part_work word setting) events why) (Err early)
 refuses word why replay setting events n (Answered answer) played is ends = (
@@ -172,13 +163,13 @@ never_shelf line (Stopped ended.Shelf) ends is = absurd ends
 never_shelf line (Stopped ended.Memory) ends is = cc
 
 -- a line that was taken
-pub takes_accepted : (word : List ℕ) (old new : TextReplay) (setting : Setting) (events : List Event) (line : List ℕ) → IsTaken new setting events line true
+pub takes_accepted : (word : List ℕ) (old new : QuietReplay) (setting : Setting) (events : List Event) (line : List ℕ) → IsTaken new setting events line true
     → ComesTo (part_work word setting) setting new events
     (step_for (part_work word setting) events ((part_work word setting).says events line)) (Ok true)
 takes_accepted word old new setting events line (e, says, played) = (e, ap (step_for (part_work word setting) events) says, played)
 
 -- or refused, as comes of a refusal
-pub takes_refused : (word : List ℕ) (new : TextReplay) (setting : Setting) (events : List Event) (line : List ℕ) (result : Result Bool SetupError)
+pub takes_refused : (word : List ℕ) (new : QuietReplay) (setting : Setting) (events : List Event) (line : List ℕ) (result : Result Bool SetupError)
     → IsTaken new setting events line false
     → (HasPlayed new setting events → ComesTo (part_work word setting) setting new events (refused_step (part_work word setting) events (codes "Refused")) result)
     → ComesTo (part_work word setting) setting new events (step_for (part_work word setting) events ((part_work word setting).says events line)) result
@@ -187,12 +178,12 @@ takes_refused word new setting events line result (says, played) comes =
     (sym (ap (step_for (part_work word setting) events) says)) (comes played)
 
 -- the end of a text with a line, and of one without
-pub ends_some : (word : List ℕ) (replay : TextReplay) (setting : Setting) (events : List Event) (n : ℕ) → HasPlayed replay setting events → n ≡ length events
+pub ends_some : (word : List ℕ) (replay : QuietReplay) (setting : Setting) (events : List Event) (n : ℕ) → HasPlayed replay setting events → n ≡ length events
     → n ≢ 0 → ComesTo (part_work word setting) setting replay events (end_step (part_work word setting) events) (Ok false)
 ends_some word replay setting [] n played is some = absurd (some is)
 ends_some word replay setting (e ∷ events) n played is some = (refl, played)
 
-pub ends_none : (word : List ℕ) (replay : TextReplay) (setting : Setting) (events : List Event) (n : ℕ) (result : Result Bool SetupError)
+pub ends_none : (word : List ℕ) (replay : QuietReplay) (setting : Setting) (events : List Event) (n : ℕ) (result : Result Bool SetupError)
     → n ≡ length events → n ≡ 0
     → ComesTo (part_work word setting) setting replay events (refused_step (part_work word setting) events (codes "NoEnd")) result
     → ComesTo (part_work word setting) setting replay events (end_step (part_work word setting) events) result

@@ -7,10 +7,11 @@ use Rattle.sd_fleet.specs.History.World.{setting_over}
 use Rattle.sd_proof_resume.specs.Shifts.{Shift}
 use Rattle.sd_proof_resume.specs.Law.{whole}
 use Rattle.sd_resume.specs.Differences.{Opens}
-use Rattle.sd_ctl_resume.specs.Played.{HasPlayed, TextReplay}
+use Rattle.sd_replay.specs.Devices.{QuietReplay}
+use Rattle.sd_ctl_resume.specs.Played.{HasPlayed}
 
 -- The replays have played these events, the second over the last plans alone, and its run is an opening for that of the first.
-pub record OpensFor (shift : Shift) (net : Network) (front plans : List Plan) (one other : TextReplay) (events others : List Event) : Type 0 where
+pub record OpensFor (shift : Shift) (net : Network) (front plans : List Plan) (one other : QuietReplay) (events others : List Event) : Type 0 where
   pub behind : shift.plans ≡ length front
   pub first : HasPlayed one (whole net front plans) events
   pub second : HasPlayed other (setting_over net plans) others

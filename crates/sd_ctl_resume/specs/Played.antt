@@ -2,15 +2,11 @@
 use Rattle.std.specs.Prelude.{◌≡◌, ◌<◌, ◌≤◌, ℕ, ◌+◌, ◌^◌, Bool, true, false, List, [], ◌∷◌, length, None, IfSome, Result, Ok, Err, codes}
 use Rattle.sd_outside.specs.Shelves.{KeepsShelf}
 use Rattle.sd_outside.specs.declared.shelf.Shelf as shelves
-use Rattle.sd_core.specs.declared.registers.Registers.{Registers}
-use Rattle.sd_core.specs.contracts.device.DeviceNode.TheImpl.{ghosts as device}
-use Rattle.sd_msg.specs.declared.observer.NoObserver.{NoObserver}
 use Rattle.sd_msg.specs.contracts.observer.NoObserverObserver.TheImpl.{ghosts as nobody}
 use Rattle.sd_sched.specs.declared.Event.{Event}
 use Rattle.sd_sched.specs.Lines.{event_of_line}
 use Rattle.sd_fleet.specs.History.World.{Setting}
-use Rattle.sd_replay.specs.Devices.{HasReplayed}
-use Rattle.sd_replay.specs.declared.replay.Replay.{Replay}
+use Rattle.sd_replay.specs.Devices.{HasReplayed, QuietReplay}
 use Rattle.sd_stream.specs.Reader.{shelf_of, text_left, bytes_before, GoesPast}
 use Rattle.sd_stream.specs.declared.buffer.Buffer.{Buffer}
 use Rattle.sd_stream.specs.declared.reader.LineReader.{LineReader}
@@ -22,21 +18,17 @@ use Rattle.sd_cmd_files.specs.work.Steps.{Step, Next, Last, refused_step}
 use Rattle.sd_cmd_files.specs.work.Works.{Work, reading, refused_line}
 use Rattle.sd_ctl_resume.specs.Parts.{accepted, part_work}
 
--- a replay of devices, which tells nobody of its reports
-abbrev pub TextReplay : Type 0
-TextReplay = Replay Registers NoObserver device nobody
-
 -- the replay stands for a run of devices with these events, the newest first
-abbrev pub HasPlayed : TextReplay → Setting → List Event → Type 0
+abbrev pub HasPlayed : QuietReplay → Setting → List Event → Type 0
 HasPlayed replay setting events = HasReplayed nobody replay setting events
 
 -- each line of the text was accepted, and the replay has played them
-pub record HasRead (word : List ℕ) (setting : Setting) (text : List ℕ) (replay : TextReplay) : Type 0 where
+pub record HasRead (word : List ℕ) (setting : Setting) (text : List ℕ) (replay : QuietReplay) : Type 0 where
   pub whole : (reading (part_work word setting) text).refused ≡ None
   pub played : HasPlayed replay setting (reading (part_work word setting) text).taken
 
 -- the line was accepted, or not
-abbrev pub IsTaken : (replay : TextReplay) (setting : Setting) (events : List Event) (line : List ℕ) → Bool → Type 0
+abbrev pub IsTaken : (replay : QuietReplay) (setting : Setting) (events : List Event) (line : List ℕ) → Bool → Type 0
 IsTaken replay setting events line true =
     (e : Event) × (accepted setting events (event_of_line line) ≡ Ok e) × HasPlayed replay setting (e ∷ events)
 IsTaken replay setting events line false = (accepted setting events (event_of_line line) ≡ Err (codes "Refused")) × HasPlayed replay setting events
@@ -54,7 +46,7 @@ IsInputRefused (Answered answer) = answer.status ≡ InputRefused
 IsInputRefused (Stopped why) = Unit {0}
 
 -- what comes next in a text: an event that happened, the end, a refusal, or what stops a run
-abbrev pub ComesTo : Work Event → Setting → TextReplay → List Event → Step Event → Result Bool SetupError → Type 0
+abbrev pub ComesTo : Work Event → Setting → QuietReplay → List Event → Step Event → Result Bool SetupError → Type 0
 ComesTo work setting new events step (Ok true) = (e : Event) × (step ≡ Next e) × HasPlayed new setting (e ∷ events)
 ComesTo work setting new events step (Ok false) = (step ≡ Last [] Done) × HasPlayed new setting events
 ComesTo work setting new events step (Err (Answered answer)) =
@@ -64,7 +56,7 @@ ComesTo work setting new events step (Err (Stopped ended.Shelf)) = Unit {0}
 ComesTo work setting new events step (Err (Stopped ended.Memory)) = Unit {0}
 
 -- of the work over a text of this name, after the events for which the replay stood
-abbrev pub StepsOn : (word : List ℕ) (old new : TextReplay) → Result Bool SetupError → Work Event → List Event → Step Event → Type 0
+abbrev pub StepsOn : (word : List ℕ) (old new : QuietReplay) → Result Bool SetupError → Work Event → List Event → Step Event → Type 0
 StepsOn word old new result work events step =
     (setting : Setting) → work ≡ part_work word setting → HasPlayed old setting events → ComesTo work setting new events step result
 

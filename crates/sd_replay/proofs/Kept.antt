@@ -1,5 +1,5 @@
 -- What is promised of reports is kept: by each history, and by each replay of devices.
-use Rattle.std.specs.Prelude.{◌≡◌, true, List, [], ◌∷◌, IsTrue, refl}
+use Rattle.std.specs.Prelude.{◌≡◌, true, List, [], ◌∷◌, IfSome, IsTrue, Option, Some, None, Result, Ok, Err, refl}
 use Rattle.std.specs.List.{list_all}
 use Rattle.std.proofs.Common.{sym, ap, ◌∙◌, subst, arith}
 use Rattle.sd_clock.specs.Estimates.{contains}
@@ -8,6 +8,7 @@ use Rattle.sd_core.specs.declared.registers.Registers.{Registers}
 use Rattle.sd_core.specs.contracts.device.DeviceNode.TheImpl.{ghosts}
 use Rattle.sd_sched.specs.declared.Event.{Event}
 use Rattle.sd_history.specs.World.{Setting}
+use Rattle.sd_history.specs.declared.ApplyFault.{ApplyFault}
 use Rattle.sd_history.specs.Steps.{Step, seen_of, events_of}
 use Rattle.sd_history.specs.Nodes.{steps_of}
 use Rattle.sd_history.specs.Chronicle.{chronicle, IsHistory}
@@ -17,6 +18,8 @@ use Rattle.sd_history.proofs.Contained as contained
 use Rattle.sd_history.proofs.Devices.{devices_run, devices_have_history}
 use Rattle.sd_replay.specs.Promises.{ReportsContain}
 use Rattle.sd_replay.specs.Tallies.{lines_that}
+use Rattle.sd_replay.specs.declared.faults.ReplayFault.{ReplayFault}
+use Rattle.sd_replay.specs.declared.faults.ReplayFault.TheVariants as fault
 use Rattle.sd_replay.specs.declared.replay.Replay.{Replay}
 use Rattle.sd_replay.specs.Replaying.{IsStepped}
 use Rattle.sd_replay.specs.Devices.{HasReplayed, DevicesKeepChronicle, is_miss, AllContain, DevicesContain}
@@ -55,6 +58,16 @@ replayed_next o old new setting events e replayed stepped =
       stands = stepped.stands;
       happened = ap (λ (x : Event). x ∷ events_of (steps_of replayed.run)) stepped.happens ∙ ap (λ xs. e ∷ xs) replayed.happened;
     }
+
+-- what went on was not refused
+pub went_on : (result : Result (Unit {0}) ReplayFault) (u : Unit {0}) (why : ReplayFault) → result ≡ Ok u → result ≡ Err why → ⊥
+went_on (Ok u) v why went refused = cc
+went_on (Err w) v why went refused = cc
+
+pub not_refused : (r : Option ApplyFault) (result : Result (Unit {0}) ReplayFault) (u : Unit {0}) → result ≡ Ok u → IfSome r (λ why. result ≡ Err (fault.Apply why))
+    → r ≡ None
+not_refused None result u went refused = refl
+not_refused (Some why) result u went refused = absurd (went_on result u (fault.Apply why) went refused)
 
 -- the steps of a run of devices contain their references while they are honest
 contain : (setting : Setting) (steps : List Step) → IsTrue (list_all (λ r. contains r.report r.reference) (reports steps)) → AllContain setting steps

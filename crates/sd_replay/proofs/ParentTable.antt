@@ -151,6 +151,7 @@ never_some : {A : Type 0} (o : Option A) → ((x : A) → o ≡ Some x → ⊥) 
 never_some None never = refl
 never_some (Some x) never = absurd (never x refl)
 
+-- two functions that agree have the same loops
 same_loop : (p q : ℕ → Option ℕ) → ((d : ℕ) → p d ≡ q d) → (d : ℕ) → IsOnLoop p d → IsOnLoop q d
 same_loop p q same d loop = record { steps = loop.steps; back = sym (same_follow p q same (suc loop.steps) d) ∙ loop.back }
 

@@ -5,7 +5,9 @@ use Rattle.std.specs.List.{list_all}
 use Rattle.sd_clock.specs.Estimates.{contains}
 use Rattle.sd_core.specs.declared.registers.Registers.{Registers}
 use Rattle.sd_core.specs.contracts.device.DeviceNode.TheImpl.{ghosts}
+use Rattle.sd_msg.specs.declared.observer.NoObserver.{NoObserver}
 use Rattle.sd_msg.specs.declared.observer.Observer as observers
+use Rattle.sd_msg.specs.contracts.observer.NoObserverObserver.TheImpl.{ghosts as nobody}
 use Rattle.sd_history.specs.World.{Setting}
 use Rattle.sd_sched.specs.declared.Event.{Event}
 use Rattle.sd_history.specs.Steps.{Step, seen_of, events_of}
@@ -16,6 +18,10 @@ use Rattle.sd_replay.specs.declared.replay.Replay.{Replay}
 use Rattle.sd_replay.specs.Tallies.{lines_that}
 use Rattle.sd_replay.specs.Replaying.{StandsFor}
 use Rattle.sd_replay.specs.Calm.{IsChronicle, IsCalm}
+
+-- a replay of devices that tells nobody of its reports
+abbrev pub QuietReplay : Type 0
+QuietReplay = Replay Registers NoObserver ghosts nobody
 
 -- the replay of devices stands for a run of these events, the newest first
 pub record HasReplayed {V : Type 0} (o : observers.Ghosts V) (replay : Replay Registers V ghosts o) (setting : Setting) (events : List Event) : Type 0 where
