@@ -11,7 +11,7 @@ use Rattle.sd_sched.specs.Lines.{first_field, number_within}
 use Rattle.sd_sched.specs.declared.LineFault.{LineFault}
 use Rattle.sd_outside.specs.Pieces.{piece_of}
 use Rattle.sd_outside.proofs.Adding.{concat_piece}
-use Rattle.sd_stream.specs.Lines.{lines}
+use Rattle.sd_cmd_files.specs.Stream.Lines.{lines}
 use Rattle.sd_cmd_files.specs.work.Works.{Reading, all_bytes, judged, length_fault, read_on, reading, reading_from, unless_too_long, written_for}
 use Rattle.sd_ctl_merge.specs.Feeds.{behind_number, from_one, log_number, placed, said, said_of, told_in}
 use Rattle.sd_ctl_merge.specs.Growing.{Said, from_of, froms_of, merged, newly_settled, settled, waiting}
