@@ -248,6 +248,7 @@ class Merged(Written):
         for logs, more, reason in (
             ([[said(), said(ref=4)]], (), "a0:2: out of order: its reference is 1 ps before"),
             ([[said(ref=MOST + 1)]], ("--origin", "0"), f"the reference is {MOST + 1} ps of the origin"),
+            ([[said()]], ("--origin", "1us"), "the reference is -999995 ps of the origin"),
             ([[start], [said()]], ("--counters", "life"), "a1:1: two logs have counters of b"),
             ([[start, said(counter_ps=-1)]], ("--counters", "life"), "CounterFalls: the counter is 1 ps less"),
             ([[said("recv", link="rb", epoch=2**32, term=0, round=1)]], (), "is past its limit"),

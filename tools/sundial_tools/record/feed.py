@@ -141,6 +141,8 @@ class Feed:
         lines, past, origin = [], self._past, self.origin
         for number, event in read:
             ref = event.ref - origin
+            if not 0 <= ref <= MOST_NUMBER:
+                within(event, ref, "the reference")
             if ref < past[number]:
                 raise event.refuse(f"late: its reference is {past[number] - ref} ps behind what was told; a greater --horizon waits longer")
             past[number] = ref
@@ -153,8 +155,6 @@ class Feed:
     def _line(self, number: int, event: LogEvent, ref: int) -> str:
         """The line of an event in the compact form."""
         word, device, counter = event.word, event.device, event.counter
-        if not 0 <= ref <= MOST_NUMBER:
-            within(event, ref, "the reference")
         if counter is not None and (self._from_life or not 0 <= counter <= MOST_NUMBER):
             counter = self._counter(number, event, counter)
         if word == "tick" or word == "ask":
