@@ -150,9 +150,12 @@ returns-in-Some-Record-clause-outcome g c =
 
 pub merge_feed-requires : goal.merge_feed-requires
 merge_feed-requires g c =
-    first_served (λ name. IsTrue (g.S.Shelf.serves c.args.shelf.now name)) (names_of (command_of (map string_bytes c.args.words.now)))
-    c.in-Some-Merge.feed.now []
-    (ap names_of (ap (λ (x : Parsed). Some (named x)) (sym c.in-Some-Merge.field-0-is) ∙ c.in-Some-Merge.ensures.is)) c.requires
+    record {
+      feed =
+          first_served (λ name. IsTrue (g.S.Shelf.serves c.args.shelf.now name)) (names_of (command_of (map string_bytes c.args.words.now)))
+          c.in-Some-Merge.feed.now []
+          (ap names_of (ap (λ (x : Parsed). Some (named x)) (sym c.in-Some-Merge.field-0-is) ∙ c.in-Some-Merge.ensures.is)) c.requires;
+    }
 
 pub returns-in-Some-Merge-clause-outcome : goal.returns-in-Some-Merge-clause-outcome
 returns-in-Some-Merge-clause-outcome g c =
