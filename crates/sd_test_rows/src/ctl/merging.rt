@@ -61,16 +61,10 @@ fn a_refused_line_of_a_feed_is_named(rt: HostRuntime) -> Result<(), Fail> {
         ("3 ask 5 0 5\n", "input feed 1 UnknownLog\n"),
         ("0 ask 5 0 5\n", "input feed 1 UnknownLog\n"),
         ("ask 5 0 5\n", "input feed 1 UnknownLog\n"),
-        (
-            "1 ask 5 0 5\n1 ask 4 0 4\n",
-            "input feed 2 OutOfOrder\n",
-        ),
+        ("1 ask 5 0 5\n1 ask 4 0 4\n", "input feed 2 OutOfOrder\n"),
         ("1 past 5\n1 ask 4 0 4\n", "input feed 2 OutOfOrder\n"),
         ("1 past x\n", "input feed 1 Number 1\n"),
-        (
-            "1 past 1152921504606846977\n",
-            "input feed 1 Number 1\n",
-        ),
+        ("1 past 1152921504606846977\n", "input feed 1 Number 1\n"),
         ("1 past\n", "input feed 1 FieldCount\n"),
         ("1 past 5 6\n", "input feed 1 FieldCount\n"),
         ("1 ask 5 0\n", "input feed 1 FieldCount\n"),
