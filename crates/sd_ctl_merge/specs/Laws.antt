@@ -24,8 +24,8 @@ IsFrontOf {A = A} front whole = (others : List A) × (whole ≡ front ++ others)
 abbrev pub StaysSettled : (count : ℕ) → Type 0
 StaysSettled count = (taken later : List Said) → GoesOn count taken later → IsFrontOf (settled count taken) (merged count (later ++ taken))
 
--- what is written of a feed: for its lines what they have settled, and where it is not refused all lines of all logs, merged; the lines that were taken may follow
--- each other
+-- What is written of a feed. For its lines that is what they have settled. Where the feed is not refused, it is all lines of all logs, merged. Each line that
+-- was taken is one with which the feed may go on.
 pub record WritesMerge (count : ℕ) (text : List ℕ) : Type 0 where
   pub goes_on : GoesOn count [] (reading (merge_work count) text).taken
   pub front : all_bytes (merge_work count) (reading (merge_work count) text).taken ≡ text_of_lines (settled count (reading (merge_work count) text).taken)

@@ -7,8 +7,8 @@
 //! LOG past REF   this log brings nothing before the reference any more
 //! ```
 //!
-//! Before the next line of the feed is read, each line of a log is written that no log can bring
-//! an earlier one for.
+//! Each line of a log before which no log can bring another is written before the next line of the
+//! feed is read.
 #![tactic(auto)]
 
 mod feed;

@@ -13,7 +13,7 @@ use Rattle.sd_ctl_record.specs.Losing.{next_lost}
 use Rattle.sd_ctl_record.specs.Naming.{event_in}
 use Rattle.sd_ctl_record.specs.declared.endings.Ending.{Ending}
 
--- the event is refused: it is not memory that was wanting
+-- the event is refused, and not out of memory
 abbrev pub is_refusal : ApplyFault → Bool
 is_refusal Memory = false
 is_refusal _ = true

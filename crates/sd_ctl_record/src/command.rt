@@ -44,7 +44,7 @@ pub fn record_files<S: Shelf, O: Sink>(
         (map (λ name. texts_of held name) (map string_bytes files.entry.plans.now))
         (texts_of held files.entry.log.now))
         (O.written out.old) (O.written out.new) result) }
-    // What is written for a line is the lawful record of its entry, and is accepted.
+    // The history that each accepted line leaves is the lawful record of its entry, and accepted.
     ensures lawful { LogIsRecorded }
     ensures gives { IfOk result (λ status. IsTrue
         (is_among (Status.Done ∷ Status.PlanRefused ∷ Status.InputRefused ∷ []) status)) }

@@ -30,7 +30,7 @@ fn add_line(alloc: Global, text: &mut Vec<u8>, event: &Event) -> Result<(), NoMe
     }
 }
 
-/// Whether an event is refused, and it is not memory that was wanting.
+/// Whether an event is refused, and not out of memory.
 fn is_refusal(fault: ApplyFault) -> bool
     ensures { result ≡ words.is_refusal fault }
 {

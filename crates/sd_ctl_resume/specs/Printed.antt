@@ -10,7 +10,7 @@ use Rattle.sd_resume.specs.declared.differences.Dishonesty.TheVariants as dishon
 use Rattle.sd_resume.specs.declared.differences.Register.{Register}
 use Rattle.sd_resume.specs.declared.differences.Register.TheVariants as register
 
--- the opening stands for the schedule, and so many events they have
+-- the opening stands for the schedule and is honest, and so many events they have
 abbrev pub agree_line : ℕ → ℕ → List ℕ
 agree_line one other = text_of (codes "agree" ∷ decimal one ∷ decimal other ∷ [])
 

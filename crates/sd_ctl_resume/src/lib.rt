@@ -1,5 +1,5 @@
-//! `resume` of the second program: whether an opening stands for a schedule, so that all later
-//! events are the same behind both.
+//! `resume` of the second program: whether an opening stands for a schedule and is honest. Then all
+//! later events are the same behind both, and what breaks behind it is broken behind the schedule.
 //!
 //! Both texts are replayed, and `sd_resume` compares the fleets of devices and the premises.
 #![tactic(auto)]

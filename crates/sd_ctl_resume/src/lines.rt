@@ -7,7 +7,7 @@ use sd_resume::{Difference, Dishonesty, Register};
 use sd_topo::Thing;
 use std::alloc::{AllocError, Global};
 
-/// The opening stands for the schedule, and so many events they have.
+/// The opening stands for the schedule and is honest, and so many events they have.
 pub(crate) fn agree_line(alloc: Global, one: u64, other: u64) -> Result<String, AllocError>
     ensures { IfOk result (λ line. string_bytes line ≡ words.agree_line one other) }
 {

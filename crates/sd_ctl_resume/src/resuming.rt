@@ -38,8 +38,9 @@ pub struct Files<'w> {
     pub opening: &'w str,
 }
 
-/// Plays a schedule and an opening, and says whether the opening stands for the schedule, so that
-/// all later events are the same behind both; or in what they differ.
+/// Plays a schedule and an opening, and says whether the opening stands for the schedule and is
+/// honest: then all later events are the same behind both, and what breaks behind the opening is
+/// broken behind the schedule. Or in what they differ.
 pub fn resume<S: Shelf>(
     alloc: Global,
     shelf: &mut S,

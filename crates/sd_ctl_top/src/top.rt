@@ -32,8 +32,9 @@ pub fn run<S: Shelf, O: Sink>(alloc: Global, words: &[String], shelf: &mut S, ou
     // Over a shelf that tells its texts: what the words write and answer. A plan is printed only
     // where the checker accepts it, and it leaves out just what is absent. No plan is printed only
     // where the checker refuses the greedy one too: what `sundial plan` prints, or `sundial renew`.
-    // It is printed that an opening agrees only where all later events are the same behind both. Of
-    // a recording each line of the log has its lines of the schedule by one write, and of a merge
+    // It is printed that an opening agrees only where all later events that may follow both are the
+    // same behind both, and what breaks behind the opening is broken behind the schedule. Of a
+    // recording each line of the log has its lines of the schedule by one write, and of a merge
     // each line of the feed the lines of logs that it has settled.
     ensures outcome { MeetsOutcome (S.held shelf.old) (map string_bytes words.now)
         (O.written out.old) (O.written out.new) result }

@@ -36,8 +36,8 @@ pub record SaysTheSameLater (time : ℕ) (setting : Setting) (one other : List E
   pub reports : reports (chronicle setting one) ≡ map (moved_report_at time) (reports (chronicle setting other))
   pub broken : broken_in setting (seen_of (chronicle setting one)) ≡ broken_in setting (seen_of (chronicle setting other))
 
--- Greater counters change nothing, where each life of each device has one number by which they are greater. Of one device alone it is a case: there by is
--- 0 for all others, and takes no notice of the life.
+-- Greater counters change nothing, where each life of each device has one number by which they are greater. Of one device alone it is a case: then
+-- `by` is 0 for each other device, whatever the life.
 abbrev pub CountersChangeNothing : Setting → Type 0
 CountersChangeNothing setting = (by : ℕ → ℕ → ℕ) (events : List Event) → SaysTheSame setting (counters_moved by events) events
 

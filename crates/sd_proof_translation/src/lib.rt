@@ -19,8 +19,8 @@
 //! device sends, answers and reports, the lines of each event, and the broken premises.
 //!
 //! A life of a device goes from a start or join to the next. No premise is needed: a rule or a
-//! premise reads differences of times, and of counters of one life. A 0 that stands for a reference
-//! or reading that there is not is compared with a number that is no less.
+//! premise reads differences of times, and of counters of one life. A look-up that finds no
+//! reference or reading gives 0, and that is compared only with numbers that are no less.
 //!
 //! # The route
 //!

@@ -31,7 +31,7 @@ OfHistories first second P =
 
 -- The facts
 
--- how far the counter of the device lay off the reference at least in its present life
+-- the least offsets of the device's readings in its present life
 abbrev pub offsets_in : Setting → List Seen → ℕ → Offsets
 offsets_in setting seen d = least_offsets (rates_of setting.net d).ppm (readings seen d)
 

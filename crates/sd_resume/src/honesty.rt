@@ -1,4 +1,4 @@
-//! Whether an opening is honest: then what breaks behind it breaks behind the first history too.
+//! Whether an opening is honest: then what breaks behind it is broken behind the first history too.
 ghost use Rattle.std.specs.Prelude.{◌≡◌, ◌<◌, ◌^◌, true, false, List, length, OnOk, IfErr};
 ghost use Rattle.sd_fleet.specs.History.World.{Setting, Seen, is_untouched as is_untouched_seen};
 ghost use Rattle.sd_fleet.specs.History.Premises.{all_hold, broken_in};
@@ -10,8 +10,8 @@ use crate::differences::Dishonesty;
 use sd_premise::{BrokenSet, Premises};
 use sd_topo::Thing;
 
-/// Whether the second, an opening, is honest for the first: what breaks behind it breaks behind the
-/// first too. Or the first fact in which it is not. Both are over one network, and look alike.
+/// Whether the second, an opening, is honest for the first: what breaks behind it is broken behind
+/// the first too. Or a fact in which it is not. Both are over one network, and look alike.
 ///
 /// It costs a look at each device and each link.
 pub fn is_honest(first: &Premises, second: &Premises) -> Result<(), Dishonesty>

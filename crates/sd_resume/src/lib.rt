@@ -1,5 +1,5 @@
-//! Where one history may be cut and another begins: a call that decides of two fleets whether all
-//! later events are the same behind both, and one that decides whether the opening is honest.
+//! Where one history may be cut and another begins: a call that says of two fleets that all later
+//! events are the same behind both, or in what they differ; and one that says so of honesty.
 //!
 //! `agrees` compares what the fleets keep. Where it finds no difference, each run of the second is
 //! an opening for each run of the first (`IsOpening` of `sd_proof_resume`), and no message of the
@@ -7,8 +7,8 @@
 //! and reports. Where it names a difference, the two differ in that.
 //!
 //! `is_honest` compares what the monitors of the premises keep. Where it finds nothing, the opening
-//! is honest (`IsHonestOpening`): so what breaks behind it breaks behind the first too. Where it
-//! names a fact, the opening is not honest in that.
+//! is honest (`IsHonestOpening`): so what breaks behind it is broken behind the first too. Where
+//! it names a fact, the opening is not honest in that.
 #![tactic(auto)]
 
 mod comparing;
