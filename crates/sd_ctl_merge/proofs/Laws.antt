@@ -15,7 +15,7 @@ use Rattle.sd_cmd_files.specs.Stream.Lines.{lines}
 use Rattle.sd_cmd_files.specs.work.Works.{Reading, all_bytes, judged, length_fault, read_on, reading, reading_from, unless_too_long, written_for}
 use Rattle.sd_ctl_merge.specs.Feeds.{behind_number, from_one, log_number, placed, said, said_of, told_in}
 use Rattle.sd_ctl_merge.specs.Growing.{Said, from_of, froms_of, merged, newly_settled, settled, waiting}
-use Rattle.sd_ctl_merge.specs.Laws.{GoesOn, IsFrontOf, IsNext, StaysSettled, WritesMerge}
+use Rattle.sd_ctl_merge.specs.Laws.{FeedIsMerged, GoesOn, IsFrontOf, IsNext, StaysSettled, WritesMerge}
 use Rattle.sd_ctl_merge.specs.Lines.{LogLine, settled_by, text_of_lines}
 use Rattle.sd_ctl_merge.specs.Works.{in_words, merge_work}
 use Rattle.sd_ctl_merge.specs.declared.feed.FeedFault.{FeedFault}
@@ -211,3 +211,6 @@ writes_merge count text =
 
     goes : GoesOn count [] r.taken
     goes = took_next count (length text) 0 [] (lines text) tt
+
+pub feed_is_merged : (count : ℕ) → FeedIsMerged count
+feed_is_merged count = record { stays = stays_settled count; writes = writes_merge count }

@@ -31,3 +31,8 @@ pub record WritesMerge (count : ℕ) (text : List ℕ) : Type 0 where
   pub front : all_bytes (merge_work count) (reading (merge_work count) text).taken ≡ text_of_lines (settled count (reading (merge_work count) text).taken)
   pub whole : (reading (merge_work count) text).refused ≡ None
       → written_for (merge_work count) (reading (merge_work count) text) ≡ text_of_lines (merged count (reading (merge_work count) text).taken)
+
+-- whatever a feed of so many logs says: what it settles leads the merge of the logs, however they go on, and what is written of it is the merge
+pub record FeedIsMerged (count : ℕ) : Type 0 where
+  pub stays : StaysSettled count
+  pub writes : (text : List ℕ) → WritesMerge count text

@@ -10,7 +10,7 @@ ghost use Rattle.sd_cmd_files.specs.work.WholeLines.{WritesWhole};
 ghost use Rattle.sd_cmd_files.specs.work.Works.{InSteps, IsOutcome, Work};
 ghost use Rattle.sd_ctl_merge.specs.Doing.{DoesMerge};
 ghost use Rattle.sd_ctl_merge.specs.Growing.{Said};
-ghost use Rattle.sd_ctl_merge.specs.Laws.{StaysSettled, WritesMerge};
+ghost use Rattle.sd_ctl_merge.specs.Laws.{FeedIsMerged};
 ghost use Rattle.sd_ctl_merge.specs.Works.{IsMerging};
 
 use crate::merger::Merger;
@@ -59,8 +59,7 @@ pub fn merge_feed<S: Shelf, O: Sink>(
         (O.written out.old) (O.written out.new) result) }
     // What is written for its lines leads the merge of the logs, however they go on, and all that
     // is written of a feed that is not refused is that merge.
-    ensures lawful { (text : List ℕ) → WritesMerge count text }
-    ensures stays { StaysSettled count }
+    ensures merged { FeedIsMerged count }
     ensures gives { IfOk result
         (λ status. IsTrue (is_among (Status.InputRefused ∷ Status.Done ∷ []) status)) }
     ensures shelf { KeepsShelf S.Shelf (result ≡ Err IoError.Shelf) shelf.old shelf.new }

@@ -1,9 +1,10 @@
 //! `run`: the command of the words.
-ghost use Rattle.std.specs.Prelude.{◌≡◌, ◌⊎◌, false, All, Err, IfOk, IsTrue, None, Ok, map, string_bytes};
+ghost use Rattle.std.specs.Prelude.{◌≡◌, ◌⊎◌, ℕ, false, All, Err, IfOk, IsTrue, None, Ok, map, string_bytes};
 ghost use Rattle.sd_outside.specs.Causes.{RisesFor, Rose};
 ghost use Rattle.sd_outside.specs.Shelves.{KeepsShelf};
 ghost use Rattle.sd_cmd_files.specs.Statuses.{is_among, stop_of};
 ghost use Rattle.sd_cmd_files.specs.Writes.{WritesOnce};
+ghost use Rattle.sd_ctl_merge.specs.Laws.{FeedIsMerged};
 ghost use Rattle.sd_ctl_record.specs.Lawful.{LogIsRecorded};
 ghost use Rattle.sd_ctl_top.specs.Promise.{IsUsageLine, MeetsOutcome, MeetsResult, task_of};
 ghost use Rattle.sd_ctl_top.specs.Words as meaning;
@@ -57,6 +58,10 @@ pub fn run<S: Shelf, O: Sink>(alloc: Global, words: &[String], shelf: &mut S, ou
     // Of the schedule that a recording writes: each line of a log that is accepted is recorded by
     // its event, behind losses alone, and each event is accepted behind those before it.
     ensures lawful { LogIsRecorded }
+
+    // Of what a merge writes: it is the merge of the logs, and what is settled stays so, however the
+    // logs go on.
+    ensures merged { (count : ℕ) → FeedIsMerged count }
 {
     match perform(alloc, words, shelf, out) {
         Ok(status) => status,

@@ -1,6 +1,7 @@
 use Rattle.std.proofs.Common.{inl, map, refl, string_bytes}
 use Rattle.sd_cmd_files.specs.declared.Status.TheVariants.{ShelfFault, SinkFault}
 use Rattle.sd_cmd_files.specs.declared.command_error.IoError.TheVariants as stop
+use Rattle.sd_ctl_merge.proofs.Laws.{feed_is_merged}
 use Rattle.sd_ctl_record.proofs.Lawful.{log_is_recorded}
 use Rattle.sd_ctl_top.specs.Words.{command_of}
 use Rattle.sd_ctl_top.proofs.Meeting.{ended_is, ended_rises, never_stopped, stopped_is, stopped_rises}
@@ -35,3 +36,9 @@ returns-in-Ok-clause-lawful g c = log_is_recorded
 
 pub returns-in-Err-clause-lawful : goal.returns-in-Err-clause-lawful
 returns-in-Err-clause-lawful g c = log_is_recorded
+
+pub returns-in-Ok-clause-merged : goal.returns-in-Ok-clause-merged
+returns-in-Ok-clause-merged g c = feed_is_merged
+
+pub returns-in-Err-clause-merged : goal.returns-in-Err-clause-merged
+returns-in-Err-clause-merged g c = feed_is_merged
