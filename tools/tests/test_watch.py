@@ -1,6 +1,7 @@
 """sundial-watch: what is told while logs grow, also by a watch that is killed and begun anew."""
 
 import contextlib
+import fcntl
 import json
 import os
 import random
@@ -8,6 +9,7 @@ import re
 import resource
 import signal
 import subprocess
+import threading
 import time
 import unittest
 from unittest import mock
@@ -335,11 +337,21 @@ class Told(unittest.TestCase):
                 told.append(line_of(row))
         self.assertEqual(told, lines)
 
+    def test_a_state_that_is_held_for_a_moment(self):
+        """As by a replay that is not yet a program of its own, where its watch was killed."""
+        fabric = self.fabric(2, rounds=12)
+        fabric.write(fabric.lines)
+        fabric.watch().stop()
+        held = os.open(fabric.state / "lock", os.O_RDWR)
+        fcntl.flock(held, fcntl.LOCK_EX)
+        threading.Timer(0.3, lambda: os.close(held)).start()
+        fabric.watch().stop()
+
     def test_what_is_refused(self):
         fabric = self.fabric(2, rounds=12)
         fabric.write(fabric.lines)
         watch = fabric.watch()
-        with self.assertRaisesRegex(ToolError, "another sundial-watch works there"):
+        with mock.patch.object(watcher, "SECONDS_OF_A_START", 0), self.assertRaisesRegex(ToolError, "another sundial-watch works there"):
             fabric.watch()
         watch.stop()
         with self.assertRaisesRegex(ToolError, "logs was another one when this state was begun"):

@@ -33,6 +33,7 @@ from sundial_tools.watch.replaying import Replaying
 from sundial_tools.watch.tail import Bad, Tail
 
 MOST_REFS = 1 << 18
+SECONDS_OF_A_START = 5.0
 PART = re.compile(r"part-(\d{4,})\.(start|journal|txt|told)")
 
 class Options(NamedTuple):
@@ -265,12 +266,21 @@ class Watch(Hooks):
     def _part_file(self, kind: str, part: Optional[int] = None) -> str:
         return self._file(f"part-{part or self._part:04}.{kind}")
 
+    def _hold_state(self) -> None:
+        """Where a watch was killed while it began a replay, that one holds the state until it is a program of its own."""
+        end = time.monotonic() + SECONDS_OF_A_START
+        while True:
+            try:
+                fcntl.flock(self._held, fcntl.LOCK_EX | fcntl.LOCK_NB)
+                return
+            except BlockingIOError:
+                if time.monotonic() > end:
+                    raise ToolError("another sundial-watch works there", self._options.state) from None
+            time.sleep(0.05)
+
     def _hold(self) -> None:
         """Takes the state for this process alone, and compares the inputs with those of earlier runs."""
-        try:
-            fcntl.flock(self._held, fcntl.LOCK_EX | fcntl.LOCK_NB)
-        except BlockingIOError:
-            raise ToolError("another sundial-watch works there", self._options.state) from None
+        self._hold_state()
         options = self._options
         said: Dict[str, Any] = {"logs": options.logs, "counters": "life" if options.from_life else "keep"}
         for key, path in [("topology", options.topology), *((f"plan {place}", it) for place, it in enumerate(options.plans, 1))]:
