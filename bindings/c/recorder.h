@@ -16,8 +16,9 @@
  *   - A log, where they are the names of the topology: docs/RECORD.md. Each device of a fabric has
  *     a recorder of its own, and the operator has one for what no device sees. sundial-record makes
  *     one schedule of all logs.
- *   - A compact log, where `is_compact` is 1, whatever the names are: docs/RECORD.md. Recorders are
- *     as for a log. Its lines are those of a schedule, but for the two that name a message:
+ *   - A compact log, where `is_compact` is 1, whatever the names are: docs/COMPACT-LOGS.md.
+ *     Recorders are as for a log. Its lines are those of a schedule, but for the two that name a
+ *     message:
  *
  *         recv REF DEVICE COUNTER LINK EPOCH TERM ROUND
  *         lose REF DEVICE LINK EPOCH TERM ROUND
