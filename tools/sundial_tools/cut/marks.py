@@ -2,7 +2,7 @@
 
 from __future__ import annotations
 
-from typing import Dict, NamedTuple, Set, Tuple
+from typing import Dict, NamedTuple, Tuple
 
 from sundial_tools.fleet.device import Device
 from sundial_tools.fleet.fleet import Fleet
@@ -31,8 +31,8 @@ class Marks:
         self.fleet = fleet
         self.of: Dict[int, Mark] = {}
         self.set_lines: Dict[int, int] = {}
-        # What failed since the latest closing.
-        self.failed_since: Set[Thing] = set()
+        # What failed since the latest closing, with the reference of its latest failure.
+        self.failed_since: Dict[Thing, int] = {}
 
     def forget(self) -> None:
         self.of.clear()
@@ -58,9 +58,9 @@ class Marks:
     def glance(self, event: Event, done: str) -> None:
         """Keeps what is kept of each event, also where no cut is near."""
         if event.word == "fail":
-            self.failed_since.add((event.thing or "", event.number or 0))
+            self.failed_since[event.thing or "", event.number or 0] = event.ref
         if done == "close":
-            self.failed_since = set()
+            self.failed_since = {}
 
     def _state(self, event: Event) -> Device:
         return self.fleet.devices[event.device or 0]

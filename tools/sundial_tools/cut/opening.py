@@ -2,7 +2,7 @@
 
 from __future__ import annotations
 
-from math import gcd
+from math import gcd, inf
 from typing import Dict, Iterable, List, NamedTuple, Optional, Sequence, Tuple
 
 from sundial_tools.cut.marks import Mark, Marks, Thing
@@ -36,12 +36,13 @@ class Round(NamedTuple):
 class Opening(NamedTuple):
     """The state at a cut: where each member starts, which events follow, and by how much numbers are less behind it.
 
-    `older` are failures of before the latest closing, which the opening leaves out. `way` is how it was found.
+    `failed` has the reference of each failure. `older` are failures of before the latest closing, which the opening leaves
+    out. `way` is how it was found.
     """
 
     starts: Dict[int, Mark]
     kept: List[Kept]
-    failed: List[Thing]
+    failed: Dict[Thing, int]
     older: List[Thing]
     epoch: int
     messages: int
@@ -52,14 +53,23 @@ class Opening(NamedTuple):
         return min(mark.ref for mark in self.starts.values())
 
     def events(self, more: Sequence[Thing] = ()) -> List[Event]:
-        """`more` are those of the `older` failures that count in the part."""
-        fails = [Event("fail", self.first_ref, thing=kind, number=number) for kind, number in [*self.failed, *more]]
+        """`more` are those of the `older` failures that count in the part.
+
+        A failure of before the first start stands there. A later one stands at its reference, so that the opening ends when the
+        part before it does.
+        """
+        first = self.first_ref
+        failed = {**self.failed, **{thing: first for thing in more}}
+        fails: List[Tuple[int, float, Event]] = [
+            (max(first, ref), -1 if ref <= first else inf, Event("fail", max(first, ref), thing=kind, number=number))
+            for (kind, number), ref in failed.items()
+        ]
         begun: List[Tuple[int, float, Event]] = [
             (mark.ref, mark.line, Event("start", mark.ref, device, mark.counter, mark.clock, mark.eps))
             for device, mark in self.starts.items()
         ]
         since = [(it.event.ref, it.line, renumbered(it.event, self.messages)) for it in self.kept]
-        return fails + [event for _, _, event in sorted(begun + since, key=lambda one: one[:2])]
+        return [event for _, _, event in sorted(fails + begun + since, key=lambda one: one[:2])]
 
 
 def renumbered(event: Event, less: int) -> Event:
@@ -213,7 +223,7 @@ def _as_readings(fleet: Fleet, starts: Dict[int, Mark], since: Iterable[Kept]) -
 def _opening(marks: Marks, starts: Dict[int, Mark], kept: List[Kept], messages: int, way: str) -> Opening:
     fleet = marks.fleet
     things = [("device", it) for it in sorted(fleet.failed_devices)] + [("link", it) for it in sorted(fleet.failed_links)]
-    failed = [thing for thing in things if _matters(marks, thing)]
+    failed = {thing: marks.failed_since.get(thing, 0) for thing in things if _matters(marks, thing)}
     return Opening(starts, kept, failed, [it for it in things if it not in failed], fleet.in_force, messages, way)
 
 
