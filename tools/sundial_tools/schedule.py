@@ -13,9 +13,9 @@ MOST_DEVICE = 2**32 - 1
 # (a longer one is past every limit)
 NUMBER = re.compile(r"0|[1-9][0-9]{0,39}")
 
-_NUMBER, _DEVICE = "(0|[1-9][0-9]{0,17})", "(0|[1-9][0-9]{0,8})"
+USUAL_NUMBER, USUAL_DEVICE = "(0|[1-9][0-9]{0,17})", "(0|[1-9][0-9]{0,8})"
 # Nearly all lines of a schedule are of these forms, with numbers below 10^18, and devices below 10^9.
-USUAL = re.compile(f"(tick|ask|recv) {_NUMBER} {_DEVICE} {_NUMBER}(?: {_NUMBER})?")
+USUAL = re.compile(f"(tick|ask|recv) {USUAL_NUMBER} {USUAL_DEVICE} {USUAL_NUMBER}(?: {USUAL_NUMBER})?")
 
 # The fields of each word, behind REF.
 FIELDS: Dict[str, Tuple[str, ...]] = {

@@ -14,8 +14,8 @@ import sys
 import support
 
 from sundial_tools.plan import read_plan
+from sundial_tools.record.events import NO_STAMP, NONE, LogEvent
 from sundial_tools.record.fleet import JudgedFleet, Refusal
-from sundial_tools.record.logs import NO_STAMP, NONE, LogEvent
 from sundial_tools.schedule import open_schedule, read_schedule
 from sundial_tools.topology import read_topology
 
@@ -70,6 +70,19 @@ def write(logs, directory):
         path.write_text("".join(json.dumps(said) + "\n" for said in lines))
         paths.append(path)
     return paths
+
+
+def compact(topology, said):
+    """The line of a compact log that says the same, with its newline."""
+    devices, links = topology.device_numbers, topology.link_numbers
+    numbers = {"device": devices.get(said.get("device")), "link": links.get(said.get("link"))}
+    words = [said["event"], said["reference_ps"]]
+    if said["event"] in ("fail", "mend"):
+        words += next([thing, numbers[thing]] for thing in ("device", "link") if thing in said)
+    else:
+        keys = ("device", "counter_ps", "clock_ps", "eps_ps", "link", "epoch", "term", "round")
+        words += [numbers.get(key, said[key]) for key in keys if key in said]
+    return " ".join(map(str, words)) + "\n"
 
 
 def main(words):

@@ -10,7 +10,7 @@ from support import run_tool
 
 from sundial_tools.errors import ToolError
 from sundial_tools.plan import read_plan
-from sundial_tools.record.compact import parse_entry
+from sundial_tools.record.compact_lines import parse_entry
 from sundial_tools.record.fleet import JudgedFleet, Refusal
 from sundial_tools.schedule import event_line
 from sundial_tools.topology import read_topology

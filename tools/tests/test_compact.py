@@ -253,7 +253,7 @@ class Merged(Written):
             ([[start, said(counter_ps=-1)]], ("--counters", "life"), "CounterFalls: the counter is 1 ps less"),
             ([[said("recv", link="rb", epoch=2**32, term=0, round=1)]], (), "is past its limit"),
             ([[]], (), "the logs have no event"),
-            ([["tick"]], (), "a0:1: no JSON object"),
+            ([["tick"]], (), "a0:1: UnknownWord: "),
         ):
             with self.subTest(reason), directory() as path:
                 for place, lines in enumerate(logs):

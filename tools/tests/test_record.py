@@ -283,7 +283,7 @@ class BadLogs(unittest.TestCase):
 
     def test_lines_that_are_no_events(self):
         for line, reason in (
-            ("[]", "x.jsonl:1: no JSON object"),
+            ("[]", "x.jsonl:1: UnknownWord: '[]' begins neither a JSON object nor a line of a compact log"),
             ('{"event": "send", "reference_ns": 0}', "event is 'send', and has to be one of start"),
             ('{"event": "tick", "device": "x", "reference_ns": 0}', "tick needs counter_ns"),
             ('{"event": "tick", "device": "x", "counter_ns": 0}', "tick needs reference_ns"),

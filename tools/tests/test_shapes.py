@@ -51,7 +51,7 @@ class Shapes(unittest.TestCase):
     def both(self, log, text):
         """The line by the learned forms, and by the reader of JSON alone."""
         plain = Log("log", TOPOLOGY)
-        self.assertEqual(read(log._event, text), read(plain._decoded_event, text), text)
+        self.assertEqual(read(log._event, text), read(plain._unusual_event, text), text)
 
     def test_random_lines(self):
         draw = random.Random(3)

@@ -13,8 +13,9 @@ from collections import deque
 from typing import Callable, Deque, Dict, List, Optional, Sequence, TextIO, Tuple
 
 from sundial_tools.errors import ToolError
-from sundial_tools.record.compact import compact_line, message_name
-from sundial_tools.record.logs import NONE, Log, LogEvent
+from sundial_tools.record.compact_lines import compact_line, message_name
+from sundial_tools.record.events import NONE, LogEvent
+from sundial_tools.record.logs import Log
 from sundial_tools.record.recorder import origin_before, placed, since_begin, within
 from sundial_tools.schedule import MOST_DEVICE, MOST_NUMBER, Event
 from sundial_tools.topology import Topology

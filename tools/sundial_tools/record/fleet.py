@@ -9,7 +9,8 @@ from typing import Dict, List, Optional, Sequence, Set, Union
 
 from sundial_tools.fleet.fleet import Fleet
 from sundial_tools.plan import Plan
-from sundial_tools.record.logs import NONE, USUAL, LogEvent
+from sundial_tools.record.events import NONE, LogEvent
+from sundial_tools.record.logs import USUAL
 from sundial_tools.schedule import Event
 from sundial_tools.topology import Topology
 

@@ -1,13 +1,15 @@
-"""Logs of devices, one JSON object a line: docs/RECORD.md."""
+"""Logs of devices, one event a line: a JSON object (docs/RECORD.md), or a line of a compact log (docs/COMPACT-LOGS.md)."""
 
 from __future__ import annotations
 
 import json
 import sys
 from decimal import Context, Decimal
-from typing import Any, Callable, Dict, Iterator, List, NamedTuple, Optional, TextIO, Tuple
+from typing import Any, Callable, Dict, Iterator, List, Optional, TextIO, Tuple
 
 from sundial_tools.errors import ToolError
+from sundial_tools.record.compact_lines import MOST_LINE, WORDS, parse_entry, usual_entry
+from sundial_tools.record.events import NO_STAMP, NONE, LogEvent
 from sundial_tools.record.shapes import Shape, Unit, shape_of
 from sundial_tools.schedule import FIELDS
 from sundial_tools.times import PICOSECONDS
@@ -18,14 +20,14 @@ TIMES = {word: tuple(name for name in fields if name in ("counter", "clock", "ep
 OF_A_DEVICE = frozenset(word for word, fields in FIELDS.items() if "device" in fields) | {"lose"}
 USUAL = frozenset(("tick", "ask", "recv"))
 OF_A_THING = frozenset(("fail", "mend"))
-NONE = -1
-NO_STAMP = (NONE, NONE)
 EXACT = Context(prec=200)
 DECODER = json.JSONDecoder(parse_float=Decimal)
 # The reader behind it, which does not look for spaces before and behind.
 SCAN: "Callable[[str, int], Tuple[Any, int]]" = getattr(DECODER, "scan_once")
 MOST_DIGITS = 40
+SPACES = " \t\r\n"
 MOST_SHAPES = 8
+MOST_SHOWN = 40
 UNITS: Dict[str, Tuple[Unit, ...]] = {
     stem: tuple((f"{stem}_{unit}", factor) for unit, factor in PICOSECONDS.items())
     for stem in ("reference", "counter", "clock", "eps")
@@ -41,36 +43,13 @@ def _decoded(text: str) -> Any:
     return value if text[end:] in ("\n", "") else DECODER.decode(text)
 
 
-class LogEvent(NamedTuple):
-    """One line of a log. Times are picoseconds as the log has them, before any origin.
-
-    A device, link, epoch, stamp, thing or number that its word does not have is NONE, NO_STAMP or "".
-    """
-
-    word: str
-    ref: int
-    device: int
-    counter: Optional[int]
-    clock: Optional[int]
-    eps: Optional[int]
-    link: int
-    epoch: int
-    stamp: Tuple[int, int]
-    thing: str
-    number: int
-    source: str
-    line: int
-
-    def refuse(self, reason: str) -> ToolError:
-        return ToolError(reason, self.source, self.line)
-
-
 class Log:
     """The events of one file, one after the other, in order of their references."""
 
     def __init__(self, path: str, topology: Topology) -> None:
         self._path = "standard input" if path == "-" else path
         self._devices, self._links = topology.device_numbers, topology.link_numbers
+        self._device_count, self._link_count = len(topology.devices), len(topology.links)
         # The forms of ticks, asks and receipts that were read: a log has few.
         self._shapes: List[Shape] = []
 
@@ -90,7 +69,9 @@ class Log:
                 yield event
 
     def _open(self) -> TextIO:
-        return sys.stdin if self._path == "standard input" else open(self._path, encoding="utf-8")
+        is_file = self._path != "standard input"
+        # (a line ends with its newline alone, as for the proved programs)
+        return open(self._path if is_file else sys.stdin.fileno(), encoding="utf-8", newline="\n", closefd=is_file)
 
     def _refuse(self, reason: str, line: int) -> ToolError:
         return ToolError(reason, self._path, line)
@@ -121,17 +102,41 @@ class Log:
             return tuple.__new__(LogEvent, (
                 word, ref, device, counter, None, None, NONE, NONE, NO_STAMP, "", NONE, self._path, line
             ))
-        return self._decoded_event(text, line)
+        event = usual_entry(text, self._path, line, self._device_count, self._link_count)
+        return event if event is not None else self._unusual_event(text, line)
+
+    def _entry(self, text: str, line: int) -> LogEvent:
+        """The event of a line of a compact log."""
+        entry = text[:-1] if text.endswith("\n") else text
+        if len(entry) > MOST_LINE:
+            raise self._refuse(f"LongLine: a line of a compact log has at most {MOST_LINE} bytes", line)
+        word = entry.partition(" ")[0]
+        if word not in WORDS:
+            raise self._refuse(f"UnknownWord: {word[:MOST_SHOWN]!r} begins neither a JSON object nor a line of a compact log", line)
+        return self._known(parse_entry(entry, self._path, line))
+
+    def _known(self, event: LogEvent) -> LogEvent:
+        """The event of a compact log, where the topology has its device and its link."""
+        if event.device >= self._device_count:
+            raise event.refuse(f"there is no device {event.device} in the topology")
+        if event.link >= self._link_count:
+            raise event.refuse(f"there is no link {event.link} in the topology")
+        if event.thing and event.number >= (self._device_count if event.thing == "device" else self._link_count):
+            raise event.refuse(f"there is no {event.thing} {event.number} in the topology")
+        return event
+
+    def _unusual_event(self, text: str, line: int) -> LogEvent:
+        """The event of a line of no form that is known by now."""
+        return self._decoded_event(text, line) if text.lstrip(SPACES)[:1] == "{" else self._entry(text, line)
 
     def _decoded_event(self, text: str, line: int) -> LogEvent:
+        """The event of a line that begins a JSON object."""
         try:
             said = _decoded(text)
         except json.JSONDecodeError as fault:
             raise self._refuse(f"no JSON, or cut short: {fault.msg} at column {fault.colno}", line) from None
         except (ValueError, ArithmeticError, RecursionError):
             raise self._refuse("a number is too long, or objects are too deep", line) from None
-        if not isinstance(said, dict):
-            raise self._refuse("no JSON object", line)
         word = said.get("event")
         if not isinstance(word, str) or word not in FIELDS:
             raise self._refuse(f"event is {word!r}, and has to be one of {', '.join(FIELDS)}", line)

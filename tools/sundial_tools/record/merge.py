@@ -5,8 +5,8 @@ from __future__ import annotations
 import heapq
 from typing import Callable, Iterable, Iterator, List, Optional, Tuple
 
+from sundial_tools.record.events import LogEvent
 from sundial_tools.record.fleet import Refusal
-from sundial_tools.record.logs import LogEvent
 
 RANKS = {
     word: rank

@@ -6,8 +6,9 @@ from typing import Callable, Dict, Iterable, List, Mapping, Optional, Sequence, 
 
 from sundial_tools.errors import ToolError
 from sundial_tools.plan import Plan
+from sundial_tools.record.events import LogEvent
 from sundial_tools.record.fleet import JudgedFleet, Refusal
-from sundial_tools.record.logs import USUAL, LogEvent
+from sundial_tools.record.logs import USUAL
 from sundial_tools.record.merge import Merge
 from sundial_tools.schedule import MOST_NUMBER, Event, event_line
 from sundial_tools.topology import Topology

@@ -7,8 +7,8 @@ from typing import Any, Callable, Dict, Optional, Sequence, cast
 from sundial_tools.cut.cutter import NEVER, Cutter, rounds_before
 from sundial_tools.cut.opening import Opening
 from sundial_tools.plan import Plan
+from sundial_tools.record.events import LogEvent
 from sundial_tools.record.fleet import JudgedFleet, Refusal
-from sundial_tools.record.logs import LogEvent
 from sundial_tools.record.recorder import Recorder
 from sundial_tools.schedule import Event
 from sundial_tools.topology import Topology

@@ -9,7 +9,8 @@ from collections import deque
 from typing import Any, Deque, List, NamedTuple, Optional, Tuple
 
 from sundial_tools.errors import ToolError
-from sundial_tools.record.logs import Log, LogEvent
+from sundial_tools.record.events import LogEvent
+from sundial_tools.record.logs import Log
 from sundial_tools.topology import Topology
 from sundial_tools.watch.journal import Place
 

@@ -20,8 +20,8 @@ from sundial_tools.errors import ToolError
 from sundial_tools.fleet.device import ACTING
 from sundial_tools.outputs import parse_line
 from sundial_tools.plan import Plan
+from sundial_tools.record.events import NONE, NO_STAMP, LogEvent
 from sundial_tools.record.fleet import Refusal
-from sundial_tools.record.logs import NONE, NO_STAMP, LogEvent
 from sundial_tools.record.merge import Merge
 from sundial_tools.record.recorder import MOST_EVENTS, origin_before
 from sundial_tools.schedule import Event, event_line, parse_event

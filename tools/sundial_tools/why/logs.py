@@ -5,9 +5,9 @@ from __future__ import annotations
 from typing import Iterator, Optional, Sequence
 
 from sundial_tools.errors import ToolError
-from sundial_tools.record.compact import WORDS, parse_entry
+from sundial_tools.record.compact_lines import WORDS, parse_entry
+from sundial_tools.record.events import LogEvent
 from sundial_tools.record.fleet import JudgedFleet, Refusal
-from sundial_tools.record.logs import LogEvent
 from sundial_tools.why.course import Course
 from sundial_tools.why.schedules import ENDS, FORMS, Lines, shown
 
