@@ -88,10 +88,10 @@ def _parser() -> argparse.ArgumentParser:
     parser = argparse.ArgumentParser(
         prog="sundial-record",
         description="Makes a schedule of the logs of devices, for sundial replay and sundial order.",
-        epilog="docs/RECORD.md has the form of the logs. A time is a number with ps, ns, us, ms or s.",
+        epilog="docs/RECORD.md has the form of the logs, and docs/COMPACT-LOGS.md the compact one. A time is a number with ps, ns, us, ms or s.",
     )
     parser.add_argument("topology", metavar="TOPOLOGY")
-    parser.add_argument("logs", nargs="+", metavar="LOG", help="JSON lines; each log in the order of its references; - is standard input")
+    parser.add_argument("logs", nargs="+", metavar="LOG", help="JSON lines, or a compact log; each log in the order of its references; - is standard input")
     parser.add_argument("--plan", "-p", action="append", default=[], metavar="PLAN", help="a plan, in the order of the command replay")
     parser.add_argument("--origin", type=_time, help="the time that is 0 in the schedule (default: a whole second before the first reference)")
     parser.add_argument("--counters", choices=("keep", "life"), default="keep", help="keep counters, or count from each start and join")

@@ -131,7 +131,7 @@ def _parser() -> argparse.ArgumentParser:
         epilog="docs/WATCH.md has the files, the metrics and what to do with them.",
     )
     parser.add_argument("topology", metavar="TOPOLOGY")
-    parser.add_argument("logs", nargs="+", metavar="LOG", help="JSON lines, as of sundial-record: a file that grows, a FIFO, or - for standard input")
+    parser.add_argument("logs", nargs="+", metavar="LOG", help="JSON lines or a compact log, as of sundial-record: a file that grows, a FIFO, or - for standard input")
     parser.add_argument("--plan", "-p", action="append", required=True, metavar="PLAN", help="a plan, in the order of the command replay")
     parser.add_argument("--output", "-o", required=True, metavar="DIRECTORY", help="the state: what was reported, and what is needed to go on")
     parser.add_argument("--prometheus", metavar="FILE", help="write the metrics there, once a second and when something breaks")
