@@ -57,7 +57,8 @@ merger=$(with_word merge)
 recorder=$(with_word record)
 
 # The compact logs of the operator and the devices, merged, and the schedule that is made of that. The
-# merge is the one by `sort`, and the log that sundial-record makes of the log with names.
+# merge is the one by `sort`, the log that sundial-record makes of the log with names, and the merge of
+# the feed that it writes of the compact logs.
 record_compact() {
     local log number=0 logs=()
     "$work/embed" "$1" "$work/own" compact > "$work/logged" && cmp "$work/told" "$work/logged" || return 1
@@ -69,6 +70,8 @@ record_compact() {
     "$merger" merge "$number" "$work/feed" > "$work/merged" \
         && LC_ALL=C sort -m -s -n -k 2,2 "${logs[@]}" | cmp "$work/merged" \
         && of_log --compact | cmp "$work/merged" \
+        && ../../tools/sundial-record topology.toml "${logs[@]}" --origin 0 --feed 2> "$work/said" \
+            | "$merger" merge "$number" /dev/stdin | cmp "$work/merged" \
         && "$recorder" record topology.toml plan-1.json plan-2.json plan-3.json "$work/merged" > "$work/recorded" \
         && cmp "$work/schedule" "$work/recorded"
 }

@@ -77,11 +77,11 @@ def parse_event(line: str, source: Optional[str] = None, number: Optional[int] =
         raise ToolError(f"UnknownWord: {words[0]!r} is no event of a schedule", source, number)
     if len(words) != len(names) + 2:
         raise ToolError(f"FieldCount: {words[0]} has {len(names) + 1} fields", source, number)
+    if "thing" in names and words[2] not in ("device", "link"):
+        raise ToolError(f"UnknownWord: {words[2]!r} is neither device nor link", source, number)
     values: Dict[str, Any] = {}
     for place, (name, word) in enumerate(zip(("ref",) + names, words[1:]), 1):
         if name == "thing":
-            if word not in ("device", "link"):
-                raise ToolError(f"UnknownWord: {word!r} is neither device nor link", source, number)
             values[name] = word
             continue
         most = MOST_DEVICE if name in ("device", "number") else MOST_NUMBER
