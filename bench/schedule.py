@@ -4,7 +4,7 @@
 usage: bench/schedule.py --network LEAVES SPINES > TOPOLOGY
        bench/schedule.py PLAN PLAN ROUNDS < TOPOLOGY > SCHEDULE
 
-The network and the course of things are those of docs/CASE.md, drawn with other words, and at any length: in each
+The network and the course of things are those of a case (docs/QUICKSTART.md), drawn with other words, and at any length: in each
 round of 50 us messages arrive and then each device ticks. In round 21 the root fails, in round 150 the second plan is
 staged, given and committed, in round 160 it is sealed. One message of every eighth round is lost. The devices are a
 small program of their own here: what they do is what docs/RULES.md says of them.

@@ -26,17 +26,18 @@
  *              is answered by NO_DEVICE; another change within the limits goes unseen.
  *   - message: it arrives as it was sent, over the link that it was sent over, at the device that it
  *              was sent to, and nobody forges one. A device gets none that was sent before it started
- *              or joined, or while its link was down or before that. So drop what comes over a link
- *              while it is down, and after a start, a join and a mend until the link is clear of older
- *              messages (sundial_clear_after).
+ *              or joined, or while its link was down or before that. Nothing in a message says when it
+ *              was sent, so ask sundial_port_takes first, and drop the message where it answers 0.
  *   - start:   a clock that you set (start, join, fix) is within the eps that you give of the
  *              reference time.
  *   - drift:   while the counter advances by x ps, the reference time advances by x, plus or minus
  *              x * ppm / 1000000 + grain.
  *   - delay:   a message takes from mid - half to mid + half ps over its link, from the reading of
  *              the sender's counter in the call that sent it to the reading of the receiver's.
- *   - tick:    two ticks of a device are at most the topology's `tick` apart.
- *   - loss:    no more rounds of the root in a row are lost than the topology's `loss`.
+ *   - tick:    two ticks of a device are at most the topology's `tick` apart, over a restart of its
+ *              process too. All devices of the first plan start within one `tick` of the first event.
+ *   - loss:    no more rounds of the root in a row are lost than the topology's `loss`. A round is the
+ *              fabric's: it is lost where one device misses it. A mend, a join or a restart may cost one.
  *   - domain:  at most one fault domain fails between two renewals.
  *   - renew:   a renewal keeps its order: the duties to all, the commit by the root that acts, and
  *              the seals once all have gone over.
@@ -58,19 +59,22 @@
  * call may write overlaps another object of that call. Calls on different devices may run at once.
  * So may calls on one device that take it as `const`. A call that changes a device runs alone on it.
  *
- * A message counts once. A device accepts only a message that is newer than all it accepted before,
- * so a duplicate is answered by SUNDIAL_DONE, changes nothing and sends nothing. This is proved of any
- * calls in between but one: a give of the message's own plan, after which the message would make the
- * device take up that duty, however old its stamp. So give the duties of a plan before its commit, and
- * do not restore an old device.
+ * A message counts once. A device accepts only a message that is newer than all it accepted before. So
+ * a copy of a message that it accepted is answered by SUNDIAL_DONE, changes nothing and sends nothing.
+ * This is proved of any calls in between but one: a give of the message's own plan, after which the
+ * message would make the device take up that duty, however old its stamp. So give the duties of a plan
+ * before its commit, and do not restore an old device. A copy of a message that it did not accept may
+ * count: the first came over the link to its backup parent, say, and the device moved there since. Then
+ * the copy is a message that took longer, and has to keep the link's delay all the same.
  *
- * A fleet. Devices that call these functions over a network that keeps the above are what the theorems
- * of docs/PROVED.md speak of: that is proved, too (is_history of sd_proof_deployment). The definition of
- * such a fleet is crates/sd_proof_deployment/specs/Deployment.antt, and docs/EMBED.md has it in words.
+ * A fleet. The theorems of docs/PROVED.md speak of histories. A fleet of any structs and calls that do
+ * as the clauses of these exports say, over a network that keeps the above, is a history: this is proved
+ * (is_history of sd_proof_deployment). That your program calls as such a fleet does is yours to see to.
+ * The definition is crates/sd_proof_deployment/specs/Deployment.antt, and docs/EMBED.md has it in words.
  *
- * A restored device is the latest. Keep the struct after each call and before you send what the
- * call sent, with a checksum: sundial_made finds few wrong bits. A device whose latest struct or
- * whose counter is lost goes on only by sundial_join.
+ * A restored device is the latest. Keep the struct and its ports after each call and before you send
+ * what the call sent, with a checksum: sundial_made finds few wrong bits. A device whose latest struct or
+ * whose counter is lost, or whose latest tick is longer ago than `tick`, goes on only by sundial_join.
  *
  * What ends. Nothing does within a lifetime: a root sends 2^62 rounds, 146000 years at a period of
  * 1 us. Terms end at 2^31: 68 years, if a device takes over or commits anew each second. Plans end at
@@ -78,6 +82,8 @@
  */
 #ifndef SUNDIAL_DEVICE_H
 #define SUNDIAL_DEVICE_H
+
+#define SUNDIAL_VERSION "1.0.0"
 
 #include <stddef.h>
 #include <stdint.h>
@@ -88,6 +94,25 @@ extern "C" {
 #else
 #define SUNDIAL_ASSERT(holds) _Static_assert(holds, #holds)
 #endif
+
+/* The calls that have a body here. bindings/c/sundial.c makes symbols of them. */
+#ifndef SUNDIAL_INLINE
+#define SUNDIAL_INLINE static inline
+#endif
+
+/* The first number of the version, which is raised where a struct or a call changes. A program that is compiled with
+ * this header links with no library that has another. Define SUNDIAL_NO_LIBRARY in one that makes no call of the library,
+ * as a reader of a clock page. */
+uint32_t sundial_version_1(void);
+#ifndef SUNDIAL_NO_LIBRARY
+static uint32_t (*const sundial_version_of_header)(void) __attribute__((used)) = sundial_version_1;
+#endif
+
+/* The version: in libsundial.so its own, and in a program that of its header. */
+SUNDIAL_INLINE const char *sundial_version(void)
+{
+    return SUNDIAL_VERSION;
+}
 
 enum {
     SUNDIAL_DONE = 0,
@@ -349,7 +374,8 @@ uint32_t sundial_receive(struct sundial_device *device, uint32_t link,
  *
  * What is left of the counter is less than the greatest of these: a microsecond; where the device
  * acts as root, the time since it sent; where it waits for a silence, the time since it heard or
- * moved. Call it a few times a year, or whenever the counter passes a limit of your own.
+ * moved. Call it a few times a year, or whenever the counter passes a limit of your own. Whatever else
+ * you keep of this counter falls too: sundial_rebase_with_ports sees to the ports.
  * Faults: NO_DEVICE, COUNTER_FELL, ESTIMATE_TOO_GREAT. */
 uint32_t sundial_rebase(struct sundial_device *device, uint64_t counter, uint64_t *lowered);
 
@@ -372,8 +398,17 @@ uint32_t sundial_acts(const struct sundial_device *device, uint8_t *acts);
  * Faults: NO_DEVICE. */
 uint32_t sundial_epoch(const struct sundial_device *device, uint32_t *epoch);
 
+/* The name of an answer, as "NO_DEVICE". */
+SUNDIAL_INLINE const char *sundial_answer_name(uint32_t answer)
+{
+    static const char *const NAMES[] = {"DONE", "NO_DEVICE", "NO_DUTY", "RATES_TOO_GREAT", "COUNTER_FELL", "unknown",
+                                        "CLOCK_TOO_GREAT", "ESTIMATE_TOO_GREAT", "STAMP_TOO_GREAT",
+                                        "MESSAGE_TOO_GREAT", "NOT_ROOT"};
+    return answer < sizeof NAMES / sizeof NAMES[0] ? NAMES[answer] : "unknown";
+}
+
 /* The earliest reference time that a report allows, in ps: clock - eps, and at least 0. */
-static inline struct sundial_wide sundial_earliest(const struct sundial_clock_report *report)
+SUNDIAL_INLINE struct sundial_wide sundial_earliest(const struct sundial_clock_report *report)
 {
     struct sundial_wide earliest = {0, 0};
     struct sundial_wide clock = report->clock;
@@ -386,7 +421,7 @@ static inline struct sundial_wide sundial_earliest(const struct sundial_clock_re
 }
 
 /* The latest reference time that a report allows, in ps: clock + eps. */
-static inline struct sundial_wide sundial_latest(const struct sundial_clock_report *report)
+SUNDIAL_INLINE struct sundial_wide sundial_latest(const struct sundial_clock_report *report)
 {
     struct sundial_wide latest;
     latest.low = report->clock.low + report->eps.low;
@@ -396,7 +431,7 @@ static inline struct sundial_wide sundial_latest(const struct sundial_clock_repo
 
 /* now(), as a database asks it: the interval in which the reference time lies while the counter
  * shows this. It is that of the report, and has the faults of one. */
-static inline uint32_t sundial_now(const struct sundial_device *device, uint64_t counter,
+SUNDIAL_INLINE uint32_t sundial_now(const struct sundial_device *device, uint64_t counter,
                                    struct sundial_interval *now)
 {
     struct sundial_clock_report report = {{0, 0}, {0, 0}};
@@ -410,7 +445,7 @@ static inline uint32_t sundial_now(const struct sundial_device *device, uint64_t
 
 /* How the device takes part: SUNDIAL_PRIMARY, SUNDIAL_BACKUP, SUNDIAL_ACTING or SUNDIAL_IDLE.
  * Faults: NO_DEVICE. */
-static inline uint32_t sundial_mode(const struct sundial_device *device, uint8_t *mode)
+SUNDIAL_INLINE uint32_t sundial_mode(const struct sundial_device *device, uint8_t *mode)
 {
     uint32_t answer = sundial_made(device);
     if (answer == SUNDIAL_DONE)
@@ -419,8 +454,9 @@ static inline uint32_t sundial_mode(const struct sundial_device *device, uint8_t
 }
 
 /* The age of the estimate: by how much the counter, which shows this, has advanced since the clock was
- * set, by a start, a join, a fix or a message that was accepted. Faults: those of a report. */
-static inline uint32_t sundial_age(const struct sundial_device *device, uint64_t counter, uint64_t *age)
+ * set, by a start, a join, a fix or a message that was accepted, or since its latest rebase. Faults: those
+ * of a report. */
+SUNDIAL_INLINE uint32_t sundial_age(const struct sundial_device *device, uint64_t counter, uint64_t *age)
 {
     struct sundial_clock_report report = {{0, 0}, {0, 0}};
     uint32_t answer = sundial_report(device, counter, &report);
@@ -430,17 +466,73 @@ static inline uint32_t sundial_age(const struct sundial_device *device, uint64_t
 }
 
 /* By how much the counter has to advance after a start, a join or a mend of the link until no older
- * message can come over this edge: then twice its greatest delay, mid + half, has surely passed. Until
- * then drop what comes over it. The oscillator has these rates. All numbers are within their limits. */
-static inline uint64_t sundial_clear_after(const struct sundial_edge *edge, const struct sundial_rates *rates)
+ * message can come over this edge: then twice its greatest delay, mid + half, has surely passed. The
+ * oscillator has these rates. All numbers are within their limits. */
+SUNDIAL_INLINE uint64_t sundial_clear_after(const struct sundial_edge *edge, const struct sundial_rates *rates)
 {
     uint64_t passes = 2 * (edge->mid + edge->half) + rates->grain + 2;
     /* (a counter is at most 100000 ppm fast: so nine tenths of what it shows pass, less the grain) */
     return passes + passes / 9 + 1;
 }
 
+/* A link over which messages come to a device, as its host sees it: whether it takes what comes. One
+ * that was never opened takes nothing, so zeros are a good beginning. Its counters are those of the
+ * device. Keep the ports beside the device. After a restore they go on as they were. */
+struct sundial_port {
+    uint64_t since; /* the counter at its opening, or at a later rebase */
+    uint64_t left;  /* by how much the counter has to advance from there until no older message can come */
+    uint8_t is_open;
+};
+
+/* The device starts or joins while the link works, or the link works again. The edge is the way over it
+ * by the device's duty, or by the duty that it is about to be given. */
+SUNDIAL_INLINE void sundial_port_open(struct sundial_port *port, const struct sundial_edge *edge,
+                                     const struct sundial_rates *rates, uint64_t counter)
+{
+    port->since = counter;
+    port->left = sundial_clear_after(edge, rates);
+    port->is_open = 1;
+}
+
+/* The link is down. */
+SUNDIAL_INLINE void sundial_port_close(struct sundial_port *port)
+{
+    port->is_open = 0;
+}
+
+/* By how much the counter has advanced since the opening or the later rebase. */
+SUNDIAL_INLINE uint64_t sundial_port_passed(const struct sundial_port *port, uint64_t counter)
+{
+    return counter < port->since ? 0 : counter - port->since;
+}
+
+/* 1 where a message that came while the counter showed this may be given to sundial_receive, and 0
+ * where it is to be dropped: it counts as lost. */
+SUNDIAL_INLINE int sundial_port_takes(const struct sundial_port *port, uint64_t counter)
+{
+    return port->is_open != 0 && sundial_port_passed(port, counter) >= port->left;
+}
+
+/* sundial_rebase of the device and of all its ports: after it each port takes what it would have taken.
+ * Faults: those of a rebase. Then nothing is changed. */
+SUNDIAL_INLINE uint32_t sundial_rebase_with_ports(struct sundial_device *device, struct sundial_port *ports,
+                                                 size_t count, uint64_t counter, uint64_t *lowered)
+{
+    uint64_t by = 0;
+    uint32_t answer = sundial_rebase(device, counter, &by);
+    if (answer != SUNDIAL_DONE)
+        return answer;
+    for (size_t i = 0; i < count; i++) {
+        uint64_t passed = sundial_port_passed(&ports[i], counter);
+        ports[i].left = ports[i].left < passed ? 0 : ports[i].left - passed;
+        ports[i].since = counter - by;
+    }
+    *lowered = by;
+    return answer;
+}
+
 /* 1 where the reference time has surely passed the stamp, and else 0: the end of a commit wait. */
-static inline int sundial_has_passed(const struct sundial_interval *now, struct sundial_wide stamp)
+SUNDIAL_INLINE int sundial_has_passed(const struct sundial_interval *now, struct sundial_wide stamp)
 {
     return now->earliest.high > stamp.high
            || (now->earliest.high == stamp.high && now->earliest.low > stamp.low);

@@ -47,6 +47,12 @@ class Bench:
         program = (str(self.program),)
         return Command(program + words, status, first, program + base if base else None, user_only)
 
+    def of(self, program: str, *words: str, status: int = 0) -> Command:
+        """A command of one of the two programs: `sundialctl` is beside `sundial`, or where `./build` leaves it."""
+        beside = self.program.with_name(program)
+        built = self.program.parent.parent.parent / program / "out" / program
+        return Command((str(beside if beside.exists() else built), *words), status)
+
     def plain(self, name: str) -> Optional[Path]:
         """A plain program, built by rustc where there is one: the file of its main module below bench/plain."""
         if name not in self._built:

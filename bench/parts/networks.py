@@ -67,10 +67,10 @@ def domain(name: str, devices: List[str], links: List[str]) -> str:
     return f'[[domain]]\nname = "{name}"\ndevices = [{listed(devices)}]\nlinks = [{listed(links)}]\n'
 
 
-def spines_and_leaves(sizes: Sizes, second_root: str = "s1") -> Iterator[str]:
+def spines_and_leaves(sizes: Sizes, second_root: str = "s1", version: int = 1) -> Iterator[str]:
     """Each leaf is linked to the first two spines and to others in turn. Listed domains are a rack for each leaf, which
     is the leaf with its two links to those spines, and then single spines."""
-    yield head(("s0", second_root))
+    yield head(("s0", second_root), version=version)
     for spine in range(sizes.spines):
         yield device(f"s{spine}")
     for leaf in range(sizes.leaves):

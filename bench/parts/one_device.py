@@ -1,5 +1,5 @@
-"""`solo` beside awk and beside plain Rust. Only time outside of calls of the system counts: each report is one write,
-whatever the program does."""
+"""`solo` beside awk and beside plain Rust. Both write each report by itself, as the rules ask, so only time outside of
+calls of the system counts. awk writes once."""
 from typing import Iterator, List, Optional, Tuple
 
 from .bench import Bench

@@ -46,13 +46,16 @@ def check_rows(bench: Bench) -> List[Row]:
     severed = bench.file("severed_topology", networks.severed(sizes)), bench.file(
         "severed_plan", [networks.plan_of_severed(sizes)]
     )
+    unknown = bench.file("unknown", networks.spines_and_leaves(sizes, version=3))
     accepted = f"accepted {sizes.devices} {sizes.links} {sizes.all_domains}"
+    parsing = bench.ours("check", unknown, plan, status=3, first="input topology Range version 0")
     reading = bench.ours("check", topology, refused, status=3, first=f"input plan 1 UnknownName rows.device {sizes.devices}")
     check = bench.ours("check", topology, plan, first=accepted)
     hostile = bench.ours("check", *severed, first=accepted)
+    memory = bench.runner.peak_memory(check.words)
     found = [
-        Row("`check`", str(sizes), "reading of its two texts", 0.0, bench.runner.compare(check, reading, False),
-            memory=bench.runner.peak_memory(check.words)),
+        *[Row("`check`", str(sizes), name, 0.0, bench.runner.compare(check, other, False), memory=memory)
+          for name, other in (("reading of its two texts", reading), ("the parsing of its topology by `toml` alone", parsing))],
         beside_plain(bench, "`check`", str(sizes), check, "check", topology, plan),
         beside_plain(bench, "`check`, each listed domain cuts off most devices", str(sizes), hostile, "check", *severed),
     ]

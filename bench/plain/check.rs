@@ -12,7 +12,7 @@ use texts::{Network, Plan};
 
 fn main() {
     let words: Vec<String> = std::env::args().skip(1).collect();
-    let net = Network::read(&read_to_string(&words[0]).expect("a topology"));
+    let net = Network::read(read_to_string(&words[0]).expect("a topology").leak());
     let plan = Plan::read(&net, &read_to_string(&words[1]).expect("a plan"));
     let mut judge = Judge::new(&net, &plan);
     match judge.breach() {

@@ -156,7 +156,7 @@ impl<'a> Drill<'a> {
 
 fn main() {
     let words: Vec<String> = std::env::args().skip(1).collect();
-    let net = Network::read(&read_to_string(&words[0]).expect("a topology"));
+    let net = Network::read(read_to_string(&words[0]).expect("a topology").leak());
     let plan = Plan::read(&net, &read_to_string(&words[1]).expect("a plan"));
     let [base, hold] = [2, 3].map(|place| words[place].parse().expect("a number"));
     let mut judge = Judge::new(&net, &plan);

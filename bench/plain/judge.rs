@@ -127,7 +127,7 @@ impl<'a> Judge<'a> {
             hops: hops.collect(),
             timing: Timing::new(net),
             waits: plan.waits,
-            is_absent: (0..links as u32).map(|link| plan.absent_links.contains(&link)).collect(),
+            is_absent: plan.is_absent.clone(),
             around,
             order: Vec::with_capacity(devices),
             enter: vec![0; devices],

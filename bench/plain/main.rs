@@ -61,7 +61,7 @@ fn main() {
     let mut words: Vec<String> = std::env::args().skip(1).collect();
     let orders = words[0] == "--order";
     words.drain(..usize::from(orders));
-    let net = Network::read(&read_to_string(&words[0]).unwrap());
+    let net = Network::read(read_to_string(&words[0]).unwrap().leak());
     let (schedule, plans) = words[1..].split_last().unwrap();
     let plans: Vec<Plan> = plans.iter().map(|file| Plan::read(&net, &read_to_string(file).unwrap())).collect();
     let mut out = BufWriter::new(stdout().lock());

@@ -106,7 +106,7 @@ impl Replay<'_> {
             } else {
                 !state.up
             }
-        }) && (0..self.links_failed.len()).all(|l| !self.links_failed[l] || plan.absent_links.contains(&(l as u32)))
+        }) && (0..self.links_failed.len()).all(|l| !self.links_failed[l] || plan.is_absent[l])
     }
 
     pub fn have_entered(&self) -> bool {

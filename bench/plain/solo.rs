@@ -1,5 +1,6 @@
 //! Replays the schedule of one device as plainly and as fast as Rust does it, to be timed beside
-//! `sundial solo`.
+//! `sundial solo`. Each report is one write, as docs/RULES.md asks: whoever reads the output has a
+//! report before the next line is read.
 //! usage: solo SCHEDULE
 mod input;
 
@@ -73,9 +74,7 @@ impl Solo {
             self.printed.extend_from_slice(behind);
         }
         self.reports += 1;
-        if self.printed.len() > 1 << 16 {
-            self.flush();
-        }
+        self.flush();
         Ok(())
     }
 

@@ -70,7 +70,7 @@ fn take(spans: &mut [Span], rates: &Rates, line: &[u8]) -> Result<(), &'static s
 
 fn main() {
     let words: Vec<String> = std::env::args().skip(1).collect();
-    let net = Network::read(&read_to_string(&words[0]).expect("a topology"));
+    let net = Network::read(read_to_string(&words[0]).expect("a topology").leak());
     let params = net.params();
     let rates = Rates { ppm: params.ppm, grain: params.grain.into() };
     let mut spans = vec![Span { min: i128::MAX, max: 0, count: 0 }; net.links.len()];

@@ -5,10 +5,10 @@
 #
 # LIBRARY is libsd_device_c.a. With each compiler that is there: header and bindings compile
 # without a warning, as C11 and as C++17, and a program in C++ makes every call. Then, where the
-# compiler can: the duties of sundial-duty beside those of fabric.h, the compact log beside the schedule, a device for
-# years, clock.h by 8 threads and by 4 processes, which messages the host drops, the example, the recorder and the host
-# under the address and undefined-behaviour sanitizers, the fuzzer for SECONDS (3), a program without a C library, and
-# what pkg-config says. What is not there is named and passed by.
+# compiler can: the duties of sundial-duty beside those of fabric.h, the compact log beside the schedule, what the header
+# computes, a device for years, clock.h (clock_checks.sh), what the host takes and drops, the example, the
+# recorder and the host under the address and undefined-behaviour sanitizers, the fuzzer for SECONDS (3), a program without a C library, and
+# what pkg-config says. A line with "left out" names what is not there.
 set -u
 library=$(realpath "$1") || exit 2
 seconds=${2:-3}
@@ -46,11 +46,11 @@ compile() { # compiler standard language file..
 
 headers=(sundial_device.h recorder.h clock.h)
 for compiler in gcc clang; do
-    there "$compiler" || { echo "checks: no $compiler"; continue; }
-    compile "$compiler" c11 c "${headers[@]}" recorder.c recorder_test.c embed.c fuzz.c years.c clock_test.c host/host.c ../../bench/embed/time.c
+    there "$compiler" || { echo "checks: left out, as there is no $compiler"; continue; }
+    compile "$compiler" c11 c "${headers[@]}" recorder.c recorder_test.c embed.c fuzz.c years.c header_test.c clock_test.c clock_run.c clock_reader.c clock_writer.c sundial.c host/host.c ../../bench/embed/time.c
 done
 for compiler in g++ clang++; do
-    there "$compiler" || { echo "checks: no $compiler"; continue; }
+    there "$compiler" || { echo "checks: left out, as there is no $compiler"; continue; }
     compile "$compiler" c++17 c++ "${headers[@]}" recorder.c plus.cc
     "$compiler" -std=c++17 -O2 "${warnings[@]}" -o "$work/plus" plus.cc -x c++ recorder.c -x none "$library" \
         && "$work/plus" > "$work/said" || fail "the program that $compiler makes of plus.cc"
@@ -60,10 +60,10 @@ echo "checks: no warning by ${compiled[*]}"
 compiler=${CC:-cc}
 if there python3; then
     ../../tools/sundial-duty topology.toml plan-1.json plan-2.json plan-3.json -o "$work/duties.h" \
-        && "$compiler" -std=c11 -I "$work" "${warnings[@]}" -o "$work/duties" duties.c && "$work/duties" \
+        && "$compiler" -std=c11 -DSUNDIAL_NO_LIBRARY -I "$work" "${warnings[@]}" -o "$work/duties" duties.c && "$work/duties" \
         || fail "the duties that sundial-duty writes"
 else
-    echo "checks: no python3, so sundial-duty was not tried"
+    echo "checks: left out, as there is no python3: sundial-duty"
 fi
 
 echo 'int main(void) { return 0; }' > "$work/nothing.c"
@@ -72,13 +72,13 @@ if "$compiler" "${sanitizers[@]}" -o "$work/nothing" "$work/nothing.c" 2> "$work
         && "$work/embed" 1 "$work/schedule" > "$work/told" && "$work/embed" 1 "$work/log" log > "$work/told" \
         && "$work/embed" 1 "$work/own" compact > "$work/told" \
         && echo "checks: the example under sanitizers, $(tail -1 "$work/told")" || fail "the example under sanitizers"
-    "$compiler" -std=c11 "${sanitizers[@]}" "${warnings[@]}" -o "$work/recorder" recorder_test.c recorder.c \
+    "$compiler" -std=c11 -DSUNDIAL_NO_LIBRARY "${sanitizers[@]}" "${warnings[@]}" -o "$work/recorder" recorder_test.c recorder.c \
         && "$work/recorder" 50000 > "$work/said" && echo "checks: $(cat "$work/said"), under sanitizers" \
         || fail "the recorder under sanitizers"
     "$compiler" -std=c11 "${sanitizers[@]}" "${warnings[@]}" -o "$work/fuzz" fuzz.c "$library" \
         || fail "the fuzzer does not compile"
 else
-    echo "checks: $compiler has no sanitizers"
+    echo "checks: left out, as $compiler has no sanitizers: the example, the recorder and the fuzzer under them"
     "$compiler" -std=c11 -O1 "${warnings[@]}" -o "$work/fuzz" fuzz.c "$library" || fail "the fuzzer does not compile"
 fi
 if "$work/fuzz" "$seconds" > "$work/told"; then
@@ -88,8 +88,10 @@ else
     fail "the fuzzer"
 fi
 
-"$compiler" -std=c11 -O2 "${warnings[@]}" -o "$work/recorder" recorder_test.c recorder.c && "$work/recorder" 200000 \
+"$compiler" -std=c11 -O2 -DSUNDIAL_NO_LIBRARY "${warnings[@]}" -o "$work/recorder" recorder_test.c recorder.c && "$work/recorder" 200000 \
     || fail "the recorder"
+"$compiler" -std=c11 -O2 "${warnings[@]}" -o "$work/header" header_test.c "$library" && "$work/header" \
+    || fail "what the header computes"
 "$compiler" -std=c11 -O2 "${warnings[@]}" -o "$work/years" years.c "$library" && "$work/years" 1 \
     || fail "a device for years"
 
@@ -104,20 +106,7 @@ if [ "$(uname -s)" = Linux ] && there python3; then
 fi
 
 if [ "$(uname -s)" = Linux ]; then
-    "$compiler" -std=c11 -O2 -pthread "${warnings[@]}" -o "$work/clock" clock_test.c "$library" \
-        && "$work/clock" page && "$work/clock" threads 1 && "$work/clock" processes 1 || fail "clock.h"
-    # (a run of nothing tells whether this machine can run what the compiler makes)
-    for sanitizer in thread address,undefined; do
-        if "$compiler" "-fsanitize=$sanitizer" -o "$work/nothing" "$work/nothing.c" 2> "$work/said" && "$work/nothing"; then
-            "$compiler" -std=c11 -O1 -g -pthread "-fsanitize=$sanitizer" -fno-sanitize-recover=all "${warnings[@]}" \
-                -o "$work/clock" clock_test.c "$library" \
-                && "$work/clock" page > "$work/said" && "$work/clock" threads 1 > "$work/said" \
-                && echo "checks: $(cat "$work/said"), under the sanitizer $sanitizer" \
-                || fail "clock.h under the sanitizer $sanitizer"
-        else
-            echo "checks: $compiler has no sanitizer $sanitizer"
-        fi
-    done
+    ./clock_checks.sh "$library" || fail "clock.h"
 fi
 
 case "$(uname -s) $(uname -m)" in
@@ -136,7 +125,12 @@ if there pkg-config; then
     "$compiler" -x c++ -std=c++17 -o "$work/plus" plus.cc -I "$work/usr/share/sundial" "$work/usr/share/sundial/recorder.c" \
         -x none $words -lstdc++ && "$work/plus" > "$work/said" && echo "checks: pkg-config says $(wc -w <<< "$words") words, and they link" \
         || fail "a program by pkg-config's words"
+    words=$(PKG_CONFIG_PATH=$work/usr/lib/pkgconfig pkg-config --cflags --libs sundial) || fail "pkg-config"
+    printf '#include <sundial_clock.h>\nint main(void) { return sundial_version_1() != 1; }\n' > "$work/shared.c"
+    # shellcheck disable=SC2086
+    "$compiler" -std=c11 -o "$work/shared" "$work/shared.c" $words && LD_LIBRARY_PATH=$work/usr/lib "$work/shared" \
+        || fail "a program over the installed libsundial.so"
 else
-    echo "checks: no pkg-config"
+    echo "checks: left out, as there is no pkg-config: what install.sh writes for it"
 fi
 exit "$bad"

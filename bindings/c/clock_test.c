@@ -1,435 +1,575 @@
-/* Tries clock.h: a writer with a root of its own, whose reference time is CLOCK_MONOTONIC_RAW, and
- * whose counter is 50 ppm fast.
+/* Tries clock.h: each answer, each number, and a writer that stops within a publication.
  *
- *     clock_test threads SECONDS    one process: a writer and 8 threads that read
- *     clock_test processes SECONDS  4 processes of 2 threads each; the writer is killed and comes again
- *     clock_test page               each answer of a read, and the edges of its numbers
- *     clock_test time               what a read takes
- *     clock_test write FILE SECONDS a writer alone, whose reference time is that of its machine, for readers
- *                                   in another language
+ *     clock_test page   each answer, the numbers of a slot, and the files
+ *     clock_test step   a writer that is stopped after each instruction of a publication. What it left is
+ *                       read, and another writer goes on from it. A reader that is stopped at each fifth
+ *                       instruction of a copy, and the slot is written anew meanwhile
  *
- * Each interval has to contain the reference time, no stamp may come twice or fall, and a stamp that
- * was waited for has to have passed. */
+ * clock_run.c has many readers beside a writer. */
 #define _GNU_SOURCE
-#include <inttypes.h>
-#include <pthread.h>
-#include <signal.h>
-#include <stdio.h>
-#include <stdlib.h>
-#include <sys/wait.h>
-
 #include "clock.h"
 
-enum { READERS = 8, PROCESSES = 4, MOST_STAMPS = 40000, BATCHES = 400, BATCH = 500 };
+#include <inttypes.h>
+#include <stdlib.h>
+#include <sys/ptrace.h>
+#include <sys/wait.h>
 
-static const uint64_t EPS = 100000, GREATEST = 50000, STALE_AFTER = 20000000, SECOND = 1000000000;
+static const uint64_t SECOND = 1000000000;
+static const struct sundial_duty DUTY = {{0, 0, 0, 0}, {0, 0, 0, 0}, 1000000000, 1, 1, 1, {1000, 200}, 3, SUNDIAL_ROOT, 0, 0};
+static const struct sundial_clock_terms LASTING = {UINT64_MAX, UINT64_MAX, 0, 0, 0, 0};
 
-/* What all processes share beside the page. */
-struct shared {
-    uint64_t begun; /* the reading of CLOCK_MONOTONIC_RAW at reference time 0 */
-    uint64_t stop;
-    uint64_t last;  /* of the stamps */
-    uint64_t good, stale, torn, waits;
-    uint64_t stamps[READERS][MOST_STAMPS];
-    uint64_t taken[READERS];
-};
-
-static struct shared *shared;
-static char path[256];
-
-/* Ends this process, and tells the others to end. */
-static void stop(const char *what)
-{
-    fprintf(stderr, "clock: %s\n", what);
-    if (shared != NULL)
-        __atomic_store_n(&shared->stop, 1, __ATOMIC_RELEASE);
-    _exit(1);
-}
+static uint64_t word = 1;
 
 static void expect(int holds, const char *what)
 {
-    if (!holds)
-        stop(what);
+    if (!holds) {
+        fprintf(stderr, "clock: %s\n", what);
+        _exit(1);
+    }
 }
 
-static uint64_t reference(void)
+static uint64_t below(uint64_t end)
 {
-    return sundial_clock_raw() - shared->begun;
+    word = word * UINT64_C(6364136223846793005) + 1442695040888963407;
+    return (word >> 20) % end;
 }
 
-static uint64_t load(const uint64_t *from)
+static struct sundial_device started(uint64_t counter, uint64_t clock, uint64_t eps)
 {
-    return __atomic_load_n(from, __ATOMIC_ACQUIRE);
-}
-
-static void add(uint64_t *to)
-{
-    __atomic_add_fetch(to, 1, __ATOMIC_RELAXED);
-}
-
-/* A clock within eps of the reference time. */
-static uint64_t clock_near(uint64_t raw, uint64_t *word)
-{
-    *word = *word * UINT64_C(6364136223846793005) + 1442695040888963407;
-    uint64_t exact = (raw - shared->begun) * 1000, off = (*word >> 33) % (2 * EPS);
-    return exact + off < EPS ? 0 : exact + off - EPS;
-}
-
-/* As sundial_clock_publish, with a rest while the device is half written. */
-static void publish_slowly(struct sundial_clock_page *page, const struct sundial_device *device, uint64_t raw)
-{
-    enum { HALF = 30 }; /* the clock of the estimate is new then, and its counter is old */
-    static const struct timespec while_this = {0, 20000};
-    uint64_t odd = __atomic_load_n(&page->sequence, __ATOMIC_RELAXED) | 1;
-    __atomic_store_n(&page->sequence, odd, __ATOMIC_RELAXED);
-    __atomic_store_n(&page->published, raw, __ATOMIC_RELEASE);
-    sundial_clock_words_out(page->device, device, HALF);
-    nanosleep(&while_this, NULL);
-    sundial_clock_words_out(page->device + HALF, (const unsigned char *)device + 8 * HALF,
-                            SUNDIAL_CLOCK_WORDS - HALF);
-    __atomic_store_n(&page->sequence, odd + 1, __ATOMIC_RELEASE);
-}
-
-/* With a pause it rests after each publication, and else after each sixteenth. */
-static void *write_until_stop(void *pause)
-{
-    unsigned published = 0;
-    static const struct sundial_duty duty = {{0, 0, 0, 0}, {0, 0, 0, 0}, 1000000000, 1, 1, 1, {1000, 200}, 1,
-                                             SUNDIAL_ROOT, 0, 0};
     struct sundial_device device;
-    struct sundial_effect effect;
-    struct sundial_clock_page *page = NULL;
-    struct sundial_clock_mapping mapping = {sundial_clock_raw(), 5000, 0, 0, 50, STALE_AFTER, 1000};
-    uint64_t word = mapping.raw;
     memset(&device, 0, sizeof device);
-    memset(&effect, 0, sizeof effect);
-    expect(sundial_clock_create(path, &page) == 0, "the writer has no page");
-    expect(sundial_start(&device, &duty, mapping.counter, clock_near(mapping.raw, &word), EPS) == SUNDIAL_DONE,
-           "start");
-    while (load(&shared->stop) == 0) {
-        uint64_t raw = sundial_clock_raw(), counter = sundial_clock_counter(&mapping, raw);
-        expect(sundial_fix(&device, counter, clock_near(raw, &word), EPS) == SUNDIAL_DONE, "fix");
-        expect(sundial_tick(&device, counter, &effect) == SUNDIAL_DONE, "tick");
-        if (published != 0 && published % 8 == 0)
-            publish_slowly(page, &device, raw);
-        else
-            sundial_clock_publish(page, &device, &mapping, raw);
-        if (++published % 16 == 0 || pause != NULL) {
-            struct timespec while_this = {0, pause != NULL ? 200000 : 20000};
-            nanosleep(&while_this, NULL);
-        }
-    }
-    return NULL;
+    expect(sundial_start(&device, &DUTY, counter, clock, eps) == SUNDIAL_DONE, "start");
+    return device;
 }
 
-static void read_once(const struct sundial_clock_page *page, uint64_t *seen, uint64_t *count, uint64_t *own)
+static char path[256], lock[300]; /* of the page of this test */
+
+static void remove_page(void)
 {
-    struct sundial_clock_now now;
-    memset(&now, 0, sizeof now);
-    uint64_t before = reference();
-    uint32_t answer = sundial_clock_read(page, GREATEST, &now);
-    uint64_t after = reference();
-    if (answer == SUNDIAL_CLOCK_TORN || answer == SUNDIAL_CLOCK_EMPTY) {
-        add(&shared->torn);
-        return;
-    }
-    expect(answer == SUNDIAL_CLOCK_GOOD || answer == SUNDIAL_CLOCK_STALE || answer == SUNDIAL_CLOCK_WIDE,
-           "a read answered a fault");
-    add(answer == SUNDIAL_CLOCK_STALE ? &shared->stale : &shared->good);
-    expect(now.earliest <= after && now.latest >= before, "an interval misses the reference time");
-    expect(now.mode == SUNDIAL_ACTING && now.epoch == 1 && now.origin == 1000, "the status is another");
-    expect(sundial_clock_civil(&now, 5) == 1005, "civil time");
-    expect(!(sundial_clock_lease_holds(&now, before) && sundial_clock_lease_is_over(&now, before)), "a lease");
-    uint64_t stamp = sundial_clock_stamp(&now, &shared->last);
-    expect(stamp > *seen && stamp >= now.latest, "a stamp fell");
-    *seen = stamp;
-    if (*count < MOST_STAMPS)
-        own[(*count)++] = stamp;
-    if (stamp % 64 == 0 && answer == SUNDIAL_CLOCK_GOOD) {
-        uint32_t waited = sundial_clock_wait(page, stamp, SECOND / 20, &now);
-        if (waited == SUNDIAL_CLOCK_GOOD) {
-            expect(reference() > stamp && sundial_clock_has_passed(&now, stamp), "a wait ended too early");
-            add(&shared->waits);
-        }
-    }
+    unlink(lock);
+    unlink(path);
 }
 
-static void *read_until_stop(void *number)
+/* The file of a page that is not there yet. */
+static const char *page_of(const char *test)
 {
-    uint64_t seen = 0, count = 0, *own = shared->stamps[*(int *)number];
-    const struct sundial_clock_page *page = NULL;
-    while (sundial_clock_open(path, &page) != 0)
-        expect(load(&shared->stop) == 0, "no page to read");
-    while (load(&shared->stop) == 0)
-        read_once(page, &seen, &count, own);
-    shared->taken[*(int *)number] = count;
-    return NULL;
+    snprintf(path, sizeof path, "/tmp/sundial-clock-%d-%s", (int)getpid(), test);
+    snprintf(lock, sizeof lock, "%s.lock", path);
+    remove_page();
+    return path;
 }
 
-static void run_readers(int first, int threads)
+/* A call that answers this, and leaves the numbers of a read as they were. */
+static void expect_no_interval(const struct sundial_clock_reader *reader, uint32_t answer, const char *what)
 {
-    pthread_t reader[READERS];
-    int number[READERS];
-    for (int i = 0; i < threads; i++) {
-        number[i] = first + i;
-        expect(pthread_create(&reader[i], NULL, read_until_stop, &number[i]) == 0, "no thread");
-    }
-    for (int i = 0; i < threads; i++)
-        pthread_join(reader[i], NULL);
+    struct sundial_clock_now now, before;
+    memset(&now, 0x5a, sizeof now);
+    before = now;
+    expect(sundial_clock_read(reader, UINT64_MAX, &now) == answer, what);
+    expect(memcmp(&now, &before, sizeof now) == 0, "a read that answers a fault wrote numbers");
+    expect(sundial_clock_wait(reader, 0, UINT64_MAX, &now) == answer, "a wait without an interval goes on");
 }
 
-static int by_size(const void *one, const void *other)
+/* A publication that answers this, and leaves the page as it was. */
+static void expect_refused(struct sundial_clock_writer *writer, const struct sundial_device *device, uint64_t counter,
+                           uint64_t raw, uint32_t answer, const char *what)
 {
-    uint64_t a = *(const uint64_t *)one, b = *(const uint64_t *)other;
-    return (a > b) - (a < b);
+    struct sundial_clock_page before = *writer->page;
+    expect(sundial_clock_publish(writer, device, counter, raw) == answer, what);
+    expect(memcmp(writer->page, &before, sizeof before) == 0, "a publication that answers a fault changed the page");
 }
 
-static void judge(const char *what)
-{
-    static uint64_t all[READERS * MOST_STAMPS];
-    size_t count = 0;
-    for (int i = 0; i < READERS; i++)
-        for (uint64_t k = 0; k < shared->taken[i]; k++)
-            all[count++] = shared->stamps[i][k];
-    qsort(all, count, sizeof all[0], by_size);
-    for (size_t i = 1; i < count; i++)
-        expect(all[i] > all[i - 1], "two stamps are one");
-    expect(shared->good > 0 && count > 0, "nothing was read");
-    printf("clock %s: %" PRIu64 " reads, %" PRIu64 " stale, %" PRIu64 " torn or empty, %zu stamps apart, %" PRIu64
-           " waits\n", what, shared->good + shared->stale, shared->stale, shared->torn, count, shared->waits);
-}
-
-static void pass(double seconds)
-{
-    struct timespec time = {(time_t)seconds, (long)((seconds - (double)(time_t)seconds) * 1e9)};
-    nanosleep(&time, NULL);
-}
-
-static void threads(double seconds)
-{
-    pthread_t writer;
-    expect(pthread_create(&writer, NULL, write_until_stop, NULL) == 0, "no thread");
-    pthread_t reader[READERS];
-    int number[READERS];
-    for (int i = 0; i < READERS; i++) {
-        number[i] = i;
-        expect(pthread_create(&reader[i], NULL, read_until_stop, &number[i]) == 0, "no thread");
-    }
-    pass(seconds);
-    __atomic_store_n(&shared->stop, 1, __ATOMIC_RELEASE);
-    for (int i = 0; i < READERS; i++)
-        pthread_join(reader[i], NULL);
-    pthread_join(writer, NULL);
-    judge("threads");
-}
-
-static pid_t fork_writer(void)
-{
-    static int pause = 1;
-    pid_t writer = fork();
-    expect(writer >= 0, "no process");
-    if (writer == 0) {
-        write_until_stop(&pause);
-        _exit(0);
-    }
-    return writer;
-}
-
-/* Waits until this count has grown, or ten seconds. */
-static void await_growth(const uint64_t *count, const char *what)
-{
-    uint64_t before = load(count);
-    for (int i = 0; i < 10000 && load(count) == before; i++)
-        pass(0.001);
-    expect(load(count) != before, what);
-}
-
-/* Waits until a reader sees that the writer is gone: the clock is stale, or torn where the writer died
- * while it wrote. */
-static void await_silence(void)
-{
-    const struct sundial_clock_page *page = NULL;
-    struct sundial_clock_now now;
-    expect(sundial_clock_open(path, &page) == 0, "no page after the writer is gone");
-    if (sundial_clock_read(page, GREATEST, &now) == SUNDIAL_CLOCK_TORN)
-        await_growth(&shared->torn, "no reader sees that the writer died while it wrote");
-    else
-        await_growth(&shared->stale, "no reader sees that the writer is gone");
-}
-
-static void processes(double seconds)
-{
-    pid_t reader[PROCESSES], writer = fork_writer();
-    for (int i = 0; i < PROCESSES; i++) {
-        reader[i] = fork();
-        expect(reader[i] >= 0, "no process");
-        if (reader[i] == 0) {
-            run_readers(i * READERS / PROCESSES, READERS / PROCESSES);
-            _exit(0);
-        }
-    }
-    for (int round = 0; round < 3; round++) {
-        pass(seconds / 3);
-        await_growth(&shared->good, "no reader reads");
-        struct sundial_clock_page *page = NULL;
-        expect(sundial_clock_create(path, &page) != 0 && errno == EWOULDBLOCK, "two writers have one page");
-        kill(writer, SIGKILL);
-        waitpid(writer, NULL, 0);
-        await_silence();
-        writer = fork_writer();
-    }
-    await_growth(&shared->good, "no reader reads after the writer came again");
-    __atomic_store_n(&shared->stop, 1, __ATOMIC_RELEASE);
-    int bad = 0, status;
-    for (int i = 0; i < PROCESSES; i++)
-        bad |= waitpid(reader[i], &status, 0) < 0 || status != 0;
-    bad |= waitpid(writer, &status, 0) < 0 || status != 0;
-    expect(!bad, "a process failed");
-    judge("processes");
-}
-
-/* Each answer, by a page that is written by hand. */
 static void answers(void)
 {
-    static const struct sundial_duty duty = {{0, 0, 0, 0}, {0, 0, 0, 0}, 1000000000, 1, 1, 1, {1000, 200}, 1,
-                                             SUNDIAL_ROOT, 0, 0};
+    struct sundial_clock_writer writer;
+    struct sundial_clock_reader reader, other;
+    struct sundial_clock_now now;
+    struct sundial_device device = started(7000, 5000, 10), none;
     uint64_t raw = sundial_clock_raw();
-    struct sundial_clock_mapping mapping = {raw, 7000, 0, 0, 0, 50 * SECOND, 0};
-    struct sundial_device device;
-    struct sundial_clock_page *page = NULL;
-    const struct sundial_clock_page *read = NULL;
-    struct sundial_clock_now now, other;
-    memset(&device, 0, sizeof device);
-    expect(sundial_clock_open("/dev/null", &read) != 0 && errno == EINVAL, "a page that is none");
-    expect(sundial_clock_create(path, &page) == 0 && sundial_clock_open(path, &read) == 0, "no page");
-    expect(sundial_clock_read(read, GREATEST, &now) == SUNDIAL_CLOCK_EMPTY, "empty");
-    sundial_clock_publish(page, &device, &mapping, raw);
-    expect(sundial_clock_read(read, GREATEST, &now) == SUNDIAL_NO_DEVICE, "no device");
-    expect(sundial_start(&device, &duty, 7000, 5000, 10) == SUNDIAL_DONE, "start");
-    sundial_clock_publish(page, &device, &mapping, raw);
-    expect(sundial_clock_read(read, 10 * SECOND, &now) == SUNDIAL_CLOCK_GOOD && now.latest >= 5, "good");
-    expect(sundial_clock_read(read, 0, &now) == SUNDIAL_CLOCK_WIDE, "wide");
-    expect(sundial_clock_wait(read, now.latest + 100 * SECOND, 0, &now) == SUNDIAL_CLOCK_NOT_YET, "not yet");
-    mapping.stale_after = 0;
-    sundial_clock_publish(page, &device, &mapping, raw);
-    expect(sundial_clock_read(read, 10 * SECOND, &now) == SUNDIAL_CLOCK_STALE && now.silent > 0, "stale");
-    mapping.stale_after = 50 * SECOND;
-    mapping.slack = 3000000;
-    sundial_clock_publish(page, &device, &mapping, raw);
-    expect(sundial_clock_read(read, 10 * SECOND, &other) == SUNDIAL_CLOCK_GOOD && other.eps >= now.eps + 6000000,
-           "slack");
-    mapping.counter = 0;
-    mapping.raw = UINT64_MAX;
-    sundial_clock_publish(page, &device, &mapping, raw);
-    expect(sundial_clock_read(read, GREATEST, &now) == SUNDIAL_COUNTER_FELL, "the counter fell");
-    page->sequence |= 1;
-    expect(sundial_clock_read(read, GREATEST, &now) == SUNDIAL_CLOCK_TORN, "torn");
-    mapping.raw = raw;
-    mapping.counter = 7000;
-    sundial_clock_publish(page, &device, &mapping, raw);
-    expect(sundial_clock_read(read, 10 * SECOND, &now) == SUNDIAL_CLOCK_GOOD, "good again");
+    memset(&none, 0, sizeof none);
+    expect(sundial_clock_create(page_of("answers"), &LASTING, &writer) == 0, "no page to write");
+    expect(sundial_clock_open(path, &reader) == 0, "no page to read");
+    expect_no_interval(&reader, SUNDIAL_CLOCK_EMPTY, "empty");
+    expect_refused(&writer, &none, 7000, raw, SUNDIAL_NO_DEVICE, "a device that is none");
+    expect_refused(&writer, &device, 6999, raw, SUNDIAL_COUNTER_FELL, "a counter that fell");
+    expect_refused(&writer, &device, 7000, sundial_clock_raw() + SECOND, SUNDIAL_CLOCK_BAD_RAW, "a reading after now");
+    writer.terms.skew = 100001;
+    expect_refused(&writer, &device, 7000, raw, SUNDIAL_CLOCK_BAD_TERMS, "terms past their limits");
+    writer.terms = LASTING;
+    expect(sundial_clock_publish(&writer, &device, 7000, raw) == SUNDIAL_CLOCK_GOOD, "a publication");
+    expect(sundial_clock_read(&reader, SECOND, &now) == SUNDIAL_CLOCK_GOOD && now.latest >= 5, "good");
+    expect(now.mode == SUNDIAL_ACTING && now.epoch == 3 && now.disruptions == 0, "what the device is about");
+    expect_refused(&writer, &device, 7000, raw - 1, SUNDIAL_CLOCK_BAD_RAW, "a reading before that of the publication before");
+    /* another clock: of another boot, another time namespace, or not yet at the publication */
+    other = reader;
+    other.clock.boot[15] ^= 1;
+    expect_no_interval(&other, SUNDIAL_CLOCK_FOREIGN, "another boot");
+    other = reader;
+    other.clock.offset += 1;
+    expect_no_interval(&other, SUNDIAL_CLOCK_FOREIGN, "another time namespace");
+    writer.page->slots[writer.page->latest % 2][5] += 100 * SECOND;
+    expect_no_interval(&reader, SUNDIAL_CLOCK_FOREIGN, "a publication after now");
+    /* withdrawn, and good again */
+    sundial_clock_withdraw(&writer);
+    expect_no_interval(&reader, SUNDIAL_CLOCK_WITHDRAWN, "withdrawn");
+    raw = sundial_clock_raw();
+    expect(sundial_clock_publish(&writer, &device, 7000, raw) == SUNDIAL_CLOCK_GOOD
+               && sundial_clock_read(&reader, SECOND, &now) == SUNDIAL_CLOCK_GOOD && now.disruptions == 0,
+           "good after a withdrawal");
+    /* disrupted: the device has to begin anew */
+    sundial_clock_disrupt(&writer, &device);
+    expect_no_interval(&reader, SUNDIAL_CLOCK_DISRUPTED, "disrupted");
+    expect_refused(&writer, &device, 7000, sundial_clock_raw(), SUNDIAL_NO_DEVICE, "the device of before a disruption");
+    device = started(8000, 6000, 10);
+    expect(sundial_clock_publish(&writer, &device, 8000, sundial_clock_raw()) == SUNDIAL_CLOCK_GOOD
+               && sundial_clock_read(&reader, SECOND, &now) == SUNDIAL_CLOCK_GOOD && now.disruptions == 1,
+           "good after a disruption");
+    sundial_clock_disrupt(&writer, &device);
+    sundial_clock_withdraw(&writer);
+    device = started(9000, 6000, 10);
+    expect(sundial_clock_publish(&writer, &device, 9000, sundial_clock_raw()) == SUNDIAL_CLOCK_GOOD
+               && sundial_clock_read(&reader, SECOND, &now) == SUNDIAL_CLOCK_GOOD && now.disruptions == 2,
+           "two disruptions");
+    /* the slot of the latest number is being written: no reader waits for long */
+    uint64_t number = writer.page->latest, begun = 0, least = UINT64_MAX;
+    writer.page->slots[number % 2][0] = 0;
+    for (int i = 0; i < 20; i++) {
+        begun = sundial_clock_raw();
+        expect(sundial_clock_read(&reader, SECOND, &now) == SUNDIAL_CLOCK_BUSY, "busy");
+        uint64_t took = sundial_clock_raw() - begun;
+        least = took < least ? took : least;
+    }
+    expect(least < SECOND / 1000, "a busy page keeps a reader for a millisecond");
+    begun = sundial_clock_raw();
+    expect(sundial_clock_wait(&reader, 0, SECOND / 100, &now) == SUNDIAL_CLOCK_BUSY
+               && sundial_clock_raw() - begun >= SECOND / 100, "a wait beside a busy writer");
+    writer.page->slots[number % 2][0] = number;
+    expect(sundial_clock_read(&reader, SECOND, &now) == SUNDIAL_CLOCK_GOOD, "good again");
+    sundial_clock_close(&reader);
+    expect_no_interval(&reader, SUNDIAL_CLOCK_EMPTY, "a closed reader");
+    sundial_clock_close(&reader);
+    sundial_clock_release(&writer);
+    remove_page();
 }
 
-static void numbers(void)
+/* What a slot says at the edges of its times and of eps. */
+static void edges(void)
 {
-    static const struct { struct sundial_wide ps; uint64_t ns; } DOWN[] = {
-        {{0, 0}, 0}, {{999, 0}, 0}, {{1000, 0}, 1}, {{UINT64_MAX, 0}, UINT64_C(18446744073709551)},
-        {{0, 1}, UINT64_C(18446744073709551)}, {{384, 1}, UINT64_C(18446744073709552)},
-        {{UINT64_MAX, 999}, UINT64_MAX}, {{0, 1000}, UINT64_MAX},
+    static const struct sundial_clock_slot SLOT = {
+        .number = 1, .clock = {{9}, -5}, .raw = 1000, .stale_after = 3000, .void_after = 5000, .earliest = -40, .latest = 61,
+        .slow = 900000000, .fast = 1100000000, .origin = -7, .age = 30, .epoch = 2, .mode = 1, .disruptions = 4};
+    static const struct { uint64_t raw, greatest; uint32_t answer; uint64_t earliest, latest, eps; } AT[] = {
+        {1000, 51, SUNDIAL_CLOCK_GOOD, 0, 61, 51}, {1000, 50, SUNDIAL_CLOCK_WIDE, 0, 61, 51},
+        {1001, 52, SUNDIAL_CLOCK_GOOD, 0, 63, 52}, {1100, 61, SUNDIAL_CLOCK_GOOD, 50, 171, 61},
+        {3000, 251, SUNDIAL_CLOCK_GOOD, 1760, 2261, 251}, {3001, 252, SUNDIAL_CLOCK_STALE, 1760, 2263, 252},
+        {5000, 0, SUNDIAL_CLOCK_STALE, 3560, 4461, 451}, {5001, 999, SUNDIAL_CLOCK_VOID, 0, 0, 0},
+        {999, 999, SUNDIAL_CLOCK_FOREIGN, 0, 0, 0}};
+    for (size_t i = 0; i < sizeof AT / sizeof AT[0]; i++) {
+        struct sundial_clock_now now;
+        memset(&now, 0, sizeof now);
+        expect(sundial_clock_at(&SLOT, &SLOT.clock, AT[i].raw, AT[i].greatest, &now) == AT[i].answer, "an answer at its edge");
+        expect(now.earliest == AT[i].earliest && now.latest == AT[i].latest && now.eps == AT[i].eps, "an interval at its edge");
+        if (now.latest != 0)
+            expect(now.silent == AT[i].raw - 1000 && now.age == now.silent + 30 && now.origin == -7 && now.epoch == 2
+                       && now.mode == 1 && now.disruptions == 4, "what a read says beside its interval");
+    }
+}
+
+/* The numbers of a slot. In the first row one ps less of eps moves both ends. */
+static void lines(void)
+{
+    static const struct {
+        uint64_t clock, eps, passed;
+        struct sundial_clock_terms terms;
+        int64_t earliest, latest;
+        uint64_t slow, fast;
+    } ROWS[] = {
+        {5000000000000, 394, 3000000, {50, 60, 10001, 7, -3, 9}, 5000002987, 5000003013, 999789999, 1000204001},
+        {2000, 10000, 0, {50, 60, 0, 0, 0, 9}, -10, 14, 999800000, 1000200000},
+        {7777777, 1, 1, {50, 60, 0, 0, 1, 9}, 7776, 7779, 999800999, 1000201001},
+        {UINT64_MAX, UINT64_MAX, 999999999, {50, 60, 1000000000000, 100000, 100000, 9}, -999200202, 36893489148619305,
+         999760000, 1200240000},
     };
-    for (size_t i = 0; i < sizeof DOWN / sizeof DOWN[0]; i++)
-        expect(sundial_clock_down(DOWN[i].ps) == DOWN[i].ns, "ps as ns");
-    struct sundial_wide one = {UINT64_MAX, 0}, sum = sundial_clock_plus(one, 2);
-    expect(sum.high == 1 && sum.low == 1, "sums");
+    for (size_t i = 0; i < sizeof ROWS / sizeof ROWS[0]; i++) {
+        struct sundial_clock_slot slot;
+        struct sundial_device device = started(7000, ROWS[i].clock, ROWS[i].eps);
+        device.last = 0; /* (nothing of the slot is counted from it) */
+        expect(sundial_clock_line(&ROWS[i].terms, &device, 7000 + ROWS[i].passed, 1000, &slot) == SUNDIAL_CLOCK_GOOD, "a slot");
+        if (slot.earliest != ROWS[i].earliest || slot.latest != ROWS[i].latest || slot.slow != ROWS[i].slow || slot.fast != ROWS[i].fast)
+            fprintf(stderr, "row %zu: %" PRId64 " %" PRId64 " %" PRIu64 " %" PRIu64 "\n", i, slot.earliest, slot.latest, slot.slow, slot.fast);
+        expect(slot.earliest == ROWS[i].earliest && slot.latest == ROWS[i].latest, "the interval of a slot");
+        expect(slot.slow == ROWS[i].slow && slot.fast == ROWS[i].fast, "the rates of a slot");
+        expect(slot.raw == 1000 && slot.stale_after == 1050 && slot.void_after == 1060 && slot.age == ROWS[i].passed / 1000
+                   && slot.origin == 9 && slot.epoch == 3 && slot.mode == SUNDIAL_ACTING, "a slot beside its interval");
+    }
+    expect(sundial_clock_down(1999) == 1 && sundial_clock_down(-1) == -1 && sundial_clock_down(-1000) == -1
+               && sundial_clock_down(-1001) == -2, "ps as ns");
+    static const struct sundial_clock_terms BAD[] = {
+        {0, 0, 1000000000001, 0, 0, 0}, {0, 0, 0, 100001, 0, 0}, {0, 0, 0, 0, 100001, 0}, {0, 0, 0, 0, -100001, 0}};
+    struct sundial_clock_slot slot;
+    struct sundial_device device = started(7000, 0, 0);
+    for (size_t i = 0; i < sizeof BAD / sizeof BAD[0]; i++)
+        expect(sundial_clock_line(&BAD[i], &device, 7000, 0, &slot) == SUNDIAL_CLOCK_BAD_TERMS, "terms past their limits");
+    static const struct sundial_wide ENDS[] = {{0, 500}, {UINT64_MAX, 499}, {0, 0}};
+    for (size_t i = 0; i < 3; i++)
+        for (size_t k = 0; k < 3; k++) {
+            expect(sundial_start_wide(&device, &DUTY, 7000, &ENDS[i], &ENDS[k]) == SUNDIAL_DONE, "start");
+            uint32_t answer = sundial_clock_line(&LASTING, &device, 7000, 0, &slot);
+            expect(answer == (i == 2 && k == 2 ? SUNDIAL_CLOCK_GOOD : SUNDIAL_ESTIMATE_TOO_GREAT), "an interval past 64 bits");
+        }
+}
+
+/* Whatever the counter is within the terms, the interval contains what the library reports, and has little more. */
+static void contains(void)
+{
+    for (int i = 0; i < 100000; i++) {
+        struct sundial_clock_mapping counter = {below(SECOND), 7000 + below(SECOND), (int32_t)below(200001) - 100000};
+        struct sundial_clock_terms terms = {UINT64_MAX, UINT64_MAX, below(3) == 0 ? 0 : below(5000000),
+                                            below(3) == 0 ? 0 : (uint32_t)below(100001), counter.skew, 0};
+        struct sundial_duty duty = DUTY;
+        struct sundial_device device;
+        struct sundial_clock_slot slot;
+        struct sundial_clock_now now;
+        struct sundial_clock_report report = {{0, 0}, {0, 0}};
+        memset(&device, 0, sizeof device);
+        memset(&now, 0, sizeof now);
+        duty.rates.ppm = (uint32_t)below(100001);
+        expect(sundial_start(&device, &duty, 7000, 100 * SECOND * 1000 + below(SECOND), below(SECOND)) == SUNDIAL_DONE, "start");
+        expect(sundial_clock_line(&terms, &device, counter.counter, counter.raw, &slot) == SUNDIAL_CLOCK_GOOD, "a slot");
+        uint64_t passed = below(1 + (UINT64_C(1) << below(34))), raw = counter.raw + passed;
+        expect(sundial_clock_at(&slot, &slot.clock, raw, UINT64_MAX, &now) == SUNDIAL_CLOCK_GOOD, "a read");
+        uint64_t off = terms.slack + passed * terms.slack_ppm / 1000, at = sundial_clock_counter(&counter, raw);
+        for (int side = -1; side <= 1; side += 2) {
+            uint64_t slacked = side < 0 ? at - off : at + off;
+            if (side < 0 && at < 7000 + off)
+                continue;
+            expect(sundial_report(&device, slacked, &report) == SUNDIAL_DONE, "a report");
+            uint64_t reported = side < 0 ? sundial_earliest(&report).low : sundial_latest(&report).low;
+            uint64_t read = 1000 * (side < 0 ? now.earliest : now.latest);
+            uint64_t more = 2200 + off / 4 + passed / 1000000; /* (growth of the slack, roundings, and those of the rates) */
+            expect(side < 0 ? read <= reported && read + more >= reported : read >= reported && read <= reported + more,
+                   "an interval is not that of the library");
+        }
+    }
+}
+
+/* The counter of a mapping, and a rebase that lowers it. */
+static void counters(void)
+{
     for (int skew = -100000; skew <= 100000; skew += 4001) {
-        struct sundial_clock_mapping mapping = {500, 70000, 0, 0, skew, 0, 0};
-        uint64_t before = sundial_clock_counter(&mapping, 400);
+        struct sundial_clock_mapping mapping = {500, 70000, skew};
+        uint64_t before = sundial_clock_counter(&mapping, 400), day = UINT64_C(86400) * SECOND;
         expect(before == 70000, "a counter before its beginning");
         for (uint64_t raw = 500; raw < 4000; raw++) {
             uint64_t at = sundial_clock_counter(&mapping, raw);
-            expect(at >= before, "a counter fell");
+            expect(at >= before && at == 70000 + (raw - 500) * 1000 + (uint64_t)((int64_t)(raw - 500) * skew / 1000), "a counter");
             before = at;
         }
-        uint64_t day = UINT64_C(86400) * SECOND;
         expect((int64_t)(sundial_clock_counter(&mapping, 500 + day) - 70000 - day * 1000) == (int64_t)(day / 1000) * skew,
                "a day by a counter");
     }
+    struct sundial_clock_writer writer;
+    struct sundial_clock_reader reader;
+    struct sundial_clock_now before, after;
+    uint64_t raw = sundial_clock_raw(), lowered = 0;
+    struct sundial_clock_mapping mapping = {raw - 1000 * SECOND, 0, 0}, kept = mapping;
+    struct sundial_port port = {sundial_clock_counter(&mapping, raw), 9000 * SECOND, 1};
+    struct sundial_device device = started(port.since, 5 * SECOND * 1000, 1000);
+    expect(sundial_clock_create(page_of("counters"), &LASTING, &writer) == 0 && sundial_clock_open(path, &reader) == 0, "no page");
+    expect(sundial_clock_publish(&writer, &device, sundial_clock_counter(&mapping, raw), raw) == SUNDIAL_CLOCK_GOOD
+               && sundial_clock_read(&reader, SECOND, &before) == SUNDIAL_CLOCK_GOOD, "before a rebase");
+    struct sundial_device none;
+    memset(&none, 0, sizeof none);
+    expect(sundial_clock_rebase(&mapping, &none, NULL, 0, raw, &lowered) == SUNDIAL_NO_DEVICE && lowered == 0
+               && memcmp(&mapping, &kept, sizeof mapping) == 0, "a rebase that answers a fault changed something");
+    raw = sundial_clock_raw();
+    expect(sundial_clock_rebase(&mapping, &device, &port, 1, raw, &lowered) == SUNDIAL_DONE && lowered >= 999 * SECOND * 1000, "a rebase");
+    expect(sundial_clock_counter(&mapping, raw) + lowered == sundial_clock_counter(&kept, raw)
+               && sundial_clock_counter(&mapping, raw + 777) + lowered == sundial_clock_counter(&kept, raw + 777), "a lowered mapping");
+    expect(port.since == sundial_clock_counter(&mapping, raw), "a lowered port");
+    expect_refused(&writer, &device, sundial_clock_counter(&kept, raw), raw, SUNDIAL_CLOCK_APART, "a counter that was not lowered");
+    expect(sundial_clock_publish(&writer, &device, sundial_clock_counter(&mapping, raw), raw) == SUNDIAL_CLOCK_GOOD, "after a rebase");
+    expect(sundial_clock_read(&reader, SECOND, &after) == SUNDIAL_CLOCK_GOOD && after.earliest >= before.earliest
+               && after.latest < before.latest + SECOND && after.eps < SECOND, "an interval that a rebase shifted");
+    /* too early by more than the two intervals are wide, too */
+    device = started(7000, SECOND, 10);
+    expect_refused(&writer, &device, 7000, sundial_clock_raw(), SUNDIAL_CLOCK_APART, "a clock that is seconds slow");
+    sundial_clock_withdraw(&writer);
+    expect(sundial_clock_publish(&writer, &device, 7000, sundial_clock_raw()) == SUNDIAL_CLOCK_GOOD, "another clock after a withdrawal");
+    /* a page of another boot says nothing of this one */
+    writer.page->slots[writer.page->latest % 2][2] ^= 1;
+    device = started(7000, 900 * SECOND * 1000, 10);
+    expect(sundial_clock_publish(&writer, &device, 7000, sundial_clock_raw()) == SUNDIAL_CLOCK_GOOD, "the first of a boot");
+    sundial_clock_close(&reader);
+    sundial_clock_release(&writer);
+    remove_page();
+}
+
+static void commits(void)
+{
     struct sundial_clock_now now;
     uint64_t last = 0;
     memset(&now, 0, sizeof now);
     now.latest = 10;
     expect(sundial_clock_stamp(&now, &last) == 10 && sundial_clock_stamp(&now, &last) == 11, "stamps");
     now.latest = 5;
-    expect(sundial_clock_stamp(&now, &last) == 12, "a stamp of a clock that fell");
-    printf("clock page: each answer, and the edges of its numbers\n");
+    expect(sundial_clock_stamp(&now, &last) == 12 && last == 12, "a stamp of a latest that fell");
+    now.latest = 12;
+    expect(sundial_clock_stamp(&now, &last) == 13, "a stamp of a latest that was given");
+    now.earliest = 7, now.latest = 9, now.origin = 1000;
+    expect(sundial_clock_has_passed(&now, 6) && !sundial_clock_has_passed(&now, 7), "whether a stamp has passed");
+    expect(sundial_clock_lease_holds(&now, 10) && !sundial_clock_lease_holds(&now, 9), "whether a lease holds");
+    expect(sundial_clock_lease_is_over(&now, 6) && !sundial_clock_lease_is_over(&now, 7), "whether a lease is over");
+    expect(sundial_clock_civil(&now, 5) == 1005, "civil time");
 }
 
-static void time_reads(void)
+static void waits(void)
 {
-    static uint64_t took[3][BATCHES];
-    static const char *const NAME[3] = {"read", "CLOCK_MONOTONIC_RAW alone", "stamp"};
-    pthread_t writer;
-    static int pause = 1;
-    const struct sundial_clock_page *page = NULL;
+    struct sundial_clock_writer writer;
+    struct sundial_clock_reader reader;
+    struct sundial_clock_now now;
+    uint64_t raw = sundial_clock_raw(), begun = raw, passed;
+    struct sundial_device device = started(7000, 1000 * SECOND, 10);
+    expect(sundial_clock_create(page_of("waits"), &LASTING, &writer) == 0 && sundial_clock_open(path, &reader) == 0, "no page");
+    expect(sundial_clock_publish(&writer, &device, 7000, raw) == SUNDIAL_CLOCK_GOOD, "a publication");
+    expect(sundial_clock_wait(&reader, SECOND + SECOND / 50, SECOND, &now) == SUNDIAL_CLOCK_GOOD && now.earliest > SECOND + SECOND / 50
+               && sundial_clock_raw() - begun > SECOND / 50, "a wait for 20 ms");
+    begun = sundial_clock_raw();
+    expect(sundial_clock_wait(&reader, 1000 * SECOND, SECOND / 50, &now) == SUNDIAL_CLOCK_NOT_YET, "a wait whose patience ends");
+    passed = sundial_clock_raw() - begun;
+    expect(passed >= SECOND / 50 && passed < 20 * SECOND, "patience of 20 ms");
+    expect(sundial_clock_wait(&reader, 1000 * SECOND, 0, &now) == SUNDIAL_CLOCK_NOT_YET, "no patience");
+    writer.terms.stale_after = 0;
+    expect(sundial_clock_publish(&writer, &device, 7000, raw) == SUNDIAL_CLOCK_GOOD, "a publication that is stale at once");
+    expect(sundial_clock_wait(&reader, 1000 * SECOND, SECOND / 100, &now) == SUNDIAL_CLOCK_STALE, "a wait by a stale clock");
+    expect(sundial_clock_wait(&reader, now.earliest + SECOND / 100, SECOND, &now) == SUNDIAL_CLOCK_GOOD, "a stale clock passes, too");
+    sundial_clock_close(&reader);
+    sundial_clock_release(&writer);
+    remove_page();
+}
+
+/* What another user does with the files. It says so once it has all the locks that it can have. */
+static int as_nobody(int ready)
+{
+    int page = -1;
+    struct sundial_clock_writer writer;
+    if (setgid(65534) != 0 || setuid(65534) != 0)
+        return 1;
+    if (open(lock, O_RDONLY) >= 0 || open(path, O_RDWR) >= 0 || sundial_clock_create(path, &LASTING, &writer) == 0)
+        return 2;
+    page = open(path, O_RDONLY);
+    struct flock all = {.l_type = F_RDLCK, .l_whence = SEEK_SET};
+    if (page < 0 || flock(page, LOCK_EX) != 0 || fcntl(page, F_SETLK, &all) != 0)
+        return 3;
+    if (write(ready, "", 1) != 1)
+        return 4;
+    pause();
+    return 0;
+}
+
+static void files(void)
+{
+    struct sundial_clock_writer writer, second;
+    struct sundial_clock_reader reader;
+    struct sundial_clock_now now;
+    struct sundial_device device = started(7000, 5000, 10);
+    char other[300];
+    expect(sundial_clock_open(page_of("files"), &reader) != 0 && errno == ENOENT, "a page that is not there");
+    expect(sundial_clock_open("/dev/null", &reader) != 0 && errno == EINVAL, "a file that is no page");
+    expect(sundial_clock_create(path, &LASTING, &writer) == 0, "a page");
+    expect(sundial_clock_create(path, &LASTING, &second) != 0 && errno == EWOULDBLOCK, "two writers have one page");
+    expect(sundial_clock_publish(&writer, &device, 7000, sundial_clock_raw()) == SUNDIAL_CLOCK_GOOD, "a publication");
+    sundial_clock_release(&writer);
+    expect(sundial_clock_open(path, &reader) == 0 && sundial_clock_read(&reader, SECOND, &now) == SUNDIAL_CLOCK_GOOD,
+           "a released page is read");
+    expect(sundial_clock_create(path, &LASTING, &writer) == 0 && sundial_clock_read(&reader, SECOND, &now) == SUNDIAL_CLOCK_GOOD,
+           "a writer that comes leaves the page as it is");
+    writer.page->version = 1;
+    expect(sundial_clock_open(path, &reader) != 0 && errno == ENOTSUP, "a page of another version");
+    sundial_clock_release(&writer);
+    expect(sundial_clock_create(path, &LASTING, &writer) != 0 && errno == ENOTSUP, "a writer of another version");
+    unlink(path);
+    FILE *file = fopen(path, "w");
+    expect(file != NULL && fputs("a file of somebody", file) > 0 && fclose(file) == 0, "no file");
+    expect(sundial_clock_create(path, &LASTING, &writer) != 0 && errno == EINVAL, "a file of somebody was taken for a page");
+    expect(truncate(path, 5000) == 0 && sundial_clock_create(path, &LASTING, &writer) != 0 && errno == EINVAL, "a longer one");
+    unlink(path);
+    snprintf(other, sizeof other, "%s.other", path);
+    expect(sundial_clock_create(path, &LASTING, &writer) == 0, "a page");
+    sundial_clock_release(&writer);
+    expect(link(path, other) == 0 && sundial_clock_create(path, &LASTING, &writer) != 0 && errno == EPERM, "a page of two names");
+    expect(unlink(other) == 0 && symlink(path, other) == 0 && sundial_clock_create(other, &LASTING, &writer) != 0 && errno == ELOOP,
+           "a page behind a symbolic link");
+    unlink(other);
+    snprintf(other, sizeof other, "%s.other.lock", path);
+    unlink(other);
+    expect(chmod(path, 0666) == 0 && sundial_clock_create(path, &LASTING, &writer) != 0 && errno == EPERM, "a page that all may write");
+    expect(chmod(path, 0644) == 0 && chmod(lock, 0644) == 0 && sundial_clock_create(path, &LASTING, &writer) != 0 && errno == EPERM,
+           "a lock that all may take");
+    expect(chmod(lock, 0600) == 0, "chmod");
+    if (geteuid() != 0) {
+        printf("clock page: left out, as this is not root: another user's try of the lock\n");
+    } else {
+        int ends[2];
+        char byte;
+        expect(pipe(ends) == 0, "no pipe");
+        pid_t reading = fork();
+        if (reading == 0)
+            _exit(as_nobody(ends[1]));
+        close(ends[1]);
+        expect(read(ends[0], &byte, 1) == 1, "another user has too much or too little of the files");
+        close(ends[0]);
+        expect(sundial_clock_create(path, &LASTING, &writer) == 0, "a reader took the lock");
+        sundial_clock_release(&writer);
+        kill(reading, SIGKILL);
+        waitpid(reading, NULL, 0);
+    }
+    remove_page();
+}
+
+static void names(void)
+{
+#define NAMED(name) expect(strcmp(sundial_clock_name(SUNDIAL_##name), #name) == 0, "the name of " #name)
+#define CLOCK_NAMED(name) expect(strcmp(sundial_clock_name(SUNDIAL_CLOCK_##name), #name) == 0, "the name of " #name)
+    CLOCK_NAMED(GOOD), CLOCK_NAMED(EMPTY), CLOCK_NAMED(BUSY), CLOCK_NAMED(STALE), CLOCK_NAMED(WIDE), CLOCK_NAMED(NOT_YET);
+    CLOCK_NAMED(FOREIGN), CLOCK_NAMED(VOID), CLOCK_NAMED(WITHDRAWN), CLOCK_NAMED(DISRUPTED), CLOCK_NAMED(APART);
+    CLOCK_NAMED(BAD_RAW), CLOCK_NAMED(BAD_TERMS);
+    NAMED(NO_DEVICE), NAMED(NO_DUTY), NAMED(RATES_TOO_GREAT), NAMED(COUNTER_FELL), NAMED(CLOCK_TOO_GREAT);
+    NAMED(ESTIMATE_TOO_GREAT), NAMED(STAMP_TOO_GREAT), NAMED(MESSAGE_TOO_GREAT), NAMED(NOT_ROOT);
+    expect(strcmp(sundial_answer_name(0), "DONE") == 0, "the name of DONE");
+    static const uint32_t NONE[] = {5, 11, 99, 112, UINT32_MAX};
+    for (size_t i = 0; i < sizeof NONE / sizeof NONE[0]; i++)
+        expect(strcmp(sundial_clock_name(NONE[i]), "unknown") == 0, "the name of no answer");
+}
+
+/* Publishes once, while its parent steps through it. */
+static void publish_traced(struct sundial_clock_writer *writer, const struct sundial_device *device)
+{
+    if (ptrace(PTRACE_TRACEME, 0, NULL, NULL) != 0)
+        _exit(77);
+    raise(SIGSTOP);
+    writer->terms.origin = 2;
+    uint32_t answer = sundial_clock_publish(writer, device, 7000, sundial_clock_raw());
+    _exit(answer == SUNDIAL_CLOCK_GOOD ? 0 : 1);
+}
+
+/* The origin that a reader of this page reads. */
+static int64_t origin_of(const struct sundial_clock_page *page, const struct sundial_clock_writer *writer)
+{
+    struct sundial_clock_reader reader = {page, writer->clock};
     struct sundial_clock_now now;
     memset(&now, 0, sizeof now);
-    expect(pthread_create(&writer, NULL, write_until_stop, &pause) == 0, "no thread");
-    while (sundial_clock_open(path, &page) != 0 || sundial_clock_read(page, GREATEST, &now) >= SUNDIAL_CLOCK_EMPTY)
-        pass(0.001);
-    volatile uint64_t kept = 0;
-    for (int batch = 0; batch < BATCHES; batch++)
-        for (int kind = 0; kind < 3; kind++) {
-            uint64_t begun = sundial_clock_raw();
-            for (int i = 0; i < BATCH; i++) {
-                if (kind == 0)
-                    kept = kept + sundial_clock_read(page, GREATEST, &now);
-                else
-                    kept = kept + (kind == 1 ? sundial_clock_raw() : sundial_clock_stamp(&now, &shared->last));
-            }
-            took[kind][batch] = (sundial_clock_raw() - begun) * 10 / BATCH;
-        }
-    __atomic_store_n(&shared->stop, 1, __ATOMIC_RELEASE);
-    pthread_join(writer, NULL);
-    for (int kind = 0; kind < 3; kind++) {
-        qsort(took[kind], BATCHES, sizeof took[kind][0], by_size);
-        printf("%-26s least %" PRIu64 ".%" PRIu64 " ns, median %" PRIu64 ".%" PRIu64 " ns\n", NAME[kind],
-               took[kind][0] / 10, took[kind][0] % 10, took[kind][BATCHES / 2] / 10, took[kind][BATCHES / 2] % 10);
-    }
+    expect(sundial_clock_read(&reader, UINT64_MAX, &now) == SUNDIAL_CLOCK_GOOD, "no interval after a writer was killed");
+    return now.origin;
 }
 
-static void write_for(double seconds)
+/* Whether there is ptrace. */
+static int steps(void)
 {
-    pthread_t writer;
-    expect(pthread_create(&writer, NULL, write_until_stop, NULL) == 0, "no thread");
-    pass(seconds);
-    __atomic_store_n(&shared->stop, 1, __ATOMIC_RELEASE);
-    pthread_join(writer, NULL);
+    static struct sundial_clock_page left;
+    struct sundial_clock_writer writer, next;
+    /* (with an eps of 1000 s, since its counter stands still) */
+    struct sundial_device device = started(7000, 5000, 1000000 * SECOND);
+    int status = 0, count = 0, torn = 0, newer = 0;
+    expect(sundial_clock_create(page_of("step"), &LASTING, &writer) == 0, "no page");
+    writer.terms.origin = 1;
+    for (int i = 0; i < 2; i++) /* (both slots are full) */
+        expect(sundial_clock_publish(&writer, &device, 7000, sundial_clock_raw()) == SUNDIAL_CLOCK_GOOD, "a publication");
+    pid_t child = fork();
+    if (child == 0)
+        publish_traced(&writer, &device);
+    expect(waitpid(child, &status, 0) == child, "no child");
+    if (WIFEXITED(status) && WEXITSTATUS(status) == 77) {
+        printf("clock step: left out, as there is no ptrace here: a writer that is stopped within a publication\n");
+        return 0;
+    }
+    for (; WIFSTOPPED(status); count++) {
+        int64_t origin = origin_of(writer.page, &writer);
+        expect(origin == 1 + (newer != 0 || origin == 2), "an interval is of no publication, or comes back");
+        newer += origin == 2;
+        left = *writer.page;
+        torn += left.slots[1][0] == 0 || left.slots[1][0] > left.latest;
+        next = writer;
+        next.page = &left;
+        next.terms.origin = 3;
+        expect(sundial_clock_publish(&next, &device, 7000, sundial_clock_raw()) == SUNDIAL_CLOCK_GOOD && origin_of(&left, &writer) == 3,
+               "a writer that comes after one that was killed");
+        expect(ptrace(PTRACE_SINGLESTEP, child, NULL, NULL) == 0 && waitpid(child, &status, 0) == child, "no step");
+    }
+    expect(WIFEXITED(status) && WEXITSTATUS(status) == 0 && newer > 0 && torn > 10, "the publication was not stepped through");
+    printf("clock step: %d steps of a publication, %d of them with a slot half written\n", count, torn);
+    sundial_clock_release(&writer);
+    remove_page();
+    return 1;
+}
+
+/* The next publication. Its terms are its number. */
+static void publish_next(struct sundial_clock_writer *writer, const struct sundial_device *device)
+{
+    uint64_t number = writer->page->latest + 1;
+    writer->terms.origin = (int64_t)number;
+    writer->terms.stale_after = writer->terms.void_after = number * SECOND;
+    expect(sundial_clock_publish(writer, device, 7000, sundial_clock_raw()) == SUNDIAL_CLOCK_GOOD, "a publication");
+}
+
+/* Copies the slot once, while its parent steps through it. */
+static void copy_traced(const struct sundial_clock_page *page)
+{
+    struct sundial_clock_slot slot;
+    memset(&slot, 0, sizeof slot);
+    if (ptrace(PTRACE_TRACEME, 0, NULL, NULL) != 0)
+        _exit(77);
+    raise(SIGSTOP);
+    uint32_t answer = sundial_clock_copy(page, &slot);
+    uint64_t after = slot.number * SECOND;
+    _exit(answer != SUNDIAL_CLOCK_GOOD || slot.origin != (int64_t)slot.number || slot.stale_after != slot.raw + after
+          || slot.void_after != slot.raw + after);
+}
+
+/* Whether a copy that is stopped after so many instructions ends, when the slot is written anew there. */
+static int copies_after(struct sundial_clock_writer *writer, const struct sundial_device *device, int instructions)
+{
+    int status = 0;
+    pid_t child = fork();
+    if (child == 0)
+        copy_traced(writer->page);
+    expect(waitpid(child, &status, 0) == child, "no child");
+    for (int i = 0; i < instructions && WIFSTOPPED(status); i++)
+        expect(ptrace(PTRACE_SINGLESTEP, child, NULL, NULL) == 0 && waitpid(child, &status, 0) == child, "no step");
+    int is_within = WIFSTOPPED(status);
+    publish_next(writer, device);
+    publish_next(writer, device);
+    if (is_within)
+        expect(ptrace(PTRACE_CONT, child, NULL, NULL) == 0 && waitpid(child, &status, 0) == child, "no end");
+    expect(WIFEXITED(status) && WEXITSTATUS(status) == 0, "a copy is of two publications");
+    return is_within;
+}
+
+static void copies(void)
+{
+    struct sundial_clock_writer writer;
+    struct sundial_device device = started(7000, 5000, 1000000 * SECOND);
+    int count = 0, steps = 5;
+    expect(sundial_clock_create(page_of("copy"), &LASTING, &writer) == 0, "no page");
+    publish_next(&writer, &device);
+    while (copies_after(&writer, &device, count * steps))
+        count++;
+    printf("clock step: a copy stopped at %d places, and its slot written anew there\n", count);
+    sundial_clock_release(&writer);
+    remove_page();
 }
 
 int main(int count, char **words)
 {
-    void *room = mmap(NULL, sizeof *shared, PROT_READ | PROT_WRITE, MAP_SHARED | MAP_ANONYMOUS, -1, 0);
-    double seconds = count > 2 ? strtod(words[count - 1], NULL) : 1;
-    if (count < 2 || room == MAP_FAILED) {
-        fprintf(stderr, "clock_test threads|processes|page|time [SECONDS]\nclock_test write FILE SECONDS\n");
+    if (count == 2 && strcmp(words[1], "page") == 0) {
+        answers(), edges(), lines(), contains(), counters(), commits(), waits(), files(), names();
+        printf("clock page: each answer, the numbers of a slot, and the files\n");
+    } else if (count == 2 && strcmp(words[1], "step") == 0) {
+        if (steps())
+            copies();
+    } else {
+        fprintf(stderr, "clock_test page|step\n");
         return 2;
     }
-    shared = (struct shared *)room;
-    if (count == 4 && strcmp(words[1], "write") == 0) {
-        snprintf(path, sizeof path, "%s", words[2]);
-        write_for(seconds);
-        return 0;
-    }
-    shared->begun = sundial_clock_raw() - 10000000;
-    snprintf(path, sizeof path, "/tmp/sundial-clock-%d", (int)getpid());
-    if (strcmp(words[1], "threads") == 0)
-        threads(seconds);
-    else if (strcmp(words[1], "processes") == 0)
-        processes(seconds);
-    else if (strcmp(words[1], "page") == 0)
-        answers(), numbers();
-    else
-        time_reads();
-    unlink(path);
     return 0;
 }

@@ -6,7 +6,7 @@
  * touch, so that a byte read or written past it ends the program. Of each call it also tests what
  * the header says: the answer is one of those that are listed; an answer that is not
  * SUNDIAL_DONE changes no struct; what a call has made or changed is a device; what is const stays
- * as it is; the same bytes get the same answer. At the end it tells how often each call gave each
+ * as it is; a flag that it tells is 1 or 0; the same bytes get the same answer. At the end it tells how often each call gave each
  * answer. The status is 1 where something failed, or where a listed answer never came in three
  * seconds or more. */
 #define _GNU_SOURCE
@@ -275,6 +275,17 @@ enum {
           + 2 * sizeof(struct sundial_wide) + sizeof(uint64_t) + sizeof(uint8_t) + sizeof(uint32_t)
 };
 
+/* Flags are 1 or 0 and nothing else, and a device acts, or has a parent, by its mode. */
+static int is_told(const struct rooms *at)
+{
+    switch (call) {
+    case 7: case 8: return at->effect->sends <= 1;
+    case 14: return at->parent->has_parent <= 1 && (at->parent->has_parent == 0 || at->device->mode <= SUNDIAL_BACKUP);
+    case 15: return *at->acts == (at->device->mode == SUNDIAL_ACTING ? 1 : 0);
+    default: return 1;
+    }
+}
+
 static void one_call(const struct rooms *at)
 {
     unsigned char before[ALL], after[ALL];
@@ -308,6 +319,8 @@ static void one_call(const struct rooms *at)
         say("it changed what it was given to read");
     if (answer == SUNDIAL_DONE && sundial_made(at->device) != SUNDIAL_DONE)
         say("what it left is no device");
+    if (answer == SUNDIAL_DONE && !is_told(at))
+        say("it tells another thing than the device");
     if (one_in(16)) {
         unsigned char kept[ALL];
         memcpy(kept, after, ALL);

@@ -16,7 +16,7 @@
  *   - A log, where they are the names of the topology: docs/RECORD.md. Each device of a fabric has
  *     a recorder of its own, and the operator has one for what no device sees. sundial-record makes
  *     one schedule of all logs.
- *   - A compact log, where `is_compact` is 1, whatever the names are: docs/COMPACT-LOGS.md.
+ *   - A compact log, where `is_compact` is 1, whatever the names are: docs/RECORD.md.
  *     Recorders are as for a log. Its lines are those of a schedule, but for the two that name a
  *     message:
  *
@@ -128,7 +128,7 @@ uint64_t sundial_record_lose(struct sundial_recorder *recorder, uint64_t referen
                              const struct sundial_message *message, uint64_t number);
 
 /* The recording ends: the last line. A replay refuses a schedule without it. Of several logs only
- * the operator's has it, with a reference behind those of all other lines. */
+ * the operator's has it, with a reference after those of all other lines. */
 uint64_t sundial_record_end(struct sundial_recorder *recorder, uint64_t reference);
 
 /* The number of the next message. It writes nothing. */

@@ -5,7 +5,8 @@
  * The calls are of all kinds, with random numbers. Each line of the compact log has to be that of the
  * schedule, byte for byte. Only a receipt and a loss differ: in place of the number of the message
  * they have its link, its epoch and its stamp, and the loss its receiver. Then it tries the limits: in
- * each place the greatest number is written, and a greater one ends the compact log. */
+ * each place the greatest number is written, and a greater one ends the compact log. A log with the longest
+ * names and the greatest numbers has whole lines, and one with a longer name ends. */
 #include <inttypes.h>
 #include <stdio.h>
 #include <stdlib.h>
@@ -13,7 +14,7 @@
 
 #include "recorder.h"
 
-enum { ROOM = 512, KINDS = 16, RECEIVE = 14, LOSE = 15, TICK = 3, LAST_WITH_CLOCK = 2, LAST_WITH_COUNTER = 5 };
+enum { ROOM = 1024, NAME = 64, LONG_NAME = 512, KINDS = 16, RECEIVE = 14, LOSE = 15, TICK = 3, LAST_WITH_CLOCK = 2, LAST_WITH_COUNTER = 5 };
 
 static const uint64_t GREATEST = UINT64_C(1) << 60;
 
@@ -208,6 +209,57 @@ static void try_names(void)
     expect_same(LOSE, &told);
 }
 
+/* The keys of a line in a log with names, each with the value of the kind's line. */
+static void line_of_log(char *line, int kind, const struct told *t, const char *name)
+{
+    static const char *const EVENT[] = {"start", "join", "fix", "tick", "ask", "commit", "give", "seal",
+                                        "stage", "fail", "fail", "mend", "mend", "end", "recv", "lose"};
+    const struct sundial_message *m = &t->message;
+    line += sprintf(line, "{\"event\": \"%s\", \"reference_ps\": %" PRIu64, EVENT[kind], t->reference);
+    if (kind <= 7 || kind == 9 || kind == 11 || kind == RECEIVE || kind == LOSE)
+        line += sprintf(line, ", \"device\": \"%s\"", name);
+    if (kind <= LAST_WITH_COUNTER || kind == RECEIVE)
+        line += sprintf(line, ", \"counter_ps\": %" PRIu64, t->counter);
+    if (kind <= LAST_WITH_CLOCK)
+        line += sprintf(line, ", \"clock_ps\": %" PRIu64 ", \"eps_ps\": %" PRIu64, t->clock, t->eps);
+    if (kind == 10 || kind == 12 || kind == RECEIVE || kind == LOSE)
+        line += sprintf(line, ", \"link\": \"%s\"", name);
+    if (kind == RECEIVE || kind == LOSE)
+        line += sprintf(line, ", \"epoch\": %" PRIu32 ", \"term\": %" PRIu32 ", \"round\": %" PRIu64, m->epoch,
+                        m->stamp.term, m->stamp.round);
+    strcpy(line, "}\n");
+}
+
+/* The longest names and the greatest numbers fit. */
+static void try_log(int kind)
+{
+    char name[NAME + 1], wanted[ROOM];
+    memset(name, 'n', NAME);
+    name[NAME] = '\0';
+    const char *const names[] = {name};
+    struct told told = {UINT64_MAX, UINT64_MAX, UINT64_MAX, UINT64_MAX, UINT64_MAX, 0, 0,
+                        {{0, 0}, {0, 0}, {UINT64_MAX, UINT32_MAX}, UINT32_MAX}};
+    begin_anew();
+    schedule.devices = schedule.links = names;
+    line_of_log(wanted, kind, &told, name);
+    expect(call(&schedule, kind, &told) == 1 && strcmp(schedule_line, wanted) == 0, "the line of a log is another one");
+}
+
+/* A name that no line has room for ends the log. */
+static void try_long_name(void)
+{
+    static char name[LONG_NAME + 1];
+    const char *const names[] = {name};
+    struct told told = told_by_chance();
+    told.device = 0;
+    memset(name, 'n', LONG_NAME);
+    begin_anew();
+    schedule.devices = schedule.links = names;
+    schedule_line[0] = '\0';
+    expect(call(&schedule, TICK, &told) == 0 && schedule.failed && schedule.lines == 0, "a name that is too long");
+    expect(call(&schedule, 8, &told) == 0 && schedule_line[0] == '\0', "a line comes behind one that was not written");
+}
+
 static void try_refusal(void)
 {
     struct told told = told_by_chance();
@@ -232,6 +284,9 @@ int main(int count, char **words)
         for (int place = 0; place < 5; place++)
             try_limit(kind, place);
     try_names();
+    for (int kind = 0; kind < KINDS; kind++)
+        try_log(kind);
+    try_long_name();
     try_refusal();
     printf("recorder: %" PRIu64 " calls of %d kinds: the compact log has the lines of the schedule\n", wanted, KINDS);
     return 0;

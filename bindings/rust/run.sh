@@ -21,13 +21,17 @@ if command -v python3 > /dev/null; then
         ../../tools/sundial-duty ../c/topology.toml ../c/plan-1.json ../c/plan-2.json ../c/plan-3.json --form rust
         cat duties.rs
     } > "$work/tests/duties.rs" || exit 1
+    {
+        ../blocks ../../docs/LIFE-OF-A-DEVICE.md rust life
+        cat life.rs
+    } > "$work/tests/life.rs" || exit 1
 fi
 export RUSTFLAGS='-D warnings' RUSTDOCFLAGS='-D warnings'
 export SUNDIAL_DEVICE_LIB=${library%/*} SUNDIAL_EXAMPLE=$work
 where=(--offline --all-features --manifest-path "$work/Cargo.toml" --target-dir "$work/target")
 # A writer in C, whose clock the tests read, where clock.h can be.
 if [ "$(uname -s)" = Linux ]; then
-    "${CC:-cc}" -std=c11 -O2 -pthread -I ../../include -I ../c -o "$work/clock" ../c/clock_test.c "$library" || exit 1
+    "${CC:-cc}" -std=c11 -O2 -pthread -I ../../include -I ../c -o "$work/clock" ../c/clock_run.c "$library" || exit 1
     "$work/clock" write "$work/page" 600 &
     writer=$!
     trap 'kill "$writer"; rm -rf "$work"' EXIT

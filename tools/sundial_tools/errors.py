@@ -28,6 +28,14 @@ class ToolError(Exception):
         return f"{place}: {self.reason}" if place else self.reason
 
 
+def decoded(text: bytes, source: Optional[str], line: Optional[int] = None) -> str:
+    """The text of bytes that have to be UTF-8."""
+    try:
+        return text.decode("utf-8")
+    except UnicodeDecodeError as fault:
+        raise ToolError(f"not UTF-8: {fault.reason} at byte {fault.start + 1}" + (" of the line" if line else ""), source, line) from None
+
+
 class Stopped(BaseException):
     """A signal that ends the process. It is raised, so that what was begun is cleared away first."""
 
@@ -70,7 +78,7 @@ def run_tool(name: str, main: Callable[[List[str]], int], words: Optional[List[s
     except ToolError as fault:
         return _refused(name, str(fault))
     except UnicodeDecodeError as fault:
-        return _refused(name, f"a text is not UTF-8: {fault.reason} at byte {fault.start}")
+        return _refused(name, f"a text is not UTF-8: {fault.reason} at byte {fault.start + 1}")
     except BrokenPipeError:
         # Who read the output has gone. The interpreter must not write to it again at its end.
         os.dup2(os.open(os.devnull, os.O_WRONLY), sys.stdout.fileno())

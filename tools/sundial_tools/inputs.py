@@ -10,7 +10,7 @@ import sys
 import tempfile
 from typing import Iterator, List, Sequence
 
-from sundial_tools.errors import ToolError
+from sundial_tools.errors import ToolError, decoded
 
 NAME = "standard input"
 
@@ -47,6 +47,13 @@ def as_files(options: argparse.Namespace, *names: str, streams: Sequence[str] = 
 def _paths(value: object) -> List[str]:
     # (an option of another command of the tool may have the name of a text, and be a number)
     return value if isinstance(value, list) else [value] if isinstance(value, str) else []
+
+
+def read_lines(path: str) -> Iterator[str]:
+    """The lines of a file with their ends, or of standard input for `-`. A line that is not UTF-8 is told with its place."""
+    with open(sys.stdin.fileno() if path == "-" else path, "rb", closefd=path != "-") as file:
+        for number, line in enumerate(file, 1):
+            yield decoded(line, NAME if path == "-" else path, number)
 
 
 def shown(path: str) -> str:

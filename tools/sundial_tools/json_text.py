@@ -5,15 +5,15 @@ from __future__ import annotations
 import json
 from typing import Any, Optional
 
-from sundial_tools.errors import ToolError
+from sundial_tools.errors import ToolError, decoded
 
 MOST_DIGITS = 4000
 
 
 def read_json(path: str) -> Any:
     """The value of a file that another program wrote. A byte order mark is passed over."""
-    with open(path, encoding="utf-8-sig") as file:
-        return parse_json(file.read(), path)
+    with open(path, "rb") as file:
+        return parse_json(decoded(file.read(), path).removeprefix("\ufeff"), path)
 
 
 def parse_json(text: str, source: Optional[str], what: str = "no JSON, or cut short") -> Any:

@@ -16,7 +16,7 @@ import tomllib
 from dataclasses import dataclass, field, replace
 from typing import Any, BinaryIO, ContextManager, Dict, Iterator, List, Optional, Tuple
 
-from sundial_tools.errors import ToolError
+from sundial_tools.errors import ToolError, decoded
 
 NAME = re.compile(r"[A-Za-z0-9_.-]{1,64}")
 MOST_DEVICES, MOST_LINKS, MOST_DOMAINS, MOST_LISTED = 4096, 32768, 4096, 262144
@@ -113,7 +113,7 @@ def read_topology(path: str) -> Topology:
         raise ToolError("the topology has more than 2^26 bytes", path)
     program = sundial_program()
     if program is None:
-        return parse_topology(text.decode("utf-8"), path)
+        return parse_topology(decoded(text, path), path)
     migrated = parse_topology(_migrated(program, path, text), path)
     said = VERSION.search(text)
     return replace(migrated, version=int(said[1])) if said else migrated

@@ -1,6 +1,6 @@
 """Makes the schedule of `sundial case`, and the logs that its devices would have written.
 
-docs/CASE.md says what happens in a case. The devices are a small program of their own here, written apart from
+docs/QUICKSTART.md says what happens in a case. The devices are a small program of their own here, written apart from
 sundial_tools/record. Each log line names a message by its link and stamp, and never by its number.
 """
 

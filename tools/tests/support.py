@@ -4,6 +4,7 @@ import contextlib
 import io
 import os
 import pathlib
+import signal
 import subprocess
 import sys
 import tempfile
@@ -18,9 +19,41 @@ sys.path.insert(0, str(TOOLS))
 
 from sundial_tools.errors import run_tool  # noqa: E402
 
-# The built program: a test that needs it is skipped where there is none.
-PROGRAM = pathlib.Path(os.environ.get("SUNDIAL", TOOLS.parent / "crates" / "sundial" / "out" / "sundial"))
-SEARCH = pathlib.Path(os.environ.get("SUNDIALCTL", TOOLS.parent / "crates" / "sundialctl" / "out" / "sundialctl"))
+
+class Overtime(Exception):
+    """A test that takes too long."""
+
+
+def _overtime(*_):
+    raise Overtime(f"the test takes more than {LIMIT} seconds")
+
+
+def _run_limited(test, result=None, run_test=unittest.TestCase.run):
+    before = signal.signal(signal.SIGALRM, _overtime)
+    signal.setitimer(signal.ITIMER_REAL, LIMIT, AGAIN)
+    try:
+        return run_test(test, result)
+    finally:
+        signal.setitimer(signal.ITIMER_REAL, 0)
+        signal.signal(signal.SIGALRM, before)
+
+
+unittest.TestCase.run = _run_limited  # (one place for all tests, and for all programs that they start)
+
+# In seconds: no test runs longer, and no program that it starts. What still waits is stopped once more after AGAIN.
+LIMIT, AGAIN = int(os.environ.get("TEST_LIMIT", "600")), 5
+
+
+def _program(name: str, variable: str) -> pathlib.Path:
+    """A built program, or the one that the variable names. One that is named has to be there."""
+    said = os.environ.get(variable)
+    if said and not os.access(said, os.X_OK):
+        raise SystemExit(f"{variable} names {said}, and no program is there")
+    return TOOLS.parent / "crates" / name / "out" / name if said is None else pathlib.Path(said)
+
+
+# A test that needs a program is skipped where it is not built.
+PROGRAM, SEARCH = _program("sundial", "SUNDIAL"), _program("sundialctl", "SUNDIALCTL")
 # (the tools themselves read topologies without it, but where a test says otherwise)
 os.environ["SUNDIAL"] = os.environ["SUNDIALCTL"] = ""
 needs_sundial = unittest.skipUnless(PROGRAM.is_file(), "the program sundial is not built (SUNDIAL names it)")
@@ -28,7 +61,7 @@ needs_sundial = unittest.skipUnless(PROGRAM.is_file(), "the program sundial is n
 
 def sundial(*words) -> Tuple[int, str]:
     """Status and standard output of the program."""
-    done = subprocess.run([PROGRAM, *map(str, words)], stdout=subprocess.PIPE, text=True, check=False)
+    done = subprocess.run([PROGRAM, *map(str, words)], stdout=subprocess.PIPE, text=True, check=False, timeout=LIMIT)
     return done.returncode, done.stdout
 
 

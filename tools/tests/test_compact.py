@@ -1,16 +1,16 @@
 """sundial-record --compact and --feed: with `sundialctl record` and `merge` behind them the schedule is the same, byte by byte.
 
-The program is the one that SUNDIALCTL names where it knows these words, and a stand-in by the model of the tools else.
+The program is a stand-in by the model of the tools, and the one that SUNDIALCTL names or that is built.
 """
 
 import json
 import os
 import subprocess
+import sys
 import threading
 import unittest
-from functools import lru_cache
 
-from support import DATA, EXAMPLES, SEARCH, TOOLS, directory, run
+from support import DATA, EXAMPLES, LIMIT, SEARCH, TOOLS, directory, run
 
 import case
 import logs_of
@@ -29,20 +29,25 @@ LOGS = EXAMPLES / "logs"
 MOST = 2**60
 
 
-@lru_cache(maxsize=None)
-def programs(word):
-    """What has this word: the stand-in, and the program where it is there and knows it."""
-    found = [STAND_IN]
-    if SEARCH.is_file():
-        usage = subprocess.run([SEARCH], stdout=subprocess.PIPE, text=True, check=False).stdout
-        found += [SEARCH.resolve()] if f"{word} " in usage else []
-    return found
+def programs():
+    """The stand-in, and the program where it is there. One that does not know the words fails the tests."""
+    return [STAND_IN, SEARCH.resolve()] if SEARCH.is_file() else [STAND_IN]
 
 
 def by_program(program, *words, text):
     """Status and output of the program, which reads the text from its standard input."""
     done = subprocess.run([program, *map(str, words), "/dev/stdin"], input=text, stdout=subprocess.PIPE, text=True, check=False)
     return done.returncode, done.stdout
+
+
+class Compared(unittest.TestCase):
+    def test_a_program_that_is_none_fails(self):
+        words = [sys.executable, "-m", "unittest", "test_compact.Recorded.test_the_logs_of_the_page"]
+        done = subprocess.run(
+            words, cwd=TOOLS / "tests", env={**os.environ, "SUNDIALCTL": "/bin/false"}, stderr=subprocess.PIPE, text=True, check=False, timeout=LIMIT
+        )
+        self.assertEqual(done.returncode, 1)
+        self.assertIn("AssertionError", done.stderr)
 
 
 class Written(unittest.TestCase):
@@ -65,7 +70,7 @@ class Recorded(Written):
         status, compact, err = record(topology, plans, logs, "--compact", *more)
         self.assertEqual(status, 0, err)
         self.assertIn(f"{len(compact.splitlines())} lines for a schedule of {len(schedule.splitlines())} events, ", err)
-        for program in programs("record"):
+        for program in programs():
             self.assertEqual(by_program(program, "record", topology, *plans, text=compact), (0, schedule), program)
         return schedule, compact
 
@@ -140,7 +145,7 @@ class Merged(Written):
         feed = self.feed(topology, logs, *more)
         entries = [line for line in feed.splitlines() if line.split(" ")[1] != "past"]
         compact = None
-        for program in programs("merge"):
+        for program in programs():
             status, compact = by_program(program, "merge", len(logs), text=feed)
             self.assertEqual((status, len(compact.splitlines())), (0, len(entries)), program)
             in_order = sorted(entries, key=lambda line: (int(line.split(" ")[2]), int(line.split(" ")[0])))
@@ -150,7 +155,7 @@ class Merged(Written):
     def test_the_logs_of_the_page(self):
         files = [LOGS / f"{device}.jsonl" for device in "rbx"]
         compact = self.merged(LOGS / "topology.toml", files, "--counters", "life")[1]
-        for program in programs("record"):
+        for program in programs():
             words = ["record", LOGS / "topology.toml", LOGS / "plan.json"]
             self.assertEqual(by_program(program, *words, text=compact), (0, (LOGS / "schedule.txt").read_text()))
 
@@ -171,7 +176,7 @@ class Merged(Written):
                 files = self.written(TRIANGLE, PLANS, "".join(self.apart(made)), path)
                 compact = self.merged(TRIANGLE, files)[1]
                 schedule = record(TRIANGLE, PLANS, files)[1]
-                for program in programs("record"):
+                for program in programs():
                     self.assertEqual(by_program(program, "record", TRIANGLE, *PLANS, text=compact), (0, schedule))
 
     def apart(self, made):

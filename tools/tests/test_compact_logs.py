@@ -74,7 +74,7 @@ class Lines(unittest.TestCase):
         draw = random.Random(8)
         texts = [changed(draw, draw.choice(LINES)) for _ in range(150)] + list(LINES) + ["a" * 4094, "a" * 4097, "tick 5 0 " + "1" * 4096]
         refused = 0
-        for program in programs("merge")[1:]:
+        for program in programs()[1:]:
             for text in texts:
                 if not text or text.isspace() or "\n" in text:
                     continue

@@ -4,17 +4,23 @@ import os
 import unittest
 from unittest import mock
 
-from support import EXAMPLES, PROGRAM, SEARCH, TOOLS, directory, needs_sundial, run, sundial
+from support import PROGRAM, SEARCH, TOOLS, directory, needs_sundial, run, sundial
 
 import histories
 from histories import PLANS, TRIANGLE, History
 from test_follow import Fed
+from worlds import PERIOD, World
 
 from sundial_tools.cut import cutter
 from sundial_tools.cut.joined import joined
 from sundial_tools.cut.main import Cutting, Wish, main
+from sundial_tools.cut.parts import plans_of
 from sundial_tools.plain.lines import Replay
 from sundial_tools.topology import parse_topology
+
+
+# Receipts lie further apart than ticks may.
+SPREAD = TRIANGLE.read_text().replace("tick = 90000000", "tick = 2000000").replace("max = 1000000", "max = 9000000")
 
 
 def plain(topology, plans, lines):
@@ -29,7 +35,7 @@ class Cut(unittest.TestCase):
             cutting = Cutting(made.topology, made.plans, wish, str(path), rows.append)
             cutting.run(iter(made.lines), "schedule")
             return [
-                (row, plain(made.topology, made.plans[row.first_plan - 1:], (path / row.file).read_text().splitlines()))
+                (row, plain(made.topology, plans_of(made.plans, row.first_plan, row.copies), (path / row.file).read_text().splitlines()))
                 for row in rows
             ]
 
@@ -76,15 +82,14 @@ class Cut(unittest.TestCase):
         self.assertGreater(skimmed[0], 300)
 
     def test_a_round_is_told_again_where_receipts_spread(self):
-        text = TRIANGLE.read_text().replace("tick = 90000000", "tick = 2000000").replace("max = 1000000", "max = 9000000")
         ways = set()
         for number in 4, 6:
-            made = History(number, rounds=30, topology=parse_topology(text))
+            made = History(number, rounds=30, topology=parse_topology(SPREAD))
             whole = plain(made.topology, made.plans, made.lines)
             parts = self.parts(made, Wish(every=1))
             self.assertEqual(joined(parts)[1], whole)
             ways |= {row.way for row, _ in parts}
-        self.assertIn("round", ways)
+        self.assertIn("rounds", ways)
 
     def test_late_times_are_moved(self):
         made = History(4)
@@ -103,8 +108,75 @@ class Cut(unittest.TestCase):
         for told, status in ((["report 1 r 1 1", "done 9 1"], 0), (["broken 2 tick", "done 9 0"], 7), (["input schedule 3 TimeFalls"], 3)):
             self.assertEqual(joined([(row, told)])[0], status)
         later = row._replace(first_line=101, opening=4)
-        lines = joined([(row, ["broken 2 tick"]), (later, ["broken 3 tick", "broken 6 loss", "input schedule 9 TimeFalls"]), (later, [])])
+        lines = joined([(row, ["broken 2 tick"]), (later, ["report 2 r 1 1", "broken 3 drift", "broken 6 loss", "input schedule 9 TimeFalls"]), (later, [])])
         self.assertEqual(lines, (3, ["broken 2 tick", "broken 102 loss", "input schedule 105 TimeFalls"]))
+
+
+class Networks(unittest.TestCase):
+    """Rings, meshes, stars and three tiers, with failures at any moment and renewals behind them."""
+
+    parts = Cut.parts
+
+    def judge(self, made, wish):
+        """The joined lines are those of the whole, and no opening breaks anything that the whole does not."""
+        whole = plain(made.topology, made.plans, made.lines)
+        self.assertTrue(whole[-1].startswith("done "), whole[-1])
+        parts = self.parts(made, wish)
+        self.assertEqual(joined(parts)[1], whole)
+        broken = {line.split()[2] for line in whole if line.startswith("broken ")}
+        opened = [line for row, lines in parts for line in lines if line[0] in "ab" and int(line.split()[1]) <= row.opening]
+        self.assertLessEqual(bool(opened), bool(broken), opened)
+        return [row for row, _ in parts]
+
+    def test_the_lines_of_the_parts_are_those_of_the_whole(self):
+        ways, copies, cuts = set(), 0, 0
+        for number, bad in [(number, False) for number in (0, 1, 2, 3, 7, 13)] + [(number, True) for number in (1, 4, 7, 10)]:
+            with self.subTest(number, bad=bad):
+                rows = self.judge(World(number, rounds=24, bad=bad), Wish(every=1) if number % 2 else Wish(at=range(4 * PERIOD, 24 * PERIOD, 6 * PERIOD)))
+                ways |= {row.way for row in rows}
+                copies, cuts = copies + sum(row.copies for row in rows), cuts + len(rows) - 1
+        self.assertEqual(ways, {"whole", "marks", "rounds"})
+        self.assertGreater(copies, 2)
+        self.assertGreater(cuts, 50)
+
+    def test_a_cut_just_after_a_failure(self):
+        """A failed device that is not started is awaited no longer than a tick, so its failure comes early in the opening."""
+        cuts = 0
+        for number, late in ((2, 5), (3, 20), (6, 40), (7, 1)):
+            for thing in ("device", -1), ("link", -1):
+                made = World(number, rounds=8, fails=[(6 * PERIOD - late * 1_000_000, *thing)])
+                with self.subTest(number, thing=thing):
+                    fail = next(at for at, it in enumerate(made.events, 1) if it.word == "fail")
+                    rows = self.judge(made, Wish(at=(made.events[fail - 1].ref,)))
+                    cuts += any(fail < row.first_line < fail + 3 * len(made.topology.devices) for row in rows[1:])
+        self.assertGreater(cuts, 3)
+
+    def test_a_run_of_lost_rounds_is_not_cut(self):
+        """A device hears nothing over its backup link for one round more than *loss* allows: there is no cut between these."""
+        for number in 3, 6:
+            made = World(number, rounds=10, fails=[])
+            plan, loss = made.plans[0], made.topology.loss
+            row = next(it for it in plan.rows.values() if it.backup and not plan.below(it.device))
+            lost = [number for number, it in made.flights.items() if (it.link, it.receiver) == (row.backup.link, row.device)][3:4 + loss]
+            made.events = [it for it in made.events if it.message not in lost]
+            self.judge(made, Wish(every=1))
+            self.assertIn("loss", "".join(plain(made.topology, made.plans, made.lines)))
+
+    def test_drift_over_a_cut(self):
+        """An ask that keeps its rate with all readings but one, which is old: it was the slowest so far."""
+        for number, device in (16, 4), (35, 3):
+            made = World(number, rounds=12, fails=[])
+            rates = made.topology.devices[device]
+            readings = [(at, it) for at, it in enumerate(made.events) if it.device == device and it.counter is not None]
+            fast = [(1_000_000 - rates.ppm) * it.counter - 1_000_000 * it.ref for _, it in readings]
+            ticks = [place for place in range(20, len(fast)) if readings[place][1].word == "tick"]
+            place = max(ticks, key=lambda place: min(fast[place - 8:place]) - min(fast[:place - 8]))
+            (at, late), least = readings[place], min(fast[:place - 8])
+            self.assertLess(least, min(fast[place - 8:place]))
+            counter = (least + 1_000_000 * rates.grain + 1_000_000 * late.ref) // (1_000_000 - rates.ppm) + 1
+            made.events[at:at + 1] = [late._replace(word="ask", counter=max(counter, late.counter)), late._replace(counter=max(counter, late.counter))]
+            self.assertIn(f"broken {at + 1} drift", plain(made.topology, made.plans, made.lines))
+            self.judge(made, Wish(every=1))
 
 
 class Words(unittest.TestCase):
@@ -130,9 +202,9 @@ class Words(unittest.TestCase):
                     tool.feed(line)
                 self.assertEqual(tool.end(), (0, ""))
             rows = [line.split("\t") for line in (path / "parts" / "parts.tsv").read_text().splitlines()]
-            self.assertEqual(rows[0][:5], ["file", "first plan", "opening lines", "first line", "lines"])
+            self.assertEqual(rows[0][:5], ["file", "first plan", "copies", "opening lines", "first line"])
             self.assertEqual(sorted(it.name for it in (path / "parts").iterdir()), [row[0] for row in rows[1:]] + ["parts.tsv"])
-            first = int(rows[2][3])
+            first = int(rows[2][4])
             self.assertEqual((path / "parts" / rows[1][0]).read_text().splitlines()[:first - 1], [it.strip() for it in made.lines[:first - 1]])
 
     @needs_sundial
@@ -167,10 +239,11 @@ class Words(unittest.TestCase):
                 status, out, err = run("sundial-cut", main, words)
                 self.assertEqual((status, out), (0, ""))
                 self.assertRegex(err, r"sundial-cut: (\d) of \1 cuts are certified\n")
-            triangle = EXAMPLES / "triangle"
-            words = [triangle / name for name in ("topology.toml", "plan.json", "plan-2.json", "schedule.txt")]
-            err = run("sundial-cut", main, [*words, "--every", "10", "--certify"])[2]
-            self.assertIn("0 of 1 cuts are certified\nsundial-cut: the cut before line 104 is not: differ device 0\n", err)
+            made = History(4, rounds=30, topology=parse_topology(SPREAD))
+            (path / "topology").write_text(SPREAD)
+            (path / "schedule").write_text("".join(made.lines))
+            err = run("sundial-cut", main, [path / "topology", *PLANS, path / "schedule", "--every", "1", "--certify"])[2]
+            self.assertRegex(err, r"sundial-cut: the cut before line \d+ is not: differ opening-sends\n")
 
     def test_certify_needs_the_program_and_the_times(self):
         err = run("sundial-cut", main, [TRIANGLE, *PLANS, "schedule", "--certify"])[2]

@@ -1,5 +1,6 @@
 """sundial-exchanges over a capture of tests/live_ptp, over lines of chronyc 4.3, and over bad inputs."""
 
+import io
 import os
 import socket
 import threading
@@ -9,10 +10,11 @@ import unittest
 from examples import EXAMPLES
 from support import directory, run
 
-from sundial_tools.exchanges.exchange import Exchange, LeftOut
+from sundial_tools.exchanges.exchange import Exchange, ExchangeWriter, LeftOut
 from sundial_tools.exchanges.main import main
 from sundial_tools.exchanges.pairing import Pairing, Port
 from sundial_tools.exchanges.ptp_events import DelayRequest, Sync, parse_datagram
+from sundial_tools.topology import read_topology
 
 HERE = EXAMPLES / "ptp"
 TOPOLOGY, CAPTURE, NTPDATA = HERE / "topology.toml", HERE / "ptp4l.capture", HERE / "ntpdata.csv"
@@ -24,11 +26,30 @@ def tool(*words):
 
 
 def convert(kind, source, *words, device="follower", link=("--link", "wire")):
-    return tool(kind, TOPOLOGY, source, "--device", device, *link, "--asymmetry", "100000000", *words)
+    return tool(kind, TOPOLOGY, source, "--device", device, *link, "--asymmetry", "100us", *words)
 
 
 def first_datagram():
     return bytes.fromhex(CAPTURE.read_text().splitlines()[0])
+
+
+class Steering(unittest.TestCase):
+    def test_just_what_rates_grains_and_delays_allow(self):
+        """A clock that went apart by so much is not told, and by 1 ps more it is."""
+        topology = read_topology(str(TOPOLOGY))
+        link = topology.links[0]
+        ends = [topology.devices[end] for end in link.ends]
+        passed = 10**12
+        allowed = sum(end.ppm for end in ends) * passed // 10**6 + 2 * sum(end.grain for end in ends) + link.forth.max - link.forth.min
+        for more, is_steered in (0, False), (1, True):
+            for sign in 1, -1:
+                writer = ExchangeWriter(topology, 10**8, 10**10, io.StringIO(), LeftOut())
+                for line, (sent, late) in enumerate(((0, 0), (passed, sign * (allowed + more))), 1):
+                    at = sent + 10**9 + late
+                    times = (sent + 2 * 10**9, at + 2 * 10**9, at + 3 * 10**9, sent + 5 * 10**9)
+                    writer.write(Exchange(line, link.ends[0], *times), link)
+                self.assertEqual(writer.written, 2)
+                self.assertEqual(writer.steered is not None, is_steered, (more, sign))
 
 
 class Datagrams(unittest.TestCase):
@@ -119,7 +140,7 @@ class Ptp(unittest.TestCase):
         self.assertNotIn("warning", err)
 
     def test_both_sides_begin(self):
-        _, out, _ = convert("ptp", CAPTURE, "--hold", "10000000000")
+        _, out, _ = convert("ptp", CAPTURE, "--hold", "10ms")
         self.assertEqual({line.split()[2] for line in out.splitlines()[:-1]}, {"0", "1"})
 
     def test_a_peer_by_its_name(self):
@@ -129,7 +150,7 @@ class Ptp(unittest.TestCase):
         self.assertEqual(out, convert("ptp", CAPTURE)[1])
 
     def test_nothing_left_is_an_error_that_says_why(self):
-        status, out, err = convert("ptp", CAPTURE, "--hold", "1")
+        status, out, err = convert("ptp", CAPTURE, "--hold", "1ps")
         self.assertEqual((status, out), (1, ""))
         self.assertIn("the shortest was held for", err)
         status, out, err = convert("ptp", CAPTURE, link=(PEER, "a-1=wire"))
@@ -142,7 +163,7 @@ class Ptp(unittest.TestCase):
         moved = [_ahead(line) for line in lines[len(lines) // 2 :]]
         with directory() as path:
             (path / "capture").write_text("".join(lines[: len(lines) // 2] + moved))
-            status, _, err = convert("ptp", path / "capture", "--hold", "4000000000")
+            status, _, err = convert("ptp", path / "capture", "--hold", "4ms")
         self.assertEqual(status, 0, err)
         self.assertIn("warning: at line", err)
 

@@ -72,7 +72,7 @@ class OneLine(unittest.TestCase):
         line = (EXAMPLES / "ptp" / "ntpdata.csv").read_text().splitlines()[0]
         words = ["chrony", EXAMPLES / "ptp" / "topology.toml", "FILE", "--device", "follower", "--link", "wire"]
         text = line.replace("10.9.6.1", "10.9.\r6.1", 1) + "\n" + line.replace("10.9.6.1", "10.9.\x1b[2J6.1", 1) + "\n"
-        self.refused(exchanges, [*words, "--asymmetry", "1"], text, "a second peer, 10.9.\\x1b[2J6.1 beside 10.9.\\r6.1")
+        self.refused(exchanges, [*words, "--asymmetry", "1ps"], text, "a second peer, 10.9.\\x1b[2J6.1 beside 10.9.\\r6.1")
 
     def test_names_of_netbox_that_are_no_texts(self):
         for kind, change in (
@@ -89,7 +89,7 @@ class OneLine(unittest.TestCase):
     def test_times_of_thousands_of_digits(self):
         text = f"from,to,min,max\nspine-32,leaf-48,{LONG},1us\n"
         words = ["tables", "--devices", NETWORK / "devices.csv", "--links", NETWORK / "links.csv", *SETTINGS]
-        self.refused(topology, [*words, "--delays", "FILE"], text, "has to be a number from")
+        self.refused(topology, [*words, "--delays", "FILE"], text, "write a number and its unit, ps, ns, us, ms or s, as 8ns")
 
     def test_a_refusal_of_plan_0(self):
         self.refused(report, [*FABRIC, "--check", "FILE"], "refused plan 0 ancestor device b\n", "the refusal is of plan 0")
@@ -99,7 +99,7 @@ class OneLine(unittest.TestCase):
         for place, word in (12, "abc"), (19, "\u00b2"), (21, LONG):
             words = ["chrony", EXAMPLES / "ptp" / "topology.toml", "FILE", "--device", "follower", "--link", "wire"]
             text = ",".join(line[:place] + [word] + line[place + 1 :]) + "\n"
-            self.refused(exchanges, [*words, "--asymmetry", "1"], text, "is no number of seconds")
+            self.refused(exchanges, [*words, "--asymmetry", "1ps"], text, "is no number of seconds")
 
 
 if __name__ == "__main__":

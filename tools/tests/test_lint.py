@@ -51,6 +51,18 @@ class Lint(unittest.TestCase):
         self.found(FABRIC.replace('"leaf7", "leaf8"]', '"leaf7", "leaf8", "spine1"]'), "domain feed-c has the candidates spine1, spine3: without it 1 is left")
         self.found(re.sub(r"^roots = .*", 'roots = ["spine1"]', FABRIC, flags=re.MULTILINE), "roots has spine1 alone")
 
+    def test_devices_without_a_link(self):
+        self.found(FABRIC.replace("[[link]]", '[[device]]\nname = "spare"\n\n[[link]]', 1), "spare has no link: no plan reaches it")
+
+    def test_a_domain_that_holds_all_ways_of_a_device(self):
+        hosts = run("sundial-topology", main, ["make", "leaf-spine", "--hosts", "1"])[1]
+        self.assertEqual(lint(hosts, "--message-loss", "1e-9"), (0, ""))
+        self.found(hosts.replace('devices = ["leaf2", "host2-1"]', 'devices = ["leaf2"]'), "domain rack2 holds all ways of host2-1, which is not in it")
+        self.found(FABRIC + '[[domain]]\nname = "tray"\nlinks = ["leaf4-spine1", "leaf4-spine2", "leaf4-spine3"]\n', "domain tray holds all ways of leaf4")
+        ends = "".join(f'"leaf{leaf}-spine{spine}", ' for leaf in (1, 2) for spine in (1, 2))
+        out = lint(FABRIC + f'[[domain]]\nname = "tray"\nlinks = [{ends}]\n')[1]
+        self.assertNotIn("holds all ways", out)
+
     def test_two_feeds(self):
         two = FABRIC[: FABRIC.index('[[domain]]\nname = "feed-c"')]
         self.found(two, "leaf1, leaf2, leaf3, leaf4, leaf5, leaf6 are on one of two feeds")

@@ -139,7 +139,7 @@ class Alike(unittest.TestCase):
     def test_each_text_of_logs_and_captures_from_standard_input(self):
         with directory() as folder:
             shutil.copytree(EXAMPLES / "ptp", folder, dirs_exist_ok=True)
-            to = "--device follower --link wire --asymmetry 20000000"
+            to = "--device follower --link wire --asymmetry 20us"
             self.same_from_standard_input(folder, "", f"sundial-exchanges ptp topology.toml ptp4l.capture {to}")
             self.same_from_standard_input(folder, "", f"sundial-exchanges chrony topology.toml ntpdata.csv {to}")
             shutil.copytree(EXAMPLES / "logs", folder, dirs_exist_ok=True)
@@ -179,7 +179,7 @@ class Alike(unittest.TestCase):
         err = io.StringIO()
         with mock.patch.object(sys, "stderr", err), self.assertRaises(SystemExit):
             topology_main([*words, "100"])
-        self.assertIn("'100' has no unit: write 100ps, 100ns or 100us", err.getvalue())
+        self.assertIn("'100' has no unit: write 100ps, 100ns, 100us, 100ms or 100s", err.getvalue())
         with mock.patch.object(sys, "stderr", err), self.assertRaises(SystemExit):
             record_main(["t", "l", "--plan", "p", "--origin", "7"])
         self.assertIn("'7' has no unit: write 7s, or 7ps", err.getvalue())

@@ -20,7 +20,10 @@ BASE = RENEWAL.splitlines()
 STARTS, BEFORE_THE_WINDOW, BEFORE_THE_COMMIT, COMMITTED = BASE[:3], BASE[:11], BASE[:15], BASE[:16]
 NEEDED = (
     "structure", "ancestor", "timing", "root-A", "root-B", "root-C", "root-E", "loop", "slack", "reach", "part-of-a-domain",
+    "straggler",
 )
+# The plans of an example, where it has another one besides plan.json.
+MORE_PLANS = {"straggler": ("longer.json",)}
 TWO_DOMAINS = ("8x3-two-roots", "8x3-ring-in-order")
 
 # What is accepted, the line behind it, and why that is refused.
@@ -130,7 +133,7 @@ class Examples(unittest.TestCase):
         for name in NEEDED + TWO_DOMAINS:
             with self.subTest(name):
                 folder = EXAMPLES / "needed" / name
-                self.check(folder, ("topology.toml", "plan.json", "schedule.txt"), (folder / "output.txt").read_text())
+                self.check(folder, ("topology.toml", "plan.json", *MORE_PLANS.get(name, ()), "schedule.txt"), (folder / "output.txt").read_text())
 
     def test_no_premise_breaks_there(self):
         for name in NEEDED:
@@ -174,7 +177,7 @@ class Histories(unittest.TestCase):
         self.assertEqual(on_a_loop({0: None, 1: 2, 2: 1, 3: 1, 4: 4, 5: 6}), [1, 2, 4])
 
     def test_the_case_of_the_page(self):
-        """docs/CASE.md has what the program prints of it: case 3102 30 3202950 0 0."""
+        """docs/QUICKSTART.md has what the program prints of it: case 3102 30 3202950 0 0."""
         topology = parse_topology(network_text(8, 4))
         plans = [DATA / "case-8-4-1.json", DATA / "case-8-4-2.json"]
         made = Case(7, topology, [read_plan(str(plan), topology) for plan in plans])

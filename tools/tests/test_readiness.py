@@ -7,12 +7,13 @@ from unittest import mock
 
 from support import EXAMPLES, PROGRAM, SEARCH, directory, needs_sundial, run, sundial
 
+from sundial_tools.effects import Effects
 from sundial_tools.network.main import main as topology_main
 from sundial_tools.plan import read_plan
-from sundial_tools.readiness.losses import moved
+from sundial_tools.readiness.losses import Losses, Next
 from sundial_tools.readiness.main import main
 from sundial_tools.things import all_named, find_named
-from sundial_tools.topology import read_topology
+from sundial_tools.topology import parse_topology, read_topology
 
 FABRIC, PLAN = EXAMPLES / "fabric" / "topology.toml", EXAMPLES / "fabric" / "plan.json"
 TOPOLOGY = read_topology(str(FABRIC))
@@ -23,11 +24,13 @@ class Moved(unittest.TestCase):
         topology = read_topology(str(FABRIC))
         plan = read_plan(str(PLAN), topology)
         leaves = tuple(f"leaf{leaf}" for leaf in range(1, 9))
-        self.assertEqual(moved(topology, plan, find_named(topology, "spine1")), (True, ("spine2", "spine3", *leaves)))
-        self.assertEqual(moved(topology, plan, find_named(topology, "leaf5-spine1")), (False, ("leaf5",)))
-        self.assertEqual(moved(topology, plan, find_named(topology, "leaf5-spine2")), (False, ()))
-        self.assertEqual(moved(topology, plan, find_named(topology, "leaf1")), (False, ("spine2", "spine3")))
-        self.assertEqual(moved(topology, plan, find_named(topology, "feed-a"))[1], ("spine2", "spine3", *leaves[3:]))
+        effects = Effects(topology, plan)
+        for name, expected in (
+            ("spine1", ("spine2", "spine3", *leaves)), ("leaf5-spine1", ("leaf5",)), ("leaf5-spine2", ()),
+            ("leaf1", ("spine2", "spine3")), ("feed-a", ("spine2", "spine3", *leaves[3:])),
+        ):
+            moving = effects.of(find_named(topology, name)).moving
+            self.assertEqual(tuple(topology.devices[device].name for device in moving), expected)
         self.assertEqual(len(all_named(topology)), 46)
 
     def test_without_the_program(self):
@@ -42,22 +45,47 @@ case $1 in
     migrate) exit 1 ;;
     drill) echo 'bound device spine1 leaf1 7'; echo 'done 1 1' ;;
     *) if [ $# = 4 ]; then echo 'refused plan 1 root device a at device a'; exit 1; fi
-        echo "$5 $6 $7 $8" >> "$(dirname "$0")/words"
+        echo "$5 $6 $7 $8" >> "$(dirname "$0")/words"; cat "$4" >> "$(dirname "$0")/absent"
         if grep -q leaf1-spine "$4"; then echo '{"backup_root":"spine3","root":"spine2","rows":[]}'; exit 0; fi
         echo 'refused plan 1 loop device b cycle b'; exit 1 ;;
 esac
 """
 
 
+class BothRoots(unittest.TestCase):
+    def test_where_both_fail_nobody_takes_over(self):
+        """A domain with both roots: nobody acts, all others are cut off, and no candidate is left of two."""
+        text = FABRIC.read_text().replace('roots = ["spine1", "spine2", "spine3"]', 'roots = ["spine1", "spine2"]')
+        topology = parse_topology(text + '[[domain]]\nname = "hall"\ndevices = ["spine1", "spine2"]\n')
+        plan = read_plan(str(PLAN), topology)
+        effect = Effects(topology, plan).of(find_named(topology, "hall"))
+        self.assertIsNone(effect.acts)
+        self.assertEqual({topology.devices[it].name for it in effect.cut}, {"spine3", *(f"leaf{leaf}" for leaf in range(1, 9))})
+        losses = Losses("/bin/false", topology, plan, (str(FABRIC), str(PLAN)), 1, 1)
+        cut_off, then = losses._renewed(find_named(topology, "hall"), "/nonexistent")
+        self.assertEqual((then.refusal, then.roots), ("no candidate for root is left", ()))
+        with mock.patch.object(Losses, "_bounds", dict), mock.patch.object(Losses, "_renewed", lambda *_: ((), Next("", ()))):
+            takes_over = {loss.named.name: loss.takes_over for loss in losses.all(lambda: None)}
+        self.assertEqual({name for name, is_so in takes_over.items() if is_so}, {"spine1", "feed-a"})
+
+
 class Search(unittest.TestCase):
-    def searched(self, path, *words):
+    def searched(self, path, *words, plan=PLAN):
         for name in "sundial", "sundialctl":
             (path / name).write_text(ASKED)
             (path / name).chmod(0o755)
         said = {"SUNDIAL": str(path / "sundial"), "SUNDIALCTL": str(path / "sundialctl")}
         # (the topology is read without the program)
         with mock.patch.dict(os.environ, said), mock.patch("sundial_tools.readiness.main.read_topology", lambda it: TOPOLOGY):
-            return run("sundial-readiness", main, [FABRIC, PLAN, *words])
+            return run("sundial-readiness", main, [FABRIC, plan, *words])
+
+    def test_what_the_plan_leaves_out_stays_out(self):
+        with directory() as path:
+            status, _, err = self.searched(path, "--search", "7", plan=EXAMPLES / "fabric" / "plan-2.json")
+            self.assertEqual((status, err), (0, ""))
+            absent = [json.loads(line) for line in (path / "absent").read_text().splitlines()]
+        self.assertEqual(len(absent), 46)
+        self.assertTrue(all("spine1" in said["absent_devices"] for said in absent))
 
     def test_the_search_is_asked_where_renew_finds_no_plan(self):
         with directory() as path:
@@ -67,7 +95,7 @@ class Search(unittest.TestCase):
         self.assertEqual((len(words), set(words)), (46, {"2000000 3000000 1 7"}))
         lines = {line.split("  ")[0]: line for line in out.splitlines()}
         # (rack1 lists the three links of leaf1, too)
-        self.assertEqual(out.splitlines()[-1], "0 of 46 losses can be planned again, and 4 more by a search")
+        self.assertEqual(out.splitlines()[-1], "0 of 46 losses can be planned again, and 4 more by a search; eps for BASE 2 us and HOLD 3 us")
         self.assertTrue(lines["link leaf1-spine2"].endswith("by a search: spine2, spine3"))
         self.assertTrue(lines["device leaf1"].endswith("no: root device a at device a; search: loop device b cycle b"))
 
@@ -105,7 +133,7 @@ class Program(unittest.TestCase):
     def test_the_fabric(self):
         status, out, _ = self.readiness(FABRIC, PLAN, "--refused")
         lines = out.splitlines()
-        self.assertEqual((status, len(lines), lines[-1]), (0, 10, "38 of 46 losses can be planned again"))
+        self.assertEqual((status, len(lines), lines[-1]), (0, 10, "38 of 46 losses can be planned again; eps for BASE 1 us and HOLD 2.405 ms"))
         self.assertRegex(lines[1], r"^link leaf1-spine2 +1 +[0-9.]+ us +\S+ +- +no: reach device spine1 chain leaf1$")
         rows = [json.loads(line) for line in self.readiness(FABRIC, PLAN, "--json")[1].splitlines()]
         self.assertEqual(len(rows), 46)
@@ -124,7 +152,7 @@ class Program(unittest.TestCase):
     def test_a_link_to_the_backup_root_is_planned_again_by_a_search(self):
         with mock.patch.dict(os.environ, {"SUNDIALCTL": str(SEARCH)}):
             out = self.readiness(FABRIC, PLAN, "--search", "0")[1]
-        self.assertEqual(out.splitlines()[-1], "38 of 46 losses can be planned again, and 8 more by a search")
+        self.assertEqual(out.splitlines()[-1], "38 of 46 losses can be planned again, and 8 more by a search; eps for BASE 1 us and HOLD 2.405 ms")
 
 
 if __name__ == "__main__":

@@ -210,6 +210,11 @@ class WorkedRows(unittest.TestCase):
         self.assertEqual(apart[:2], (0, RENEWAL))
         self.assertEqual(merged[:2], (0, RENEWAL))
 
+    def test_a_receipt_comes_before_a_tick_of_its_reference(self):
+        line = "recv 110700000 1 110700000 1\n"
+        schedule = RENEWAL.replace(line, f"{line}tick 110700000 2 110700000\n")
+        self.assertEqual(self.round_trip(DATA / "triangle.toml", TRIANGLE_PLANS, schedule)[0][:2], (0, schedule))
+
     def test_the_logs_of_the_page(self):
         """Those of docs/RECORD.md: counters from boot, references since 1970, one message that nobody received."""
         example = EXAMPLES / "logs"
@@ -343,6 +348,15 @@ class BadLogs(unittest.TestCase):
     def test_a_seal_before_the_entry(self):
         self.logs["x"].insert(self.place("x", "give") + 1, {"event": "seal", "device": "x", "reference_ps": 113000000})
         self.refused("WindowOrder: x has not entered plan 2")
+
+    def test_the_last_reference(self):
+        for more, reason in (0, ""), (1, f"the reference is {2**60 + 1} ps of the origin"):
+            self.logs["fabric"][self.place("fabric", "end")]["reference_ps"] = 2**60 + more
+            with directory() as path:
+                files = logs_of.write(self.logs, path)
+                status, _, err = record(DATA / "triangle.toml", TRIANGLE_PLANS, files, "--origin", "0")
+            self.assertEqual(status, more)
+            self.assertIn(reason, err)
 
     def test_a_clock_before_the_origin(self):
         with directory() as path:

@@ -3,7 +3,7 @@
 import hashlib
 import json
 import os
-import shutil
+import re
 import subprocess
 import sys
 import unittest
@@ -11,24 +11,27 @@ from fractions import Fraction
 from unittest import mock
 
 import case
+import networks
 from examples import EXAMPLES, outputs
 from page_tree import parse
 from support import PROGRAM, TOOLS, directory, needs_sundial, run
-from test_bounds import Numbers
+from test_bounds import Numbers, domains
 
 from sundial_tools.fleet.fleet import Fleet
-from sundial_tools.plan import read_plan
+from sundial_tools.plan import default_hold, read_plan
 from sundial_tools.readiness.main import main as readiness_main
-from sundial_tools.report.effects import Effects, fault_domains
+from sundial_tools.effects import Effects
 from sundial_tools.report.main import main
+from sundial_tools.report.parts import Makeup
 from sundial_tools.report.replay import Replay
 from sundial_tools.report.replay_view import Drawn, ReplayView, greatest
 from sundial_tools.report.series import MOST_INTERVALS, MOST_REPORTS, Interval, Peaks, Percentiles, Report, Reports
-from sundial_tools.report.units import clear, column, human, readable, round_steps
+from sundial_tools.report.units import clear, column, human, in_unit, readable, round_steps
 from sundial_tools.schedule import parse_event
+from sundial_tools.things import all_named, find_named
 from sundial_tools.topology import parse_topology, read_topology
+from sundial_tools.why.planned import planned
 
-HAS_DOT = shutil.which("dot") is not None
 REPLAY = "sundial replay topology.toml plan.json plan-2.json schedule.txt"
 DRILL = "sundial drill topology.toml plan.json 1000000 3000000000"
 
@@ -55,6 +58,8 @@ def whole(name, path, *words):
         here / "plan-2.json",
         "--drill",
         path / "drill",
+        "--hold",
+        "3ms",
         "--replay",
         here / "schedule.txt",
         path / "replay",
@@ -78,45 +83,156 @@ def names(nodes, topology):
     return {topology.devices[int(node["data-device"])].name for node in nodes}
 
 
+def numbers(text):
+    """The numbers of ranges, as the script reads them: 3 7-12."""
+    found = set()
+    for part in (text or "").split():
+        first, _, last = part.partition("-")
+        found.update(range(int(first), int(last or first) + 1))
+    return found
+
+
+# Networks that fold by hosts, racks and pods, and one that does not.
+KINDS = (
+    ("leaf-spine", "--leaves", "12", "--spines", "4", "--hosts", "2"), ("leaf-spine", "--leaves", "60", "--spines", "8", "--hosts", "4"),
+    ("three-tier", "--cores", "4", "--pods", "8", "--leaves", "12", "--hosts", "2"), ("three-tier", "--pods", "40", "--leaves", "3", "--hosts", "3"),
+    ("mesh", "--devices", "10", "--links-each", "3", "--seed", "2"), ("mesh", "--devices", "60", "--links-each", "3"), ("mesh", "--devices", "70"),
+    ("leaf-spine", "--leaves", "24", "--hosts", "3", "--host-links", "2"),
+)
+
+
 class Trees(unittest.TestCase):
     def check_plan(self, section, topology, plan):
         members = plan.members(topology)
-        devices = section.all("g", "device")
-        self.assertEqual(sorted(int(node["data-device"]) for node in devices), members)
+        marks = section.one("svg", "tree").all("g", "device") + section.one("svg", "tree").all("rect", "device")
+        self.assertEqual(sorted(int(node["data-device"]) for node in marks), members)
+        box_of = {int(node["data-device"]): node.parent if node.tag == "rect" else node for node in marks}
         for kind in "primary", "backup":
-            drawn = {
-                (int(device), int(link))
-                for edge in section.all("path", "edge", kind)
-                for device, link in zip(edge["data-devices"].split(), edge["data-links"].split())
-            }
-            hops = ((row.device, row.primary if kind == "primary" else row.backup) for row in plan.rows.values())
-            self.assertEqual(drawn, {(device, hop.link) for device, hop in hops if hop is not None})
+            edges = section.all("path", "edge", kind)
+            self.assertEqual(sum(len(numbers(edge["data-devices"])) for edge in edges), len({it for edge in edges for it in numbers(edge["data-devices"])}))
+            drawn = [(device, edge) for edge in edges for device in numbers(edge["data-devices"])]
+            rows = {row.device: row.primary if kind == "primary" else row.backup for row in plan.rows.values()}
+            apart = {device for device, hop in rows.items() if hop is not None and box_of[device] is not box_of[hop.parent]}
+            self.assertEqual({device for device, _ in drawn}, apart)
+            for device, edge in drawn:
+                self.assertIn(rows[device].link, numbers(edge["data-links"]))
+                self.assertIn(rows[device].parent, numbers(edge["data-parents"]))
         self.assertEqual(names(section.all("g", "device", "root"), topology), {topology.devices[plan.root].name})
         self.assertEqual(names(section.all("g", "backup-root"), topology), {topology.devices[plan.backup_root].name})
+        self.check_rows(section.one("div", "fabric"), topology, plan)
+
+    def check_rows(self, fabric, topology, plan):
+        """The list has each device once, below the one that it follows, with its hops."""
+        devices, links = topology.devices, topology.links
+        items = {int(item["id"].split("-")[2]): item for item in fabric.all("li") if item["id"]}
+        self.assertEqual(sorted(items), plan.members(topology))
+        for device, item in items.items():
+            row, text = plan.rows.get(device), (item.children[0] if item.children[0].tag == "details" else item).children[0]
+            text = text.text if text.tag == "summary" else item.text
+            self.assertTrue(text.startswith(devices[device].name + " "), text)
+            if row is None:
+                continue
+            above = item.parent
+            while above.tag != "li" or not above["id"]:
+                above = above.parent
+            self.assertIs(above, items[row.primary.parent])
+            backup = f"backup {devices[row.backup.parent].name} over {links[row.backup.link].name}" if row.backup else "no backup"
+            self.assertIn(f"over {links[row.primary.link].name}, {backup}", text)
 
     def test_each_device_and_each_hop_is_drawn_once(self):
         for name in "triangle", "fabric":
-            for layout in ["rows"] + ["dot"] * HAS_DOT:
-                with self.subTest(name=name, layout=layout):
-                    here = EXAMPLES / name
-                    topology = read_topology(str(here / "topology.toml"))
-                    tree = page(here / "topology.toml", here / "plan.json", here / "plan-2.json", "--layout", layout)
-                    sections = tree.all("section", "plan")
-                    self.assertEqual([node["data-plan"] for node in sections], ["1", "2"])
-                    self.assertEqual({node["data-layout"] for node in tree.all("svg", "tree")}, {layout})
-                    for section, file in zip(sections, ("plan.json", "plan-2.json")):
-                        self.check_plan(section, topology, read_plan(str(here / file), topology))
+            with self.subTest(name=name):
+                here = EXAMPLES / name
+                topology = read_topology(str(here / "topology.toml"))
+                tree = page(here / "topology.toml", here / "plan.json", here / "plan-2.json")
+                sections = tree.all("section", "plan")
+                self.assertEqual([node["data-plan"] for node in sections], ["1", "2"])
+                for section, file in zip(sections, ("plan.json", "plan-2.json")):
+                    self.check_plan(section, topology, read_plan(str(here / file), topology))
+
+    def test_networks_of_many_kinds(self):
+        """Each is drawn whole; no hop goes behind a box, no box lies on another, and the root is in sight on a narrow page."""
+        for words in KINDS:
+            with self.subTest(words), directory() as path:
+                files = networks.written(path, *words)
+                topology = read_topology(str(files[0]))
+                plan = read_plan(str(files[1]), topology)
+                section = page(*files).one("section", "plan")
+                self.check_plan(section, topology, plan)
+                picture = section.one("svg", "tree")
+                self.check_hops(picture)
+                self.check_sight(picture)
+
+    def check_hops(self, picture):
+        areas = boxes_of(picture)
+        for place, (left, top, width, height) in enumerate(areas):
+            for other in areas[place + 1 :]:
+                self.assertFalse(left < other[0] + other[2] and other[0] < left + width and top < other[1] + other[3] and other[1] < top + height)
+        for edge in picture.all("path", "edge"):
+            for x, y in points(edge["d"]):
+                for left, top, width, height in areas:
+                    self.assertFalse(left + 1 < x < left + width - 1 and top + 1 < y < top + height - 1, (edge["d"], left, top))
+
+    def check_sight(self, picture):
+        """On a page of 390 pixels the picture is as narrow as it gets, and 366 of its pixels are seen."""
+        (root,) = picture.all("g", "root")
+        (rect,) = root.all("rect")
+        least = float(picture["style"].removeprefix("min-width:").partition("px")[0]) / float(picture["viewbox"].split()[2])
+        self.assertLessEqual((float(rect["x"]) + float(rect["width"])) * least, 366)
+
+    def test_a_large_plan_folds_hosts_then_leaves_then_pods(self):
+        def labels(*words):
+            with directory() as path:
+                picture = page(*networks.written(path, *words)).one("svg", "tree")
+            return [text.text for box in picture.all("a", "box") for text in box.all("text", "count")]
+
+        self.assertEqual(labels("leaf-spine", "--leaves", "6", "--hosts", "1"), [])
+        self.assertEqual(labels(*KINDS[0]), [f"leaf{leaf}" for leaf in range(2, 13)])
+        self.assertIn("59 alike", labels(*KINDS[1]))
+        self.assertEqual(labels(*KINDS[2])[:8], ["agg1-2 +7", *(f"agg{pod}-1" for pod in range(2, 9))])
+        self.assertIn("39 alike", labels(*KINDS[3]))
+
+    def test_large_pages_are_small(self):
+        for words in (*KINDS[:3], ("three-tier", "--cores", "4", "--pods", "31", "--leaves", "10", "--hosts", "12")):
+            with self.subTest(words), directory() as path:
+                files = networks.written(path, *words)
+                status, out, err = tool(*files)
+                self.assertEqual((status, err), (0, ""))
+                self.assertLess(len(out.encode()), 1_000_000)
+                picture = parse(out).one("svg", "tree")
+                self.assertLess(len(picture.all("path", "edge")), 100)
+                self.assertLessEqual(float(picture["width"]), 1000)
+
+    def test_what_a_large_table_leaves_out_is_counted(self):
+        with directory() as path:
+            files = networks.written(path, *KINDS[2])
+            topology = read_topology(str(files[0]))
+            effects = Effects(topology, read_plan(str(files[1]), topology))
+            tree = page(*files)
+        found = {domain.text: effects.of(domain) for domain in all_named(topology)}
+        rows = {row.all("td")[0].text for row in tree.one("table", "moves").one("tbody").all("tr")}
+        out = {name for name, effect in found.items() if not effect.is_nothing} - rows
+        self.assertIn(f"Left out here: {len(out)} links, each that of one device which nobody follows.", tree.text)
+        for name in out:
+            self.assertEqual((found[name].domain.kind, len(found[name].moves)), ("link", 1))
+
+    def test_folded_boxes_lead_to_their_rows(self):
+        with directory() as path:
+            tree = page(*networks.written(path, *KINDS[1]))
+        ids = {node["id"] for node in tree.walk() if node["id"]}
+        links = [box["href"] for box in tree.one("svg", "tree").all("a", "box")]
+        self.assertTrue(links and all(link.startswith("#plan-1-") and link[1:] in ids for link in links))
+        self.assertTrue(tree.one("input", "find")["type"] == "search" and tree.one("input", "find").parent.tag == "label")
 
     def test_ranks_are_depths(self):
         here = EXAMPLES / "fabric"
         topology = read_topology(str(here / "topology.toml"))
         plan = read_plan(str(here / "plan.json"), topology)
-        for layout in ["rows"] + ["dot"] * HAS_DOT:
-            tree = page(here / "topology.toml", here / "plan.json", "--layout", layout)
-            heights = {int(node["data-device"]): float(node.all("rect")[0]["y"]) for node in tree.all("g", "device")}
-            for row in plan.rows.values():
-                self.assertGreater(heights[row.device], heights[row.primary.parent])
-            self.assertEqual(len(set(heights.values())), 3)
+        tree = page(here / "topology.toml", here / "plan.json")
+        heights = {int(node["data-device"]): float(node.all("rect")[0]["y"]) for node in tree.all("g", "device")}
+        for row in plan.rows.values():
+            self.assertGreater(heights[row.device], heights[row.primary.parent])
+        self.assertEqual(len(set(heights.values())), 3)
 
     def test_colour_tells_states_and_never_a_domain(self):
         here = EXAMPLES / "fabric"
@@ -143,22 +259,6 @@ class Trees(unittest.TestCase):
         depths = sorted(float(curve.replace("M", "").replace("C", " ").split()[3]) for curve in curves)
         self.assertEqual(len(depths), 7)
         self.assertGreaterEqual(min(after - before for before, after in zip(depths, depths[1:])), 12)
-
-    def test_no_hop_goes_behind_a_box(self):
-        """Boxes of a row stand at its top, and hops leave a low box straight down to the floor of the row."""
-        topology_text, plan_text, _ = large(40, 8)
-        with directory() as path:
-            (path / "t.toml").write_text(topology_text)
-            (path / "p.json").write_text(plan_text)
-            tree = page(path / "t.toml", path / "p.json").one("svg", "tree")
-        boxes = [node.all("rect")[0] for node in tree.all("g", "box")]
-        boxes += [node.all("rect")[0] for node in tree.all("g", "device") if "box" not in node.parent.classes]
-        areas = [tuple(float(box[key]) for key in ("x", "y", "width", "height")) for box in boxes]
-        self.assertGreater(max(height for *_, height in areas), 2 * min(height for *_, height in areas))
-        for edge in tree.all("path", "edge"):
-            for x, y in points(edge["d"]):
-                for left, top, width, height in areas:
-                    self.assertFalse(left + 1 < x < left + width - 1 and top + 1 < y < top + height - 1, (edge["d"], left, top))
 
     def test_plans_stand_side_by_side_with_what_changed(self):
         here = EXAMPLES / "fabric"
@@ -188,31 +288,22 @@ class Trees(unittest.TestCase):
             widest = max(float(node["width"]) for node in tree.one("section", "plans").all("svg"))
             self.assertEqual(int(least), max(360, min(520, widest)))
 
-    def test_the_rows_stand_in_a_table(self):
+    def test_a_plan_that_goes_round_is_drawn_too(self):
+        """Devices that no primary hop joins to the root are below all others, and are named."""
         here = EXAMPLES / "triangle"
-        tree = page(here / "topology.toml", here / "plan.json")
-        rows = [[cell.text for cell in row.all("td")] for row in tree.one("table", "rows").one("tbody").all("tr")]
-        self.assertEqual(
-            rows, [["r", "0", "", "", "", ""], ["b", "1", "r", "rb1", "r", "rb2"], ["x", "1", "r", "rx1", "b", "bx1"]]
-        )
-
-    def test_a_large_fabric_shares_boxes_and_stays_small(self):
-        topology_text, plan_text, drill_text = large(256, 32)
+        text = (here / "plan.json").read_text().replace('"link":"rb1","parent":"r"', '"link":"bx1","parent":"x"').replace('"link":"rx1","parent":"r"', '"link":"bx1","parent":"b"')
         with directory() as path:
-            for file, text in ("topology", topology_text), ("plan", plan_text), ("drill", drill_text):
-                (path / file).write_text(text)
-            status, out, err = tool(path / "topology", path / "plan", "--drill", path / "drill")
-            self.assertEqual(status, 0, err)
-            self.assertLess(len(out.encode()), 5_000_000)
-            tree = parse(out)
-            topology = parse_topology(topology_text)
-            self.check_plan(tree.one("section", "plan"), topology, read_plan(str(path / "plan"), topology))
-        self.assertLess(len(tree.all("path", "edge")), 40)
-        (leaves, *_) = sorted(tree.all("details", "group"), key=lambda group: -len(group.all("li")))
-        self.assertEqual(leaves.one("summary").text, "The 254 devices under s0, with the backup s1")
-        self.assertEqual(leaves.all("li")[0].text, "rack2 l2")
-        self.assertLessEqual(max(float(node["width"]) for node in tree.all("svg")), 1400)
-        self.assertEqual(len(tree.one("table", "by-domain").one("tbody").all("tr")), 257)
+            (path / "p.json").write_text(text)
+            tree = page(here / "topology.toml", path / "p.json")
+        self.assertEqual({int(node["data-device"]) for node in tree.one("svg", "tree").all("g", "device")}, {0, 1, 2})
+        (lost,) = tree.all("ul", "lost")
+        self.assertEqual([item.text.split(",")[0] for item in lost.all("li")], ["b backup root", "x follows b over bx1"])
+
+
+def boxes_of(picture):
+    """The boxes of a picture: left, top, width and height."""
+    rects = [node.all("rect")[0] for node in picture.all("g", "device")] + picture.all("rect", "shared")
+    return [tuple(float(rect[key]) for key in ("x", "y", "width", "height")) for rect in rects]
 
 
 def points(path):
@@ -306,23 +397,54 @@ class UnderADomain(unittest.TestCase):
         self.assertEqual((failed["data-devices"], "primary" in failed.classes), ("2", True))
         self.assertEqual([node["data-device"] for node in tree.all("g", "moves")], ["2"])
 
+    def test_what_fails_is_seen_in_folded_boxes(self):
+        with directory() as path:
+            files = networks.written(path, *KINDS[2])
+            topology = read_topology(str(files[0]))
+            effect = Effects(topology, read_plan(str(files[1]), topology)).of(find_named(topology, "device agg3-1"))
+            tree = page(*files, "--domain", "device agg3-1")
+        picture = tree.one("svg", "tree")
+        for state, devices in effect.states.items():
+            self.assertEqual({int(node["data-device"]) for tag in ("g", "rect") for node in picture.all(tag, "device", state)}, devices, state)
+        self.assertEqual((len(effect.moving), len(effect.cut)), (12, 0))
+
     def test_without_script_a_table_says_who_moves_where(self):
         here = EXAMPLES / "triangle"
         tree = page(here / "topology.toml", here / "plan.json")
         rows = [[cell.text for cell in row.all("td")] for row in tree.one("table", "moves").one("tbody").all("tr")]
-        self.assertIn(["device r", "2", "r: b; b: x", "b", "", ""], rows)
-        self.assertIn(["link rx1", "1", "b: x", "r", "", ""], rows)
+        self.assertIn(["device r", "2", "r: b; b: x", "", "b", "", ""], rows)
+        self.assertIn(["link rx1", "1", "b: x", "", "r", "", ""], rows)
         self.assertIn("hidden", tree.one("div", "chooser").attributes)
+
+    def test_who_moves_has_a_backup(self):
+        """Hosts hang on one leaf: they hear nothing, and do not move. The table, the sentence and readiness count alike."""
+        with directory() as path:
+            files = networks.written(path, "leaf-spine", "--leaves", "4", "--hosts", "2")
+            tree = page(*files, "--domain", "device spine1")
+            topology = read_topology(str(files[0]))
+            effects = Effects(topology, read_plan(str(files[1]), topology))
+        heads = [head.text for head in tree.one("table", "moves").all("th")]
+        rows = {row.all("td")[0].text: dict(zip(heads, (cell.text for cell in row.all("td")))) for row in tree.one("table", "moves").one("tbody").all("tr")}
+        self.assertEqual((rows["device spine1"]["who moves"], rows["link host2-1-leaf2"]["who moves"]), ("6", "0"))
+        self.assertEqual((rows["link host2-1-leaf2"]["no backup"], rows["link host2-1-leaf2"]["cut off"]), ("host2-1", "host2-1"))
+        self.assertIn("6 of 14 devices may move", tree.one("p", "effect").text)
+        found = {domain.text: effects.of(domain) for domain in all_named(topology)}
+        self.assertEqual({name for name, effect in found.items() if not effect.is_nothing}, set(rows))
+        for name, row in rows.items():
+            self.assertEqual(int(row["who moves"]), len(found[name].moving), name)
+        moved = sum(bool(effect.moving) for effect in found.values())
+        (caption,) = [node.text for node in tree.all("summary") if node.text.startswith("Who moves where")]
+        self.assertEqual(caption, f"Who moves where, under each of {moved} domains")
 
     def test_the_script_has_the_same_marks(self):
         here = EXAMPLES / "fabric"
         tree = page(here / "topology.toml", here / "plan.json", "--domain", "listed feed-a")
         said = json.loads(tree.one("script", "effects").text)
         (chosen,) = [node for node in tree.all("option") if "selected" in node.attributes]
-        sentence, states, _ = said[chosen["value"]]
+        sentence, states, _ = said[int(chosen["value"])]
         self.assertEqual(sentence, tree.one("p", "effect").text)
         for state, devices in states.items():
-            self.assertEqual(sorted(int(node["data-device"]) for node in tree.all("g", "device", state)), devices)
+            self.assertEqual({int(node["data-device"]) for node in tree.all("g", "device", state)}, numbers(devices))
 
     def test_a_domain_that_is_not_there(self):
         here = EXAMPLES / "triangle"
@@ -342,8 +464,8 @@ class UnderADomain(unittest.TestCase):
             topology = read_topology(str(EXAMPLES / name / file))
             plan = read_plan(str(EXAMPLES / name / plan_file), topology)
             effects = Effects(topology, plan)
-            for domain in fault_domains(topology):
-                with self.subTest(plan=plan_file, domain=domain.label):
+            for domain in all_named(topology):
+                with self.subTest(plan=plan_file, domain=domain.text):
                     effect = effects.of(domain)
                     found = {move.device for move in effect.moves}, set(effect.cut), set(effect.silent)
                     self.assertEqual(found, slow_effect(topology, plan, domain))
@@ -353,17 +475,18 @@ def slow_effect(topology, plan, domain):
     """Who is hit, cut off, or joined and never fed, as docs/CONDITIONS.md says it."""
     members = set(plan.members(topology))
     acts = plan.root if plan.root not in domain.devices else plan.backup_root
-    hit = {device for device in members - domain.devices if device in plan.rows and is_hit(plan, domain, device)}
-    joined = {acts} - domain.devices
+    gone = set(domain.devices)
+    hit = {device for device in members - gone if device in plan.rows and is_hit(plan, domain, device)}
+    joined = {acts} - gone
     usable = [
         link
         for link in topology.links
         if link.number not in plan.absent_links
         and link.number not in domain.links
         and not members.isdisjoint(link.ends)
-        and set(link.ends) <= members - domain.devices
+        and set(link.ends) <= members - gone
     ]
-    fed = {device for device in members - domain.devices if device in (acts, plan.backup_root) or device not in hit}
+    fed = {device for device in members - gone if device in (acts, plan.backup_root) or device not in hit}
     for _ in members:
         for link in usable:
             if joined.intersection(link.ends):
@@ -408,7 +531,7 @@ class Refused(unittest.TestCase):
         tree, marked, edges = self.refused("loop")
         self.assertEqual((marked, len(edges)), ({"l2", "l3"}, 2))
         self.assertEqual(
-            {edge["data-parent"] for edge in edges},
+            {edge["data-parents"] for edge in edges},
             {device for edge in edges for device in edge["data-devices"].split()},
         )
         self.assertIn("Under device s1", tree.one("p", "effect").text)
@@ -454,12 +577,24 @@ class Refused(unittest.TestCase):
             ("refused plan 1 loop", "cut short"),
             ("done 3 1\n", "no line of a check"),
             ("refused\n", "no line that sundial prints"),
+            ("", "it is empty"),
+            (b"accepted 3 3 0\nrefused \xff\n", "check:2: not UTF-8: invalid start byte at byte 9 of the line"),
         ):
             with self.subTest(reason), directory() as path:
-                (path / "check").write_text(text)
+                (path / "check").write_bytes(text if isinstance(text, bytes) else text.encode())
                 status, out, err = tool(here / "topology.toml", here / "plan.json", "--check", path / "check")
                 self.assertEqual((status, out), (1, ""))
                 self.assertIn(reason, err)
+
+
+def numbered(topology, plan, base, hold):
+    """What `sundial drill` and `sundialctl bounds` print, by the definitions."""
+    bounds = list(Numbers(topology, plan, base, hold).lines())
+    drill = []
+    for line in bounds:
+        words = line.split(" ")
+        drill.append({"bounds": f"bound {' '.join(words[1:5])}", "nobound": " ".join(words[:4])}.get(words[0], line))
+    return "".join(f"{line}\n" for line in drill), "".join(f"{line}\n" for line in bounds)
 
 
 class Drills(unittest.TestCase):
@@ -468,58 +603,112 @@ class Drills(unittest.TestCase):
         with directory() as path:
             self.tree = whole("fabric", path).one("section", "drill")
 
-    def rows(self, name):
-        return [[cell.text for cell in row.all("td")] for row in self.tree.one("table", name).one("tbody").all("tr")]
+    def rows(self, name, tree=None):
+        table = (tree or self.tree).one("table", name)
+        heads = [head.text for head in table.one("thead").all("th")]
+        return [dict(zip(heads, row.all("th") + row.all("td"))) for row in table.one("tbody").all("tr")]
+
+    def hosts(self, *words):
+        """The drill of a fabric with hosts."""
+        with directory() as path:
+            files = networks.written(path, "leaf-spine", "--leaves", "4", "--hosts", "3")
+            topology = read_topology(str(files[0]))
+            plan = read_plan(str(files[1]), topology)
+            numbers = Numbers(topology, plan, 10**6, default_hold(topology, plan))
+            (path / "drill").write_text(numbered(topology, plan, 10**6, default_hold(topology, plan))[0])
+            (path / "bounds").write_text(numbered(topology, plan, 10**6, default_hold(topology, plan))[1])
+            return page(*files, "--drill", path / "drill", "--bounds", path / "bounds", *words).one("section", "drill"), topology, numbers
 
     def test_the_map_has_a_cell_for_each_row_and_device(self):
-        heat = self.tree.one("table", "heat")
-        rows = heat.one("tbody").all("tr")
-        self.assertEqual(len(rows), len(self.rows("by-domain")))
-        self.assertEqual({len(row.all("td", "cell")) for row in rows}, {11})
-        self.assertEqual({len(row.all("th")) for row in rows}, {1})
-        alike = {}
-        for line in self.lines[:-1]:
-            alike.setdefault(f"{line[1]} {line[2]}", []).append(line[4] if line[0] == "bound" else None)
-        groups = {tuple(bounds) for bounds in alike.values()}
-        self.assertEqual(len(rows), len(groups))
-        unbounded = sum(bound is None for bounds in groups for bound in bounds)
-        self.assertEqual(len(heat.all("td", "cell", "hx")), unbounded)
+        """Few devices have a column each, and all domains are counted."""
+        rows = self.rows("heat")
+        devices = [name for name in rows[0] if re.fullmatch("([RB] )?(leaf|spine)[0-9]", name)]
+        self.assertEqual(devices, ["R spine1", "B spine2", *(f"leaf{leaf}" for leaf in range(1, 9)), "spine3"])
+        self.assertEqual(sum(int(row["alike"].text) for row in rows), int(self.lines[-1][1]))
+        said = {(f"{line[1]} {line[2]}", line[3]): int(line[4]) if line[0] == "bound" else None for line in self.lines[:-1]}
+        for row in rows:
+            for domain in row["domain"]["title"].split(" and ")[0].split(", "):
+                for name in devices:
+                    bound = said[domain, name.split(" ")[-1]]
+                    self.assertEqual(row[name].text, "none" if bound is None else in_unit(bound, 10**6), (domain, name))
 
-    def test_the_greatest_come_first(self):
+    def test_shades_go_from_the_least_to_the_greatest(self):
         bounds = [int(line[4]) for line in self.lines if line[0] == "bound"]
-        for name, place in ("by-domain", 2), ("by-device", 1):
-            values = [microseconds(row[place]) for row in self.rows(name)]
-            self.assertEqual(values, sorted(values, reverse=True))
-            self.assertEqual(values[0], max(bounds))
-        first = self.tree.one("table", "heat").one("tbody").all("td", "cell")[0]
-        self.assertIn(clear(max(bounds)), first["title"])
-        self.assertLessEqual({"a8", "g8"}, set(first.classes))
+        shades = {}
+        for row in self.rows("heat"):
+            for cell in row.values():
+                if "cell" in cell.classes:
+                    shades.setdefault(cell.classes[-1], set()).add(cell.text)
+        self.assertIn(in_unit(min(bounds), 10**6), shades["a0"])
+        self.assertIn(in_unit(max(bounds), 10**6), shades["a8"])
+        self.assertEqual(shades["hx"], {"none"})
+        ramp = self.tree.one("p", "ramp").text
+        self.assertTrue(ramp.startswith(f"{clear(min(bounds))} ") and clear(max(bounds)) in ramp, ramp)
 
-    def test_two_scales_from_0_and_by_logarithm(self):
-        inputs = self.tree.all("input", "scale")
-        self.assertEqual([(node["type"], node["id"], "checked" in node.attributes) for node in inputs],
-                         [("radio", "scale-linear", True), ("radio", "scale-log", False)])
-        self.assertEqual([node["for"] for node in self.tree.all("label")][:2], ["scale-linear", "scale-log"])
-        bounds = [int(line[4]) for line in self.lines if line[0] == "bound"]
-        for row in self.tree.one("table", "by-device").one("tbody").all("tr"):
-            cell = row.all("td")[1]
-            linear, log = cell.one("i", "bar")["style"].split(";")
-            self.assertEqual(linear, f"--linear:{int(cell['data-value']) / max(bounds):.1%}")
-            self.assertTrue(log.startswith("--log:"))
-        ramps = {node.classes[-1]: node.text for node in self.tree.all("p", "ramp")}
-        self.assertTrue(ramps["linear"].startswith("0 "))
-
-    def test_each_device_has_its_worst(self):
+    def test_base_and_hold_stand_with_the_numbers_and_make_them(self):
+        self.assertTrue(self.tree.one("p", "facts").text.startswith("BASE 1 us, HOLD 3 ms. 46 domains, 11 devices."))
         worst = {}
         for line in self.lines:
             if line[0] == "bound":
                 worst[line[3]] = max(worst.get(line[3], 0), int(line[4]))
-        self.assertEqual(
-            {row[0]: microseconds(row[1]) for row in self.rows("by-device")}, worst
-        )
+        seen = set()
+        for row in self.rows("by-device"):
+            heads = {head.split(",")[0]: cell for head, cell in row.items()}
+            bound = microseconds(heads["worst eps"].text)
+            for name in row["device"].text.split(", "):
+                self.assertEqual(worst[name], bound)
+                seen.add(name)
+            bar = row["what makes it"].one("span", "parts")
+            self.assertEqual([part.classes[1] for part in bar.all("i", "part")], ["base", "roots", "hold", "way", "silence"])
+            self.assertIn("BASE: 1 us; the way between the two roots: 1.2 us", bar["aria-label"])
+            self.assertAlmostEqual(sum(float(part["style"][4:-1]) for part in bar.all("i", "part")), 100 * bound / max(worst.values()), 1)
+        self.assertEqual(seen, set(worst))
 
-    def test_all_domains_are_counted(self):
-        self.assertEqual(sum(int(row[1]) for row in self.rows("by-domain")), int(self.lines[-1][1]))
+    def test_the_parts_of_every_number(self):
+        for words in (("leaf-spine", "--leaves", "2", "--hosts", "1", "--host-links", "2"), ("three-tier", "--pods", "2", "--leaves", "1"), ("mesh", "--links-each", "3")):
+            text, topology = networks.made(*words)
+            plan = planned(topology, topology.roots[0], (), ())
+            numbers, makeup = Numbers(topology, plan, 700, 10**9), Makeup(topology, plan, 700, 10**9)
+            for domain, named in zip(domains(topology), all_named(topology)):
+                for device, both in numbers.under(domain):
+                    if both is not None:
+                        self.assertEqual(sum(makeup.of(named, device)), both[0], (words, named, device))
+
+    def test_a_drill_of_another_base_or_hold(self):
+        here = EXAMPLES / "fabric"
+        with directory() as path:
+            (path / "drill").write_text(outputs("fabric")[DRILL])
+            files = [here / "topology.toml", here / "plan.json", "--drill", path / "drill"]
+            section = page(*files).one("section", "drill")
+            topology = read_topology(str(files[0]))
+            hold = clear(default_hold(topology, read_plan(str(files[1]), topology)))
+            self.assertTrue(section.one("p", "facts").text.startswith(f"BASE and HOLD are not BASE 1 us, HOLD {hold}: give --base and --hold"))
+            self.assertEqual(section.all("span", "parts"), [])
+            status, _, err = tool(*files, "--base", "2us")
+        self.assertEqual(status, 1)
+        self.assertIn(f"it is no drill of this plan with BASE 2 us, HOLD {hold}", err)
+
+    def test_hosts_are_what_readers_ask_for(self):
+        section, topology, numbers = self.hosts()
+        heads = list(self.rows("heat", section)[0])
+        self.assertEqual(heads[4:], [f"host{leaf}-{host}" for leaf in range(1, 5) for host in range(1, 4)])
+        self.assertIn("Shown: 12 devices, the hosts", section.one("p", "facts").text)
+        (row,) = self.rows("by-device", section)
+        self.assertEqual(microseconds(row["calm, us"].text), numbers.calm(topology.device_numbers["host1-1"]))
+        self.assertIn("host1-1, host1-2", row["device"].text)
+        first = self.rows("heat", section)[0]
+        self.assertEqual(first["domain"].text, "device spine1 and 2 alike")
+
+    def test_of_which_devices(self):
+        section, *_ = self.hosts("--of", "leaf[12]", "--of", "spine*")
+        self.assertEqual(list(self.rows("heat", section)[0])[4:], ["R spine1", "B spine2", "leaf1", "leaf2", "spine3"])
+        section, *_ = self.hosts("--of", "*")
+        self.assertEqual(list(self.rows("heat", section)[0])[4:], ["R spine1", "B spine2", "host1-1 and 11 alike", "leaf1 and 3 alike", "spine3"])
+        here = EXAMPLES / "fabric"
+        with directory() as path:
+            (path / "drill").write_text(outputs("fabric")[DRILL])
+            err = tool(here / "topology.toml", here / "plan.json", "--drill", path / "drill", "--of", "nobody*")[2]
+        self.assertIn("no device has a name like nobody*", err)
 
     def test_bad_drills(self):
         here, text = EXAMPLES / "fabric", outputs("fabric")[DRILL]
@@ -572,7 +761,7 @@ class Replays(unittest.TestCase):
                     sorted((line[1], line[2], int(line[4])) for line in reports),
                 )
                 heads = [node.text for node in tree.one("table", "reports").one("thead").all("th")]
-                self.assertEqual(heads, ["line", "reference, ms", "device", "clock, ms", "eps, us", "off, us", "of its eps", "rests on"])
+                self.assertEqual(heads, ["line", "from the first event, ms", "device", "clock, ms", "eps, us", "off, us", "of its eps", "rests on"])
                 for row in rows:
                     self.assertIn(row[2], row[7])
 
@@ -686,6 +875,53 @@ class Replays(unittest.TestCase):
                 self.assertIn(reason, err)
                 self.assertEqual([file.name for file in path.iterdir()], ["bounds"])
 
+    def test_what_is_at_the_edge_is_seen_whole(self):
+        with directory() as path:
+            tree = whole("triangle", path)
+        for node in tree.all("b", "mark") + tree.one("div", "axis", "top").all("span", "none"):
+            self.assertTrue(0.005 < float(node["style"].removeprefix("--x:")) < 0.995)
+        for panel in tree.one("div", "plot", "eps").all("svg") + tree.one("div", "plot", "off").all("svg"):
+            for dots in panel.all("path", "dots"):
+                for x, y in (dot[1:-2].split(" ") for dot in re.findall("M[^M]*h0", dots["d"])):
+                    self.assertTrue(5 < float(x) < 995 and 3 < float(y) < 217, dots["d"])
+
+    def test_times_are_from_the_first_event(self):
+        """A schedule that begins at a reference of years has the times of one that begins at 0."""
+        begin = 10**18
+        here = EXAMPLES / "triangle"
+        schedule = [line.split(" ") for line in (here / "schedule.txt").read_text().splitlines()]
+        moved = []
+        for words in schedule:
+            words[1] = str(int(words[1]) + begin)
+            if words[0] in ("start", "join", "fix"):
+                words[4] = str(int(words[4]) + begin)
+            moved.append(" ".join(words) + "\n")
+        with directory() as path:
+            said = [line.split(" ") for line in outputs("triangle")[REPLAY].splitlines()]
+            for words in said:
+                if words[0] == "report":
+                    words[3] = str(int(words[3]) + begin)
+            (path / "schedule").write_text("".join(moved))
+            (path / "output").write_text("".join(" ".join(words) + "\n" for words in said))
+            plans = [here / "topology.toml", here / "plan.json", here / "plan-2.json"]
+            later = page(*plans, "--replay", path / "schedule", path / "output").one("section", "replay")
+            tree = whole("triangle", path).one("section", "replay")
+        self.assertIn("the first at the reference 1,000,000 s", later.one("p", "facts").text)
+        for name in "marks", "reports", "spans":
+            rows = [[cell.text for cell in row.all("td")][:7] for row in tree.one("table", name).one("tbody").all("tr")]
+            self.assertEqual([[cell.text for cell in row.all("td")][:7] for row in later.one("table", name).one("tbody").all("tr")], rows)
+        self.assertEqual([node["d"] for node in later.all("path", "line")], [node["d"] for node in tree.all("path", "line")])
+
+    def test_lines_that_lie_on_each_other_are_told_apart(self):
+        """Two lines that part at the end: the later one is dashed, so that the one below it is seen."""
+        topology = read_topology(str(EXAMPLES / "triangle" / "topology.toml"))
+        peaks = Peaks()
+        for ref in range(0, 1000, 10):
+            for device, value in (0, 1000), (1, 1000 + 3 * max(0, ref - 500)), (2, 5000):
+                peaks.add(device, ref, value, value)
+        view = ReplayView(topology, Replay(peaks=peaks, origin=0, last=1000))
+        self.assertEqual((view.lines, view.dashed), ([[0], [1], [2]], [False, True, False]))
+
     def test_lines_that_coincide_are_told(self):
         peaks = Peaks()
         for ref in range(0, 1000, 10):
@@ -693,7 +929,7 @@ class Replays(unittest.TestCase):
                 peaks.add(device, ref, ref, ref // 2)
             peaks.add(2, ref, ref, ref)
         topology = read_topology(str(EXAMPLES / "triangle" / "topology.toml"))
-        view = ReplayView(topology, Replay(peaks=peaks, first=0, last=1000))
+        view = ReplayView(topology, Replay(peaks=peaks, origin=0, last=1000))
         self.assertEqual(view.lines, [[0, 1], [2]])
         self.assertEqual(view.colour, {0: 0, 1: 0, 2: 1})
 
@@ -800,7 +1036,7 @@ class ReadinessOfLosses(unittest.TestCase):
 
     def row(self, name, **more):
         said = {
-            "kind": "device", "name": name, "takes_over": False, "moving": ["leaf1"], "bound_ps": 5583603, "bound_device": "spine3",
+            "kind": "device", "name": name, "takes_over": False, "moving": ["leaf1"], "base_ps": 10**6, "hold_ps": 2404700000, "bound_ps": 5583603, "bound_device": "spine3",
             "without_bound": 1, "cut_off": [], "planned_again": True, "refusal": None, "next_root": "spine1", "next_backup_root": "spine2",
         }
         return {**said, **more}
@@ -843,10 +1079,26 @@ class ReadinessOfLosses(unittest.TestCase):
         rows = [row.all("td")[7].text for row in section.one("tbody").all("tr")]
         self.assertTrue(rows[0].endswith("search: loop device b cycle b") and rows[1].endswith("by a search: spine1, spine3"), rows)
 
+    def test_readiness_and_the_drill_have_one_base_and_hold(self):
+        words = [self.HERE / "topology.toml", self.HERE / "plan.json"]
+        with directory() as path:
+            (path / "drill").write_text(outputs("fabric")[DRILL])
+            words += ["--drill", path / "drill", "--readiness", path / "readiness"]
+            (path / "readiness").write_text(json.dumps(self.row("leaf1", hold_ps=3 * 10**9)) + "\n")
+            tree = page(*words)
+            self.assertIn("with BASE 1 us and HOLD 3 ms", tree.one("section", "readiness").text)
+            self.assertTrue(tree.one("section", "drill").one("p", "facts").text.startswith("BASE 1 us, HOLD 3 ms."))
+            self.assertIn("make it and the drill with the same", tool(*words, "--hold", "2ms")[2])
+            (path / "readiness").write_text(json.dumps(self.row("leaf1")) + "\n" + json.dumps(self.row("leaf2", hold_ps=1)) + "\n")
+            self.assertIn("readiness:2: the losses have several BASE or HOLD", tool(*words)[2])
+            (path / "readiness").write_text(json.dumps(self.row("leaf1")) + "\n")
+            self.assertIn("it is no drill of this plan with BASE 1 us, HOLD 2.4047 ms", tool(*words)[2])
+
     def test_what_is_no_readiness(self):
         for row, reason in (
             (self.row("leaf99"), "readiness:1: the topology has no device leaf99"),
             (self.row("leaf1", kind="rack"), "readiness:1: the topology has no rack leaf1"),
+            (self.row("leaf1", hold_ps=None), "readiness:1: no line of sundial-readiness --json"),
             (self.row("leaf1", bound_ps="5"), "readiness:1: no line of sundial-readiness --json"),
             (self.row("leaf1", moving=[1]), "readiness:1: no line of sundial-readiness --json"),
             (self.row("leaf1", search_refusal=None), "readiness:1: no line of sundial-readiness --json"),
@@ -898,6 +1150,20 @@ class Verdicts(unittest.TestCase):
         self.assertEqual([link.text for link in section.all("a")][:2], ["line 13, at 1.5 ms", "line 21, at 2.9 ms"])
         self.assertEqual([link["href"] for link in section.all("a")][:2], ["#line-13", "#line-21"])
 
+    def test_the_verdict_as_text(self):
+        here = EXAMPLES / "incident"
+        command = "sundial replay topology.toml plan.json plan.json schedule.txt"
+        with directory() as path:
+            (path / "output").write_text(outputs("incident")[command])
+            words = [here / "topology.toml", *[here / "plan.json"] * 2, "--replay", here / "schedule.txt", path / "output"]
+            tree = page(*words, "--text", path / "text")
+            text = (path / "text").read_text()
+        self.assertTrue(text.startswith("Alarms. 2 premises broke (tick, delay), the first at line 13"))
+        section = tree.one("section", "verdict")
+        self.assertEqual(len(text.splitlines()), 2 + len(section.all("li")))
+        self.assertIn("- line 13, at 1.5 ms: broken 13 tick. spine2, leaf, spine1 did not tick for 1.41 ms", text)
+        self.assertEqual(tree.one("head").one("title").text, "Alarms. Sundial: a fabric and its plans")
+
     def test_broken_premises_alone(self):
         here = EXAMPLES / "triangle"
         with directory() as path:
@@ -913,6 +1179,20 @@ class Verdicts(unittest.TestCase):
             (path / "output").write_text("alarm 1 roots r b\ndone 2 0\n")
             tree = page(here / "topology.toml", here / "plan.json", "--replay", path / "schedule", path / "output")
         self.check(tree, "alarm", "Alarms", "No premise broke", "against what is proved")
+
+    def test_alarms_before_the_first_broken_premise(self):
+        """Only what comes after a broken premise is without a promise."""
+        here = EXAMPLES / "triangle"
+        with directory() as path:
+            (path / "schedule").write_text("start 0 0 0 0 1000\nstart 1001 1 0 0 1000\nend 1001\n")
+            for output, text in (
+                ("alarm 1 roots r b\nbroken 2 start\ndone 3 0\n", "against what is proved"),
+                ("broken 2 start\nalarm 2 roots r b\ndone 3 0\n", "no promise was broken"),
+            ):
+                (path / "output").write_text(output)
+                tree = page(here / "topology.toml", here / "plan.json", "--replay", path / "schedule", path / "output")
+                self.check(tree, "alarm", "Alarms", "1 premise broke (start)", text)
+                self.assertEqual("no promise was broken" in tree.one("section", "verdict").text, "no promise" in text)
 
     def test_a_refused_plan(self):
         here = EXAMPLES / "refused"
@@ -989,7 +1269,8 @@ class Pages(unittest.TestCase):
             tree = whole("fabric", path)
         for node in tree.all("svg"):
             if node["aria-hidden"] != "true":
-                self.assertEqual(node["role"], "img")
+                # (a picture with links in it is a group)
+                self.assertEqual(node["role"], "group" if node.all("a") else "img")
                 self.assertTrue(node["aria-label"])
         for node in tree.all("div", "scroll") + tree.all("div", "panels"):
             self.assertEqual((node["role"], node["tabindex"]), ("region", "0"))
@@ -998,7 +1279,7 @@ class Pages(unittest.TestCase):
             self.assertTrue(node["aria-label"])
         labelled = {node["for"] for node in tree.all("label") if node["for"]}
         for node in tree.all("input"):
-            self.assertIn(node["id"], labelled)
+            self.assertTrue(node["id"] in labelled or node.parent.tag == "label")
         for node in tree.all("select"):
             self.assertEqual(node.parent.tag, "label")
         for table in tree.all("table"):
@@ -1060,7 +1341,7 @@ class Pages(unittest.TestCase):
             ((here / "none.toml", here / "plan.json"), "No such file"),
             ((here / "plan.json", here / "plan.json"), "no TOML"),
             ((here / "topology.toml", here / "topology.toml"), "no JSON"),
-            ((here / "topology.toml", EXAMPLES / "fabric" / "plan.json"), "no such"),
+            ((here / "topology.toml", EXAMPLES / "fabric" / "plan.json"), "it is a plan of another topology"),
         ):
             with self.subTest(reason):
                 status, out, err = tool(*words)

@@ -4,12 +4,14 @@ import csv
 import hashlib
 import io
 import json
+import re
 import shutil
 import unittest
 
 from support import DATA, NETWORK, directory, needs_sundial, run, sundial
 
 from sundial_tools.network.main import main
+from sundial_tools.times import written
 from sundial_tools.topology import parse_topology
 
 SETTINGS = (
@@ -59,6 +61,21 @@ class Lldp(unittest.TestCase):
     def test_each_feed_lists_its_devices_when_asked(self):
         domains = {domain.name: domain.devices for domain in parse_topology(lldp(self.FILES, "--every-feed")[1]).domains}
         self.assertEqual((domains["feed-A"], domains["feed-B"]), ((0, 1, 2, 4), (0, 1, 3, 4)))
+
+    def test_names_with_a_domain(self):
+        """Hosts that give their whole names, in the files' names and in what neighbours see of them, where the table has none."""
+        with directory() as path:
+            for file in self.FILES:
+                text = re.sub(r'"(l[123])"', r'"\1.dc1.example.com"', file.read_text())
+                (path / (file.name.replace(".json", ".dc1.example.com.json") if file.name[0] == "l" else file.name)).write_text(text)
+            files = sorted(path.iterdir(), key=lambda file: HOSTS.index(file.name.split(".")[0]))
+            status, out, err = lldp(files)
+            self.assertEqual((status, out), (1, ""))
+            self.assertIn("say --strip-domain dc1.example.com, since l1 is there; or --ignore l1.dc1.example.com", err)
+            for domain in "dc1.example.com", ".dc1.example.com":
+                self.assertEqual(lldp(files, "--strip-domain", domain), lldp(self.FILES))
+            self.assertEqual(lldp(files, "--strip-domain", "example.com")[0], 1)
+            self.assertEqual(lldp(files, "--strip-domain", "dc1.example.com", "--ignore", "l3"), lldp(self.FILES, "--ignore", "l3"))
 
     def test_a_cable_with_one_end(self):
         files = self.FILES[:4] + [NETWORK / "down" / "l3.json"]
@@ -446,6 +463,25 @@ class Tables(unittest.TestCase):
                 self.assertEqual((status, out), (1, ""))
                 self.assertIn(reason, err)
 
+    def test_one_rule_for_times(self):
+        for cell, reason in (
+            ("8 ns", "grain '8 ns' is no time: write 8ns, without spaces and commas"), ("8", "grain '8' has no unit: write 8ps, 8ns, 8us, 8ms or 8s"),
+            ("8,000", "grain '8,000' is no time: write 8000ns"), ("8nm", "grain '8nm' is no time: write a number and its unit"),
+            ("2s", "grain '2s' has to be from 0 to 1s"), ("0.5ps", "grain '0.5ps' is no time"),
+        ):
+            with self.subTest(cell), directory() as path:
+                (path / "o.csv").write_text(f'kind,ppm,grain\nspine-32,50,"{cell}"\nleaf-48,200,0\n')
+                status, out, err = tables(NETWORK / "devices.csv", NETWORK / "links.csv", "--oscillators", path / "o.csv")
+                self.assertEqual((status, out), (1, ""))
+                self.assertIn(f"o.csv:2: {reason}", err)
+        self.assertEqual([written(value) for value in (0, 1, 8000, 1500, 10**12, 3 * 10**12)], ["0", "1ps", "8ns", "1500ps", "1s", "3s"])
+
+    def test_a_table_that_is_not_utf8_is_named(self):
+        with directory() as path:
+            (path / "o.csv").write_bytes(b"kind,ppm,grain\n\xe9,50,8ns\n")
+            err = tables(NETWORK / "devices.csv", NETWORK / "links.csv", "--oscillators", path / "o.csv")[2]
+            self.assertIn("o.csv:2: not UTF-8: invalid continuation byte at byte 1 of the line", err)
+
     def test_a_rack_has_the_links_inside_it(self):
         with directory() as path:
             (path / "devices.csv").write_text((NETWORK / "devices.csv").read_text().replace("R5", "R4"))
@@ -457,7 +493,7 @@ class Tables(unittest.TestCase):
 
     def test_a_medium_has_delays_of_its_own(self):
         with directory() as path:
-            (path / "delays.csv").write_text("from,to,min,max,medium\nspine-32,leaf-48,1,2,\nleaf-48,spine-32,3,4,\nspine-32,leaf-48,5,6,smf\n")
+            (path / "delays.csv").write_text("from,to,min,max,medium\nspine-32,leaf-48,1ps,2ps,\nleaf-48,spine-32,3ps,4ps,\nspine-32,leaf-48,5ps,6ps,smf\n")
             out = tables(NETWORK / "devices.csv", NETWORK / "links.csv", "--delays", path / "delays.csv")[1]
             link = parse_topology(out).links[0]
             self.assertEqual((link.forth.min, link.back.min), (5, 3))

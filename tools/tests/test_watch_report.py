@@ -65,6 +65,13 @@ class Windows(unittest.TestCase):
         self.assertEqual(ways, {"whole", "marks"})
         self.assertEqual([name for name in os.listdir(self.path) if name.endswith(".body")], [])
 
+    def test_a_window_ends_with_its_last_event(self):
+        self.fabric = self.watched(2)
+        row = next(row for row in self.fabric.rows() if row["kind"] == "report")
+        kept, made = Kept(str(self.fabric.state)), self.fabric.made
+        window = Window(kept, made.topology, made.plans, None, row["ref"], str(self.path / "window.txt"))
+        self.assertEqual((window.last_ref, list(self.shifted(window))[-1]), (row["ref"], line_of(row)))
+
     def test_a_page_and_words(self):
         fabric = self.watched(9, bad=45)
         broken = next(row for row in fabric.rows() if row["kind"] == "broken")

@@ -9,10 +9,13 @@ from unittest import mock
 
 from support import EXAMPLES, PROGRAM, directory, needs_sundial, run, sundial
 
+from sundial_tools.fleet.device import ACTING
+from sundial_tools.fleet.fleet import Fleet
 from sundial_tools.network.main import main as topology_main
 from sundial_tools.plain.lines import Replay
-from sundial_tools.plan import parse_plan
-from sundial_tools.topology import Device, parse_topology
+from sundial_tools.plan import parse_plan, read_plan
+from sundial_tools.schedule import read_schedule
+from sundial_tools.topology import Device, parse_topology, read_topology
 from sundial_tools.whatif import wishes as wished
 from sundial_tools.whatif.clocks import FAST, SLOW, STEADY, Clock
 from sundial_tools.whatif.main import main
@@ -166,6 +169,26 @@ class Clocks(unittest.TestCase):
                         self.assertGreaterEqual(second, first)
                         counted, passed = second - first, after - before
                         self.assertLessEqual(abs(counted - passed) * MILLION, ppm * counted + grain * MILLION, (kind, ppm, grain))
+
+
+class Holds(unittest.TestCase):
+    def test_an_acting_root_is_fixed_within_hold(self):
+        """At each event of an acting device its estimate is at most HOLD old."""
+        here = EXAMPLES / "fabric"
+        topology = read_topology(str(here / "topology.toml"))
+        plans = [read_plan(str(here / "plan.json"), topology)]
+        with directory() as path:
+            words = [here / "topology.toml", here / "plan.json", "--until", "12ms", "--hold", "500us", "--seed", "3", "-o", path / "run.txt"]
+            self.assertEqual(whatif(*words)[0], 0)
+            events = [event for _, event in read_schedule((path / "run.txt").read_text().splitlines())]
+        fleet, oldest = Fleet(topology, plans), 0
+        for event in events:
+            fleet.happen(event)
+            state = fleet.up.get(event.device)
+            if event.counter is not None and state is not None and state.mode == ACTING:
+                oldest = max(oldest, event.counter - state.counter)
+        self.assertTrue(200 * MILLION < oldest <= 500 * MILLION, oldest)
+        self.assertGreater(sum(event.word == "fix" for event in events), 12)
 
 
 class Words(unittest.TestCase):

@@ -2,6 +2,7 @@
 
 import unittest
 
+import networks
 from examples import EXAMPLES, outputs
 from support import directory, run
 
@@ -56,8 +57,56 @@ class Why(unittest.TestCase):
         out = self.says("shares the domain feed-a", "refused plan 1 structure 6 device spine2\n", "t.toml", files={"t.toml": text})
         self.assertIn("There are 3 more ways.", out)
 
+    def unclear(self, part, text, *words, files=None):
+        """A sentence and status 1."""
+        status, out, err = self.why(text, *words, files=files)
+        self.assertEqual((status, err), (1, ""))
+        self.assertIn(part, out)
+
     def test_a_line_of_another_topology(self):
-        self.says("not the topology of this output", "refused plan 1 ancestor device nobody\n", TRIANGLE / "topology.toml")
+        for line in (
+            "refused plan 1 ancestor device nobody", "refused plan 1 loop device r cycle b nobody", "refused plan 1 root listed nowhere at link rb1",
+            "refused plan 1 root device r at link nobody", "report 4 nobody 1 2", "alarm 4 roots r nobody", "bound device r nobody 7", "bound listed nowhere r 7",
+            "link nobody 1 2 3 inside",
+        ):
+            with self.subTest(line):
+                self.unclear("it is not the topology of this output", line + "\n", TRIANGLE / "topology.toml", TRIANGLE / "plan.json")
+
+    def test_a_fault_that_is_cut_short(self):
+        words = [TRIANGLE / name for name in ("topology.toml", "plan.json", "schedule.txt")]
+        for fault in (
+            "topology Range tick", "topology Limit", "topology Missing", "plan 1 UnknownName", "plan 1 Missing rows.link", "plan 1 Version",
+            "schedule 1 Number",
+        ):
+            with self.subTest(fault):
+                self.unclear("The line is cut short", f"input {fault}\n", *words)
+
+    def test_no_line_at_all(self):
+        status, out, err = self.why("", TRIANGLE / "topology.toml")
+        self.assertEqual((status, out), (1, ""))
+        self.assertIn("there is no line", err)
+
+    def test_a_line_that_is_not_utf8_names_its_file(self):
+        with directory() as path:
+            (path / "lines").write_bytes(b"done 1 1\n\xff\n")
+            status, _, err = run("sundial-why", main, [TRIANGLE / "topology.toml", "--lines", path / "lines"])
+        self.assertEqual((status, err), (1, f"sundial-why: {path}/lines:2: not UTF-8: invalid start byte at byte 1 of the line\n"))
+
+    def test_a_plan_of_another_topology(self):
+        fabric = EXAMPLES / "fabric/plan.json"
+        self.says("a plan of another topology", "input plan 1 UnknownName root 0\n", TRIANGLE / "topology.toml", fabric)
+
+    def test_a_renewal_that_is_refused_is_not_the_plan_in_force(self):
+        """Under the new plan l2 follows s2, and has another backup than before."""
+        text, topology = networks.made("leaf-spine", "--leaves", "3", "--hosts", "1")
+        files = {"t.toml": text, "p.json": networks.plan_text(topology)}
+        with directory() as path:
+            (path / "gone.json").write_text('{"absent_devices": ["spine1"], "absent_links": []}')
+            out = self.says("It takes the link leaf1-spine2 of its way, and the link leaf1-spine3 of its backup.",
+                            "refused plan 1 domain listed rack1 device leaf1\n", "t.toml", "p.json", "--absent", path / "gone.json", files=files)
+        self.assertNotIn("spine1", out)
+        out = self.says("It takes the link leaf1-spine1 of its way", "refused plan 1 domain listed rack1 device leaf1\n", "t.toml", files=files)
+        self.assertIn("the link leaf1-spine2 of its backup", out)
 
     # Topologies and plans
 

@@ -1,72 +1,87 @@
 //! A clock for the processes of one machine: `bindings/c/clock.h` in Rust, over the same page. One
 //! process drives the device and publishes it ([`Writer`]). Any number of processes read the time
-//! ([`Reader`]), in C or in Rust, without a call of the system and without a lock.
+//! ([`Reader`]), in any language, without a call of the system and without a lock.
 //!
 //! It needs the feature `clock`, the standard library, and Linux on 64 bits. Times are in whole ns
 //! where they are not said to be in ps. They are rounded outward.
 //!
-//! What you owe, beside what the device asks: the mapping tells how the counter follows from
-//! `CLOCK_MONOTONIC_RAW`. That clock stands still while the machine sleeps, so start or join the
-//! device anew before anybody reads after that. A page has one writer.
+//! What you owe, beside what the device asks:
+//! - the counter and the reading of `CLOCK_MONOTONIC_RAW` of a publication were taken at one moment,
+//!   and from then on the one follows the other as the [`Terms`] say;
+//! - where the machine sleeps, or is a virtual one that is stopped or moved, [`Writer::disrupt`] is
+//!   called: that clock stands still or jumps then;
+//! - a process opens a page after its last change of time namespace.
 
 extern crate std;
 
 use core::ffi::{c_int, c_void};
-use core::mem::{size_of, MaybeUninit};
+use core::mem::size_of;
 use core::ptr::{self, NonNull};
 use core::sync::atomic::{AtomicU64, Ordering};
-use std::fs::{File, OpenOptions};
+use std::ffi::OsString;
+use std::fs::{self, File, OpenOptions};
 use std::io;
 use std::os::fd::AsRawFd;
+use std::os::unix::fs::{MetadataExt, OpenOptionsExt};
 use std::path::Path;
 use std::thread;
 use std::time::Duration;
 
-use crate::raw::{self, Duty, Edge};
-use crate::{Device, Fault, Mode};
+use crate::{Device, Fault, Mode, Port};
 
-const MAGIC: u64 = 0x7375_6e64_6961_6c31;
-const MAPPING_WORDS: usize = 6;
-const DEVICE_WORDS: usize = size_of::<raw::Device>() / 8;
-/// How often a read tries again where the page changes under it.
-const TRIES: u32 = 100_000;
+const MAGIC: u64 = u64::from_le_bytes(*b"sundial\0");
+const VERSION: u64 = 2;
+const SECOND: u64 = 1_000_000_000;
+const WORDS: usize = 16;
+/// How often a read tries again where the writer came round to its slot.
+const TRIES: u32 = 1_000;
 /// A wait sleeps while more than this is left.
 const NEARLY: u64 = 60_000;
+const WITHDRAWN: u64 = 107;
+const DISRUPTED: u64 = 108;
 
-/// The page of `struct sundial_clock_page`.
+/// The page, whose head `clock.h` describes.
 #[repr(C)]
 struct Page {
     magic: AtomicU64,
-    /// Odd while the writer writes; 0 before it first has.
-    sequence: AtomicU64,
-    published: AtomicU64,
-    mapping: [AtomicU64; MAPPING_WORDS],
-    device: [AtomicU64; DEVICE_WORDS],
+    version: AtomicU64,
+    length: AtomicU64,
+    latest: AtomicU64,
+    none: [AtomicU64; 4],
+    slots: [[AtomicU64; WORDS]; 2],
 }
 
-/// How the counter of the device follows from `CLOCK_MONOTONIC_RAW`: while that shows `raw` + x ns,
-/// the counter shows `counter` + 1000 x + x * `skew` / 1000 ps, but for `slack` ps and `slack_ppm`
-/// parts per million of x.
+/// What holds of an interval after its publication.
+#[derive(Clone, Copy, Debug, Default, PartialEq, Eq)]
+pub struct Terms {
+    /// How long nothing may be published until the interval is stale.
+    pub stale_after: u64,
+    /// How long nothing may be published until there is none.
+    pub void_after: u64,
+    /// How far the counter of a publication may be off, in ps: at most 10^12.
+    pub slack: u64,
+    /// How many parts per million more of what has passed since: at most 100000.
+    pub slack_ppm: u32,
+    /// Parts per million by which the counter is faster than `CLOCK_MONOTONIC_RAW`, from -100000 to 100000.
+    pub skew: i32,
+    /// The civil time at reference time 0, since 1970 and without leap seconds.
+    pub origin: i64,
+}
+
+/// A counter that is `CLOCK_MONOTONIC_RAW`: while that shows `raw` + x ns, it shows `counter` + 1000 x
+/// + x * `skew` / 1000 ps. Real hosts have no skew.
 #[derive(Clone, Copy, Debug, Default, PartialEq, Eq)]
 pub struct Mapping {
     /// A reading of `CLOCK_MONOTONIC_RAW`.
     pub raw: u64,
     /// The counter then, in ps.
     pub counter: u64,
-    /// How far the counter may lie off, in ps.
-    pub slack: u64,
-    /// How much farther for each million ns.
-    pub slack_ppm: u32,
     /// Parts per million by which the counter is fast, from -100000 to 100000.
     pub skew: i32,
-    /// How long nothing may be published until the clock is stale.
-    pub stale_after: u64,
-    /// The civil time at reference time 0, since 1970 and without leap seconds.
-    pub origin: i64,
 }
 
 impl Mapping {
-    /// What the counter shows while `CLOCK_MONOTONIC_RAW` shows this, without the slack.
+    /// What the counter shows while `CLOCK_MONOTONIC_RAW` shows this.
     pub fn counter_at(&self, raw: u64) -> u64 {
         let passed = raw.saturating_sub(self.raw);
         let skewed = (passed / 1000) as i64 * i64::from(self.skew)
@@ -74,15 +89,169 @@ impl Mapping {
         self.counter.wrapping_add(passed * 1000).wrapping_add(skewed as u64)
     }
 
-    fn words(&self) -> [u64; MAPPING_WORDS] {
-        let rates = u64_of([self.slack_ppm, self.skew as u32]);
-        [self.raw, self.counter, self.slack, rates, self.stale_after, self.origin as u64]
+    /// Rebases the device and its ports, lowers the mapping by as much, and answers by how much. Faults: those
+    /// of [`Device::rebase`].
+    pub fn rebase(&mut self, device: &mut Device, ports: &mut [Port], raw: u64) -> Result<u64, Fault> {
+        let counter = self.counter_at(raw);
+        let lowered = device.rebase_with_ports(ports, counter)?;
+        self.raw = self.raw.max(raw);
+        self.counter = counter - lowered;
+        Ok(lowered)
+    }
+}
+
+/// Which clock `CLOCK_MONOTONIC_RAW` is in a process: the boot, and what the time namespace adds.
+#[derive(Clone, Copy, Debug, PartialEq, Eq)]
+struct Identity {
+    boot: [u64; 2],
+    offset: i64,
+}
+
+impl Identity {
+    /// That of this process.
+    fn here() -> io::Result<Identity> {
+        let invalid = || io::Error::from(io::ErrorKind::InvalidData);
+        let text = fs::read_to_string("/proc/sys/kernel/random/boot_id")?.trim().replace('-', "");
+        let boot = u128::from_str_radix(&text, 16).map_err(|_| invalid())?.to_be_bytes();
+        let half = |at: usize| u64::from_le_bytes(core::array::from_fn(|i| boot[at + i]));
+        let boot = [half(0), half(8)];
+        let offsets = match fs::read_to_string("/proc/self/timens_offsets") {
+            Err(error) if error.kind() == io::ErrorKind::NotFound => return Ok(Identity { boot, offset: 0 }),
+            read => read?,
+        };
+        // (where a process made a namespace for its children, the kernel shows theirs)
+        if fs::metadata("/proc/self/ns/time")?.ino() != fs::metadata("/proc/self/ns/time_for_children")?.ino() {
+            return Err(io::ErrorKind::Unsupported.into());
+        }
+        let mut words = offsets.split_whitespace().skip(1).map(str::parse::<i64>);
+        let (Some(Ok(seconds)), Some(Ok(rest))) = (words.next(), words.next()) else { return Err(invalid()) };
+        Ok(Identity { boot, offset: seconds * SECOND as i64 + rest })
+    }
+}
+
+/// What a slot holds.
+#[derive(Clone, Copy, Debug, PartialEq, Eq)]
+struct Slot {
+    status: u64,
+    clock: Identity,
+    raw: u64,
+    stale_after: u64,
+    void_after: u64,
+    earliest: i64,
+    latest: i64,
+    slow: u64,
+    fast: u64,
+    origin: i64,
+    age: u64,
+    epoch: u32,
+    mode: u32,
+    disruptions: u64,
+}
+
+impl Slot {
+    fn words(&self, number: u64) -> [u64; WORDS] {
+        [
+            number, self.status, self.clock.boot[0], self.clock.boot[1], self.clock.offset as u64, self.raw,
+            self.stale_after, self.void_after, self.earliest as u64, self.latest as u64, self.slow, self.fast,
+            self.origin as u64, self.age, u64::from(self.epoch) | u64::from(self.mode) << 32, self.disruptions,
+        ]
     }
 
-    fn from_words(words: [u64; MAPPING_WORDS]) -> Mapping {
-        let [raw, counter, slack, rates, stale_after, origin] = words;
-        let [slack_ppm, skew] = halves_of(rates);
-        Mapping { raw, counter, slack, slack_ppm, skew: skew as i32, stale_after, origin: origin as i64 }
+    fn from_words(words: [u64; WORDS]) -> Slot {
+        let [_, status, one, other, offset, raw, stale_after, void_after, earliest, latest, slow, fast, origin, age, plan, disruptions] =
+            words;
+        Slot {
+            status, clock: Identity { boot: [one, other], offset: offset as i64 }, raw, stale_after, void_after,
+            earliest: earliest as i64, latest: latest as i64, slow, fast, origin: origin as i64, age,
+            epoch: plan as u32, mode: (plan >> 32) as u32, disruptions,
+        }
+    }
+
+    /// A slot without an interval.
+    fn none(status: u64, clock: Identity, disruptions: u64) -> Slot {
+        Slot {
+            status, clock, raw: raw_now(), stale_after: 0, void_after: 0, earliest: 0, latest: 0, slow: 0, fast: 0,
+            origin: 0, age: 0, epoch: 0, mode: 0, disruptions,
+        }
+    }
+
+    /// The interval of this device, as the terms extend it from here on.
+    fn line(terms: &Terms, device: &Device, clock: Identity, counter: u64, raw: u64) -> Result<Slot, Unpublished> {
+        const MILLION: u64 = 1_000_000;
+        if terms.slack > MILLION * MILLION || terms.slack_ppm > 100_000 || terms.skew.abs() > 100_000 {
+            return Err(Unpublished::BadTerms);
+        }
+        let report = device.report(counter)?;
+        let ppm = u64::from(device.0.rates.ppm);
+        // A counter that is off by the slack moves the clock by it, and lets eps grow by ppm of it. The roundings of
+        // the counter, of that growth and of the report's own are 3 ps at most.
+        let eps = report.eps as i128 + i128::from(terms.slack + (terms.slack * ppm).div_ceil(MILLION) + 3);
+        let middle = report.clock as i128;
+        let too_great = |_| Unpublished::Fault(Fault::EstimateTooGreat);
+        let faster = (MILLION as i64 + i64::from(terms.skew)) as u64;
+        let grows = (ppm * faster + u64::from(terms.slack_ppm) * (MILLION + ppm)).div_ceil(1000);
+        Ok(Slot {
+            status: 0,
+            clock,
+            raw,
+            stale_after: raw.saturating_add(terms.stale_after),
+            void_after: raw.saturating_add(terms.void_after),
+            earliest: i64::try_from((middle - eps).div_euclid(1000)).map_err(too_great)?,
+            latest: i64::try_from(-(-middle - eps).div_euclid(1000)).map_err(too_great)?,
+            slow: 1000 * faster - grows,
+            fast: 1000 * faster + grows,
+            origin: terms.origin,
+            age: (counter - device.0.estimate.at) / 1000,
+            epoch: if device.0.has_duty != 0 { device.0.duty.epoch } else { 0 },
+            mode: u32::from(device.0.mode),
+            disruptions: 0,
+        })
+    }
+
+    /// Its interval at a later reading of `CLOCK_MONOTONIC_RAW`.
+    fn extended(&self, raw: u64) -> (i64, i64) {
+        let (whole, rest) = ((raw - self.raw) / SECOND, (raw - self.raw) % SECOND);
+        let earliest = whole * self.slow + rest * self.slow / SECOND;
+        let latest = whole * self.fast + (rest * self.fast).div_ceil(SECOND);
+        (self.earliest.wrapping_add(earliest as i64), self.latest.wrapping_add(latest as i64))
+    }
+
+    /// What a process of this clock reads in it.
+    fn at(&self, clock: Identity, raw: u64, greatest: u64) -> Result<Now, Unread> {
+        if self.clock != clock || raw < self.raw {
+            return Err(Unread::Foreign);
+        }
+        match self.status {
+            0 if raw > self.void_after => return Err(Unread::Void),
+            0 => {}
+            DISRUPTED => return Err(Unread::Disrupted),
+            _ => return Err(Unread::Withdrawn),
+        }
+        let (earliest, latest) = self.extended(raw);
+        let eps = (latest.wrapping_sub(earliest) as u64).div_ceil(2);
+        Ok(Now {
+            earliest: earliest.max(0) as u64,
+            latest: latest.max(0) as u64,
+            eps,
+            age: self.age + (raw - self.raw),
+            silent: raw - self.raw,
+            disruptions: self.disruptions,
+            origin: self.origin,
+            epoch: self.epoch,
+            mode: match self.mode {
+                0 => Mode::Primary,
+                1 => Mode::Backup,
+                2 => Mode::Acting,
+                _ => Mode::Idle,
+            },
+            quality: if raw > self.stale_after {
+                Quality::Stale
+            } else if eps > greatest {
+                Quality::Wide
+            } else {
+                Quality::Good
+            },
+        })
     }
 }
 
@@ -91,7 +260,7 @@ impl Mapping {
 pub enum Quality {
     /// As good as the device's own.
     Good,
-    /// Nothing was published for longer than the mapping allows. The interval is right, and grows.
+    /// Nothing was published for longer than `stale_after`. The interval is right, and grows.
     Stale,
     /// `eps` is over the greatest that the caller takes. The interval is right.
     Wide,
@@ -104,12 +273,15 @@ pub struct Now {
     pub earliest: u64,
     /// The latest that it can be.
     pub latest: u64,
-    /// Half of what lies between, in ps, as the device reports it.
+    /// Half of what lies between, rounded up.
     pub eps: u64,
-    /// By how much the counter advanced since the device last heard or was set.
+    /// By the counter, since the device's clock was set by a start, a join, a fix or a message, or since
+    /// its latest rebase.
     pub age: u64,
     /// How long ago the latest publication was.
     pub silent: u64,
+    /// How many disruptions there were. Where two reads differ in it, the earlier may have been wrong.
+    pub disruptions: u64,
     /// The civil time at reference time 0.
     pub origin: i64,
     /// The number of the device's plan, and 0 where it follows none.
@@ -127,8 +299,8 @@ impl Now {
     }
 
     /// A stamp that is not before the reference time, and greater than every stamp that was taken of
-    /// the same `last`, which is 0 at first. Take it after the locks are held, and wait until it has
-    /// passed.
+    /// the same `last`, also where a message moved `latest` back. `last` is 0 at first. Take it after the
+    /// locks are held, and wait until it has passed.
     pub fn stamp(&self, last: &AtomicU64) -> u64 {
         let mut before = last.load(Ordering::Relaxed);
         loop {
@@ -140,8 +312,9 @@ impl Now {
         }
     }
 
-    /// Whether who has a lease that ends at this reference time may act. No two hold one together,
-    /// whichever machines ask.
+    /// Whether who has a lease that ends at this reference time may act. At one moment of the reference
+    /// time this and `lease_is_over` are not both so, on any two machines. A holder that is stopped after
+    /// this call acts late: what it writes to needs a fencing token.
     pub fn lease_holds(&self, end: u64) -> bool {
         self.latest < end
     }
@@ -162,23 +335,65 @@ impl Now {
 pub enum Unread {
     /// Nothing was published yet.
     Empty,
-    /// The writer died while it wrote, and none has come since; or it wrote at each try.
-    Torn,
-    /// What a report of the device answered.
-    Fault(Fault),
+    /// The writer came round at each try.
+    Busy,
+    /// The writer's clock is another: of another boot or another time namespace, or the publication is after now.
+    Foreign,
+    /// Nothing was published for longer than `void_after`.
+    Void,
+    /// The writer withdrew the interval.
+    Withdrawn,
+    /// The writer's clock stood still or jumped: what was read shortly before may be wrong, too.
+    Disrupted,
 }
 
 impl core::fmt::Display for Unread {
     fn fmt(&self, to: &mut core::fmt::Formatter<'_>) -> core::fmt::Result {
-        match self {
-            Unread::Empty => to.write_str("nothing was published yet"),
-            Unread::Torn => to.write_str("the page is half written"),
-            Unread::Fault(fault) => fault.fmt(to),
-        }
+        to.write_str(match self {
+            Unread::Empty => "nothing was published yet",
+            Unread::Busy => "the writer came round at each try",
+            Unread::Foreign => "the writer's clock is of another boot or time namespace",
+            Unread::Void => "nothing was published for too long",
+            Unread::Withdrawn => "the interval was withdrawn",
+            Unread::Disrupted => "the writer's clock stood still or jumped",
+        })
     }
 }
 
 impl core::error::Error for Unread {}
+
+/// Why a publication was not made. The page is then as it was.
+#[derive(Clone, Copy, Debug, PartialEq, Eq)]
+pub enum Unpublished {
+    /// This interval and the one in the page have no time in common, so one of them is wrong. A counter that
+    /// was not lowered after a rebase does this. Withdraw, find out which it is, and publish again.
+    Apart,
+    /// `raw` is before that of the latest publication, or after now.
+    BadRaw,
+    /// A number of the terms is past its limit.
+    BadTerms,
+    /// What a report of the device answered.
+    Fault(Fault),
+}
+
+impl From<Fault> for Unpublished {
+    fn from(fault: Fault) -> Unpublished {
+        Unpublished::Fault(fault)
+    }
+}
+
+impl core::fmt::Display for Unpublished {
+    fn fmt(&self, to: &mut core::fmt::Formatter<'_>) -> core::fmt::Result {
+        match self {
+            Unpublished::Apart => to.write_str("the interval has no time in common with the one published before"),
+            Unpublished::BadRaw => to.write_str("the reading is before the publication before, or after now"),
+            Unpublished::BadTerms => to.write_str("a number of the terms is past its limit"),
+            Unpublished::Fault(fault) => fault.fmt(to),
+        }
+    }
+}
+
+impl core::error::Error for Unpublished {}
 
 /// How a wait ended.
 #[derive(Clone, Copy, Debug, PartialEq, Eq)]
@@ -199,69 +414,44 @@ pub fn raw_now() -> u64 {
 
 /// A page for reading.
 #[derive(Debug)]
-pub struct Reader(Mapped);
+pub struct Reader {
+    mapped: Mapped,
+    clock: Identity,
+}
 
 impl Reader {
-    /// The page of this file. A file that is no page is `InvalidData`.
+    /// The page of this file. A file that is no page is `InvalidData`, one of another version
+    /// `Unsupported`. A process that made a time namespace for its children gets `Unsupported`, too.
     pub fn open(path: impl AsRef<Path>) -> io::Result<Reader> {
-        let file = File::open(path)?;
-        if file.metadata()?.len() < size_of::<Page>() as u64 {
-            return Err(io::ErrorKind::InvalidData.into());
-        }
-        let mapped = Mapped::new(&file, PROT_READ)?;
-        if mapped.page().magic.load(Ordering::Acquire) != MAGIC {
-            return Err(io::ErrorKind::InvalidData.into());
-        }
-        Ok(Reader(mapped))
+        let clock = Identity::here()?;
+        Ok(Reader { mapped: Mapped::new(&File::open(path)?, PROT_READ)?, clock })
     }
 
     /// The interval in which the reference time lies at some moment of this call. Where `eps` is over
     /// `greatest`, its quality is `Wide`.
     pub fn read(&self, greatest: u64) -> Result<Now, Unread> {
-        let (published, mapping, device) = self.copy()?;
-        let raw = raw_now(); // (after the copy: so the counter is not before the device's)
-        let counter = mapping.counter_at(raw);
-        let report = device.report(counter).map_err(Unread::Fault)?;
-        let passed = raw.saturating_sub(mapping.raw);
-        let slack = mapping.slack + (passed / 1000 + 1) * u64::from(mapping.slack_ppm);
-        // (the growth for a counter that is off by the slack is far below a second slack)
-        let eps = report.eps + 2 * u128::from(slack);
-        let too_great = Unread::Fault(Fault::EstimateTooGreat);
-        let latest = (report.clock + eps).div_ceil(1000);
-        let now = Now {
-            earliest: u64::try_from(report.clock.saturating_sub(eps) / 1000).map_err(|_| too_great)?,
-            latest: u64::try_from(latest).map_err(|_| too_great)?,
-            eps: u64::try_from(eps).unwrap_or(u64::MAX),
-            age: counter.saturating_sub(device.0.estimate.at) / 1000,
-            silent: raw.saturating_sub(published),
-            origin: mapping.origin,
-            epoch: if device.0.has_duty != 0 { device.0.duty.epoch } else { 0 },
-            mode: device.mode().map_err(Unread::Fault)?,
-            quality: Quality::Good,
-        };
-        let quality = if now.silent > mapping.stale_after {
-            Quality::Stale
-        } else if eps > u128::from(greatest) * 1000 {
-            Quality::Wide
-        } else {
-            Quality::Good
-        };
-        Ok(Now { quality, ..now })
+        let slot = self.mapped.page().slot()?;
+        // (after the copy: so a reading of the same clock is not before the publication)
+        slot.at(self.clock, raw_now(), greatest)
     }
 
     /// Waits until the reference time has surely passed the stamp: it sleeps, and then asks again and
-    /// again. It goes on while the clock is stale. It gives up after `patience`.
+    /// again. It goes on while the clock is stale or busy. It gives up after `patience`.
     pub fn wait(&self, stamp: u64, patience: u64) -> Result<Waited, Unread> {
         let begun = raw_now();
         loop {
-            let now = self.read(u64::MAX)?;
-            if now.has_passed(stamp) {
-                return Ok(Waited::Passed(now));
+            let read = self.read(u64::MAX);
+            let left = match read {
+                Ok(now) if now.has_passed(stamp) => return Ok(Waited::Passed(now)),
+                Ok(now) => stamp - now.earliest,
+                Err(Unread::Busy) => 0,
+                Err(unread) => return Err(unread),
+            };
+            let waited = raw_now() - begun;
+            if waited >= patience {
+                return read.map(Waited::NotYet);
             }
-            if raw_now() - begun >= patience {
-                return Ok(Waited::NotYet(now));
-            }
-            let left = (stamp - now.earliest).min(patience);
+            let left = left.min(patience - waited);
             if left > NEARLY {
                 thread::sleep(Duration::from_nanos(left - NEARLY));
             } else {
@@ -269,119 +459,109 @@ impl Reader {
             }
         }
     }
-
-    /// What was published last.
-    fn copy(&self) -> Result<(u64, Mapping, Device), Unread> {
-        let page = self.0.page();
-        for _ in 0..TRIES {
-            let before = page.sequence.load(Ordering::Acquire);
-            if before == 0 {
-                return Err(Unread::Empty);
-            }
-            if before % 2 == 0 {
-                let published = page.published.load(Ordering::Acquire);
-                let mapping = page.mapping.each_ref().map(|word| word.load(Ordering::Acquire));
-                let device = page.device.each_ref().map(|word| word.load(Ordering::Acquire));
-                if page.sequence.load(Ordering::Relaxed) == before {
-                    return Ok((published, Mapping::from_words(mapping), device_of(&device)));
-                }
-            }
-            core::hint::spin_loop();
-        }
-        Err(Unread::Torn)
-    }
 }
 
-/// A page for its one writer, which has the lock of the file until it is dropped.
+/// A page for its one writer, which has the lock until it is dropped. Then the interval stays, and grows
+/// stale. Where no writer will come, withdraw first.
 #[derive(Debug)]
 pub struct Writer {
     mapped: Mapped,
-    _file: File,
+    clock: Identity,
+    _lock: File,
+    /// Those of the next publication.
+    pub terms: Terms,
 }
 
 impl Writer {
     /// The page of this file, which is made where it is not there. A page that is there stays as it
-    /// is: readers go on with what the writer before published. `WouldBlock` where there is a writer.
-    pub fn create(path: impl AsRef<Path>) -> io::Result<Writer> {
+    /// is: readers go on with what the writer before published. The lock is that of the file PATH.lock.
+    /// `WouldBlock` where there is a writer, `PermissionDenied` where one of the files is another user's,
+    /// has another name or may be written by others.
+    pub fn create(path: impl AsRef<Path>, terms: Terms) -> io::Result<Writer> {
         const LOCK_EX: c_int = 2;
         const LOCK_NB: c_int = 4;
-        let file = OpenOptions::new().read(true).write(true).create(true).truncate(false).open(path)?;
-        if unsafe { flock(file.as_raw_fd(), LOCK_EX | LOCK_NB) } != 0 {
+        let clock = Identity::here()?;
+        let mut name = OsString::from(path.as_ref());
+        name.push(".lock");
+        let lock = own(name.as_ref(), 0o600)?;
+        if unsafe { flock(lock.as_raw_fd(), LOCK_EX | LOCK_NB) } != 0 {
             return Err(io::Error::last_os_error());
         }
-        file.set_len(size_of::<Page>() as u64)?;
-        let mapped = Mapped::new(&file, PROT_READ | PROT_WRITE)?;
-        mapped.page().magic.store(MAGIC, Ordering::Release);
-        Ok(Writer { mapped, _file: file })
+        let file = own(path.as_ref(), 0o644)?;
+        if file.metadata()?.len() == 0 {
+            file.set_len(size_of::<Page>() as u64)?;
+        }
+        Ok(Writer { mapped: Mapped::new(&file, PROT_READ | PROT_WRITE)?, clock, _lock: lock, terms })
     }
 
-    /// Shows readers the device as it is now. `raw` is a reading of `CLOCK_MONOTONIC_RAW` that is not
-    /// before that of the device's latest call. It waits for nobody.
-    pub fn publish(&mut self, device: &Device, mapping: &Mapping, raw: u64) {
+    /// Shows readers the device as it is now. The counter and `raw`, a reading of `CLOCK_MONOTONIC_RAW`, were
+    /// taken at one moment, which is not before that of the device's latest call. It waits for nobody.
+    pub fn publish(&mut self, device: &Device, counter: u64, raw: u64) -> Result<(), Unpublished> {
+        let mut slot = Slot::line(&self.terms, device, self.clock, counter, raw)?;
+        let before = self.mapped.page().slot().ok();
+        let same = before.filter(|before| before.clock == self.clock);
+        if raw > raw_now() || same.is_some_and(|before| raw < before.raw) {
+            return Err(Unpublished::BadRaw);
+        }
+        if let Some(before) = same.filter(|before| before.status == 0) {
+            let (earliest, latest) = before.extended(raw);
+            if slot.latest < earliest || slot.earliest > latest {
+                return Err(Unpublished::Apart);
+            }
+        }
+        slot.disruptions = before.map_or(0, |before| before.disruptions);
+        self.put(&slot);
+        Ok(())
+    }
+
+    /// From now on reads answer `Withdrawn`, until the next publication.
+    pub fn withdraw(&mut self) {
+        self.put(&Slot::none(WITHDRAWN, self.clock, self.disruptions()));
+    }
+
+    /// The machine slept, or is a virtual one that was stopped, restored or migrated. From now on reads answer
+    /// `Disrupted`, until the next publication. The device is gone, since the premise drift is broken: start or
+    /// join another.
+    pub fn disrupt(&mut self, device: Device) {
+        drop(device);
+        self.put(&Slot::none(DISRUPTED, self.clock, self.disruptions() + 1));
+    }
+
+    fn disruptions(&self) -> u64 {
+        self.mapped.page().slot().map_or(0, |slot| slot.disruptions)
+    }
+
+    /// A writer that is killed within this leaves what was published before.
+    fn put(&mut self, slot: &Slot) {
         let page = self.mapped.page();
-        // (odd already where the writer before died within)
-        let odd = page.sequence.load(Ordering::Relaxed) | 1;
-        page.sequence.store(odd, Ordering::Relaxed);
-        page.published.store(raw, Ordering::Release);
-        // (a reader that sees one of these words sees the odd sequence before it too)
-        for (to, word) in page.mapping.iter().zip(mapping.words()) {
+        let number = page.latest.load(Ordering::Relaxed) + 1;
+        let to = &page.slots[(number % 2) as usize];
+        to[0].store(0, Ordering::Relaxed);
+        // (a reader that sees one of these words sees the 0 before it, too)
+        for (to, word) in to.iter().zip(slot.words(number)).skip(1) {
             to.store(word, Ordering::Release);
         }
-        for (to, word) in page.device.iter().zip(words_of(&device.kept())) {
-            to.store(word, Ordering::Release);
-        }
-        page.sequence.store(odd.wrapping_add(1), Ordering::Release);
+        to[0].store(number, Ordering::Release);
+        page.latest.store(number, Ordering::Release);
     }
 }
 
-// The device as words. They are made field by field, since its padding may have no value.
-
-fn u64_of(halves: [u32; 2]) -> u64 {
-    let [a, b] = halves.map(u32::to_ne_bytes);
-    u64::from_ne_bytes([a[0], a[1], a[2], a[3], b[0], b[1], b[2], b[3]])
-}
-
-fn halves_of(word: u64) -> [u32; 2] {
-    let [a, b, c, d, e, f, g, h] = word.to_ne_bytes();
-    [u32::from_ne_bytes([a, b, c, d]), u32::from_ne_bytes([e, f, g, h])]
-}
-
-fn edge_words(edge: &Edge) -> [u64; 3] {
-    [edge.mid, edge.half, u64_of([edge.parent, edge.link])]
-}
-
-fn duty_words(duty: &Duty) -> [u64; 13] {
-    let [p0, p1, p2] = edge_words(&duty.primary);
-    let [b0, b1, b2] = edge_words(&duty.backup);
-    let flags = u32::from_ne_bytes([duty.role, duty.has_primary, duty.has_backup, 0]);
-    [
-        p0, p1, p2, b0, b1, b2, duty.period, duty.wait_first, duty.wait_second, duty.wait,
-        duty.rates.grain, u64_of([duty.rates.ppm, 0]), u64_of([duty.epoch, flags]),
-    ]
-}
-
-fn words_of(device: &raw::Device) -> [u64; DEVICE_WORDS] {
-    let raw::Device { estimate, stamp, rates, .. } = device;
-    let flags = u32::from_ne_bytes([device.has_duty, device.has_given, device.mode, device.sealed]);
-    let tail = [
-        estimate.clock.low, estimate.clock.high, estimate.base.low, estimate.base.high, estimate.at,
-        stamp.round, u64_of([stamp.term, 0]), rates.grain, u64_of([rates.ppm, 0]), device.last,
-        device.sent, u64_of([flags, 0]),
-    ];
-    let mut words = [0; DEVICE_WORDS];
-    words[..13].copy_from_slice(&duty_words(&device.duty));
-    words[13..26].copy_from_slice(&duty_words(&device.given));
-    words[26..].copy_from_slice(&tail);
-    words
-}
-
-fn device_of(words: &[u64; DEVICE_WORDS]) -> Device {
-    let mut device = MaybeUninit::<raw::Device>::uninit();
-    // (a struct of numbers alone: all words are values of it, and there are as many as it has)
-    unsafe {
-        ptr::copy_nonoverlapping(words.as_ptr(), device.as_mut_ptr().cast::<u64>(), DEVICE_WORDS);
-        Device(device.assume_init())
+/// A file that this user alone may write, made where it is not there.
+fn own(path: &Path, mode: u32) -> io::Result<File> {
+    const O_NOFOLLOW: c_int = if cfg!(target_arch = "aarch64") { 0o100000 } else { 0o400000 };
+    let file = OpenOptions::new()
+        .read(true)
+        .write(true)
+        .create(true)
+        .truncate(false)
+        .mode(mode)
+        .custom_flags(O_NOFOLLOW)
+        .open(path)?;
+    let found = file.metadata()?;
+    if found.is_file() && found.uid() == unsafe { geteuid() } && found.nlink() == 1 && found.mode() & 0o777 & !mode == 0 {
+        return Ok(file);
     }
+    Err(io::ErrorKind::PermissionDenied.into())
 }
 
 // The system.
@@ -398,6 +578,7 @@ struct Timespec {
 extern "C" {
     fn clock_gettime(clock: c_int, at: *mut Timespec) -> c_int;
     fn flock(file: c_int, operation: c_int) -> c_int;
+    fn geteuid() -> u32;
     fn mmap(at: *mut c_void, bytes: usize, rights: c_int, flags: c_int, file: c_int, from: i64) -> *mut c_void;
     fn munmap(at: *mut c_void, bytes: usize) -> c_int;
 }
@@ -411,15 +592,32 @@ unsafe impl Send for Mapped {}
 unsafe impl Sync for Mapped {}
 
 impl Mapped {
+    /// The page of this file. A writer makes the head of one that has none.
     fn new(file: &File, rights: c_int) -> io::Result<Mapped> {
         const MAP_SHARED: c_int = 1;
+        if file.metadata()?.len() < size_of::<Page>() as u64 {
+            return Err(io::ErrorKind::InvalidData.into());
+        }
         let at = unsafe {
             mmap(ptr::null_mut(), size_of::<Page>(), rights, MAP_SHARED, file.as_raw_fd(), 0)
         };
         if at as isize == -1 {
             return Err(io::Error::last_os_error());
         }
-        Ok(Mapped(NonNull::new(at.cast()).expect("mmap gives no null page where it is not asked for one")))
+        let mapped = Mapped(NonNull::new(at.cast()).expect("mmap gives no null page where it is not asked for one"));
+        let page = mapped.page();
+        let [magic, version, length] = [&page.magic, &page.version, &page.length].map(|word| word.load(Ordering::Acquire));
+        match (magic, version, length) {
+            (MAGIC, VERSION, LENGTH) => {}
+            (0, 0, _) if rights & PROT_WRITE != 0 => {
+                page.length.store(LENGTH, Ordering::Relaxed);
+                page.version.store(VERSION, Ordering::Relaxed);
+                page.magic.store(MAGIC, Ordering::Release);
+            }
+            (MAGIC, ..) => return Err(io::ErrorKind::Unsupported.into()),
+            _ => return Err(io::ErrorKind::InvalidData.into()),
+        }
+        Ok(mapped)
     }
 
     fn page(&self) -> &Page {
@@ -433,4 +631,25 @@ impl Drop for Mapped {
     }
 }
 
-const _: () = assert!(size_of::<Page>() == 8 * (3 + MAPPING_WORDS + DEVICE_WORDS));
+impl Page {
+    /// The latest publication.
+    fn slot(&self) -> Result<Slot, Unread> {
+        for _ in 0..TRIES {
+            let number = self.latest.load(Ordering::Acquire);
+            if number == 0 {
+                return Err(Unread::Empty);
+            }
+            let from = &self.slots[(number % 2) as usize];
+            let words = from.each_ref().map(|word| word.load(Ordering::Acquire));
+            // (a slot never has a number again, so it had this one all the time)
+            if from[0].load(Ordering::Relaxed) == number {
+                return Ok(Slot::from_words(words));
+            }
+            core::hint::spin_loop();
+        }
+        Err(Unread::Busy)
+    }
+}
+
+const LENGTH: u64 = size_of::<Page>() as u64;
+const _: () = assert!(LENGTH == 320);

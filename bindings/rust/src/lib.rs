@@ -121,12 +121,63 @@ impl Report {
 
 impl Edge {
     /// By how much the counter has to advance after a start, a join or a mend of the link until no
-    /// older message can come over this edge. Until then drop what comes over it
-    /// ([`Device::receive`]). The oscillator has these rates.
+    /// older message can come over this edge. A [`Port`] counts it. The oscillator has these rates.
     pub fn clear_after(&self, rates: &Rates) -> u64 {
         let passes = 2 * (self.mid + self.half) + rates.grain + 2;
         // (a counter is at most 100000 ppm fast: so nine tenths of what it shows pass, less the grain)
         passes + passes / 9 + 1
+    }
+}
+
+/// A link over which messages come to a device, as its host sees it: whether it takes what comes.
+///
+/// One that was never opened takes nothing. Its counters are those of the device, so
+/// [`Device::rebase_with_ports`] lowers them too. Keep the ports beside the device. After a restore
+/// they go on as they were.
+///
+/// ```
+/// use sundial_device::{Edge, Port, Rates};
+///
+/// let (edge, rates) = (Edge { mid: 7, half: 3, parent: 0, link: 0 }, Rates { grain: 5, ppm: 200 });
+/// let mut port = Port::default();
+/// port.open(&edge, &rates, 1_000);
+/// assert!(!port.takes(1_020));
+/// assert!(port.takes(1_000 + edge.clear_after(&rates)));
+/// ```
+#[derive(Clone, Copy, Debug, Default, PartialEq, Eq)]
+pub struct Port {
+    since: u64,
+    left: u64,
+    is_open: bool,
+}
+
+impl Port {
+    /// The device starts or joins while the link works, or the link works again. The edge is the way
+    /// over it by the device's duty, or by the duty that it is about to be given.
+    pub fn open(&mut self, edge: &Edge, rates: &Rates, counter: u64) {
+        *self = Port { since: counter, left: edge.clear_after(rates), is_open: true };
+    }
+
+    /// The link is down.
+    pub fn close(&mut self) {
+        self.is_open = false;
+    }
+
+    /// Whether it was opened, and not closed since.
+    pub fn is_open(&self) -> bool {
+        self.is_open
+    }
+
+    /// Whether a message that came while the counter showed this may be given to
+    /// [`Device::receive`]. Otherwise drop it: it counts as lost.
+    pub fn takes(&self, counter: u64) -> bool {
+        self.is_open && counter.saturating_sub(self.since) >= self.left
+    }
+
+    /// The counter, which shows this, is lowered by so much.
+    fn lower(&mut self, counter: u64, by: u64) {
+        self.left = self.left.saturating_sub(counter.saturating_sub(self.since));
+        self.since = counter - by;
     }
 }
 
@@ -244,6 +295,16 @@ impl Device {
         Ok(lowered)
     }
 
+    /// The same, of the device and of all its ports: after it each port takes what it would have taken.
+    /// Faults: those of a rebase.
+    pub fn rebase_with_ports(&mut self, ports: &mut [Port], counter: u64) -> Result<u64, Fault> {
+        let lowered = self.rebase(counter)?;
+        for port in ports {
+            port.lower(counter, lowered);
+        }
+        Ok(lowered)
+    }
+
     /// Its own timer: what it sends to each device below, if it sends. Faults: `CounterFell`,
     /// `EstimateTooGreat`, `StampTooGreat`.
     pub fn tick(&mut self, counter: u64) -> Result<Option<Message>, Fault> {
@@ -256,17 +317,7 @@ impl Device {
     /// not accept is no fault. Faults: `CounterFell`, `MessageTooGreat`.
     ///
     /// Hand it none that was sent before the device started or joined, or while the link was down or
-    /// before that. The device cannot tell, so drop what comes while the link is down, and until
-    /// [`Edge::clear_after`] has passed since the start, the join or the mend of the link:
-    ///
-    /// ```
-    /// # use sundial_device::{Edge, Rates};
-    /// # let (parent, rates) = (Edge { mid: 7, half: 3, parent: 0, link: 0 }, Rates { grain: 5, ppm: 200 });
-    /// # let (counter_at_start, counter) = (1_000, 1_020);
-    /// let clear_at = counter_at_start + parent.clear_after(&rates);
-    /// let is_dropped = counter < clear_at;
-    /// # assert!(is_dropped);
-    /// ```
+    /// before that. The device cannot tell, so ask the link's [`Port`] first.
     pub fn receive(
         &mut self,
         link: u32,

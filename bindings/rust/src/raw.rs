@@ -180,6 +180,8 @@ plain!(
 
 // Each reference is to initialised memory of its own, which is all that the calls ask.
 extern "C" {
+    /// The version of the library. Another has another name, so that these bindings do not link with it.
+    pub fn sundial_version_1() -> u32;
     /// Whether the struct holds a device.
     pub fn sundial_made(device: &Device) -> u32;
     /// A device of the plan in force begins.
@@ -233,3 +235,7 @@ extern "C" {
     /// The number of the plan that it follows.
     pub fn sundial_epoch(device: &Device, epoch: &mut u32) -> u32;
 }
+
+/// No program links with a library of another version.
+#[used]
+static VERSION: unsafe extern "C" fn() -> u32 = sundial_version_1;

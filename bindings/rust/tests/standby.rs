@@ -1,7 +1,7 @@
 //! A backup root from its start to its takeover, beside values worked out by hand.
 
 use sundial_device::raw::{Stamp, Wide};
-use sundial_device::{Device, Duty, Edge, Fault, Message, Mode, Rates, Report};
+use sundial_device::{Device, Duty, Edge, Fault, Message, Mode, Port, Rates, Report};
 
 fn edge(parent: u32, link: u32) -> Edge {
     Edge { mid: 7, half: 3, parent, link }
@@ -104,4 +104,34 @@ fn equal_where_no_call_differs() {
     kept.has_given = 0;
     kept.duty.backup.mid += 1;
     assert_ne!(Device::restore(kept), Ok(device));
+}
+
+/// A port takes the same messages whether the device is rebased or not, and none that was sent before
+/// it was opened, also near the end of a counter.
+#[test]
+fn ports_across_rebases() {
+    let rates = standby().rates;
+    let after = edge(0, 0).clear_after(&rates);
+    for begin in [1_000_000, u64::MAX - after - 1, u64::MAX - after / 2] {
+        let mut device = Device::start(&standby(), begin, 0, 500).unwrap();
+        let mut ports = [Port::default(); 3];
+        assert!(!ports[0].takes(begin) && !ports[0].is_open());
+        ports[0].open(&edge(0, 0), &rates, begin);
+        ports[1].open(&edge(0, 0), &rates, begin);
+        ports[1].close();
+        let not_lowered = ports[0];
+        let lowered = device.rebase_with_ports(&mut ports, begin + after / 3).unwrap();
+        assert!(lowered > 0);
+        for since in [after / 3, after - 1, after, after + 1, 10 * after] {
+            let counter = (begin - lowered).wrapping_add(since);
+            assert_eq!(ports[0].takes(counter), since >= after);
+            assert!(!ports[1].takes(counter) && !ports[2].takes(counter));
+            if let Some(counter) = begin.checked_add(since) {
+                assert_eq!(not_lowered.takes(counter), since >= after);
+            }
+        }
+        let later = (begin - lowered).wrapping_add(2 * after);
+        let again = device.rebase_with_ports(&mut ports, later).unwrap();
+        assert!(ports[0].takes(later - again));
+    }
 }

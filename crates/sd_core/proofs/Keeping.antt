@@ -1,6 +1,6 @@
 -- What the rules keep of a device's registers: their soundness, and the bounds on what they hold and send.
 use Rattle.std.proofs.Common.{◌≡◌, ℕ, ◌+◌, ◌-◌, ◌≤◌, ◌^◌, ◌⊎◌, Bool, true, false, ◌&&◌, Option, Some, None, refl, subst, inl, inr, arith}
-use Rattle.std.specs.Prelude.{max, IfSome, nat_eq, nat_le, if◌then◌else◌, option_map, option_and_then}
+use Rattle.std.specs.Prelude.{max, IfSome, nat_eq, if◌then◌else◌, option_map, option_and_then}
 use Rattle.sd_num.specs.Lists.{map_or}
 use Rattle.sd_num.specs.Numbers.{grow}
 use Rattle.sd_num.specs.declared.Rates.{Rates}
@@ -16,7 +16,7 @@ use Rattle.sd_core.specs.declared.registers.Mode.TheVariants.{Primary, Backup, A
 use Rattle.sd_core.specs.declared.turns.Turn.{Turn}
 use Rattle.sd_core.specs.declared.turns.Turn.TheVariants.{Emit, TakeOver, Move, Stay}
 use Rattle.sd_core.specs.Words.{over_link}
-use Rattle.sd_core.specs.Rules.{parent_in, acts_in, is_acting_mode, follows_a_plan, turn_of, turn_with, turned, report_in, floor_in, ceiling_in, height_in, entering, accepting, accepted, entered, edge_in, epoch_in, quietly, called}
+use Rattle.sd_core.specs.Rules.{parent_in, acts_in, turn_of, turn_with, turned, report_in, floor_in, ceiling_in, height_in, entering, accepting, accepted, entered, edge_in, epoch_in, quietly, called}
 use Rattle.sd_core.specs.Limits.{IsEdge, IsDuty, IsSound, IfSent, IsUpTo, IsAsHighAs}
 use Rattle.sd_core.specs.Calls.{Tick, Receive}
 
@@ -24,18 +24,10 @@ use Rattle.sd_core.specs.Calls.{Tick, Receive}
 growth_bound : (rates : Rates) (e : ℕ) → IsRates rates → e ≤ 2 ^ 60 → rates.grain + grow rates.ppm e ≤ 2 ^ 61
 growth_bound rates e fits few = grind (arith, fits)
 
--- a device answers the same of itself, but for what it was given
-pub record AnswersSame (r new : Registers) : Type 0 where
-  pub parent : parent_in new ≡ parent_in r
-  pub acts : acts_in new ≡ acts_in r
-  pub epoch : epoch_in new ≡ epoch_in r
-  pub sealed : new.sealed ≡ r.sealed
-
 -- what a tick keeps
 pub record TickKeeps (r : Registers) (counter : ℕ) (by : Registers × Effect) : Type 0 where
   pub sound : IsSound by.0
   pub given : by.0.given ≡ r.given
-  pub answers : acts_in r ≡ true → AnswersSame r by.0
   pub floor : floor_in by.0 ≤ counter
   pub height : height_in by.0 ≤ height_in r + 1
   pub clock : IfSent by.1 (IsUpTo (ceiling_in r + 2 ^ 61))
@@ -51,34 +43,6 @@ reported r counter fits few =
     let growth : r.rates.grain + grow r.rates.ppm (counter - r.estimate.at) ≤ 2 ^ 61 =
     growth_bound r.rates (counter - r.estimate.at) fits (omega (arith, few)) in
     (omega (arith, few), omega (arith, growth))
-
--- A device that acts sends, or stays as it is
-
-abbrev IsOfActing : Turn → Type 0
-IsOfActing Emit = Unit {0}
-IsOfActing Stay = Unit {0}
-IsOfActing _ = ⊥
-
-mode_acting : (follows : Bool) (mode : Mode) → (if follows then is_acting_mode mode else false) ≡ true → mode ≡ Acting
-mode_acting true Acting acts = refl
-mode_acting true Primary acts = cc
-mode_acting true Backup acts = cc
-mode_acting true Idle acts = cc
-mode_acting false mode acts = cc
-
-acting_turns : (duty : Option Duty) (sent counter : ℕ) (turn : Turn) → map_or duty Stay (λ d. if nat_le d.period (counter - sent) then Emit else Stay) ≡ turn
-    → IsOfActing turn
-acting_turns None sent counter turn is = subst IsOfActing is tt
-acting_turns (Some d) sent counter turn is = go (nat_le d.period (counter - sent)) is
-  where
-    go : (due : Bool) → (if due then Emit else Stay) ≡ turn → IsOfActing turn
-    go true is = subst IsOfActing is tt
-    go false is = subst IsOfActing is tt
-
-acting_turn : (r : Registers) (counter : ℕ) (turn : Turn) → turn_of r counter ≡ turn → acts_in r ≡ true → IsOfActing turn
-acting_turn r counter turn is acts =
-    acting_turns r.duty r.sent counter turn
-    (subst (λ (mode : Mode). turn_of (record r { mode = mode }) counter ≡ turn) (mode_acting (follows_a_plan r) r.mode acts) is)
 
 -- a tick keeps the soundness
 pub turn_sound : (r : Registers) (counter : ℕ) (turn : Turn) → turn_of r counter ≡ turn → IsSound r → IsSound (turned r counter turn).0
@@ -101,7 +65,6 @@ turn_keeps r counter Emit is sound due few =
     record {
       sound = turn_sound r counter Emit is sound;
       given = refl;
-      answers = λ acts. record { parent = refl; acts = refl; epoch = refl; sealed = refl };
       floor = omega (arith, due);
       height = omega arith;
       clock = record { clock = bounds.0; eps = bounds.1 };
@@ -112,7 +75,6 @@ turn_keeps r counter TakeOver is sound due few =
     record {
       sound = turn_sound r counter TakeOver is sound;
       given = refl;
-      answers = λ acts. absurd (acting_turn r counter TakeOver is acts);
       floor = omega (arith, due);
       height = omega arith;
       clock = record { clock = bounds.0; eps = bounds.1 };
@@ -122,7 +84,6 @@ turn_keeps r counter Move is sound due few =
     record {
       sound = turn_sound r counter Move is sound;
       given = refl;
-      answers = λ acts. absurd (acting_turn r counter Move is acts);
       floor = omega (arith, due);
       height = omega arith;
       clock = tt;
@@ -132,7 +93,6 @@ turn_keeps r counter Stay is sound due few =
     record {
       sound = sound;
       given = refl;
-      answers = λ acts. record { parent = refl; acts = refl; epoch = refl; sealed = refl };
       floor = due;
       height = omega arith;
       clock = tt;
@@ -198,7 +158,6 @@ entering_fits (Some duty) link message fits =
 pub record MessageKeeps (r : Registers) (message : Message) (counter : ℕ) (by : Registers × Effect) : Type 0 where
   pub sound : IsSound by.0
   pub given : (by.0.given ≡ r.given) ⊎ (by.0.given ≡ None)
-  pub answers : r.given ≡ None → AnswersSame r by.0
   pub floor : floor_in by.0 ≤ counter
   pub ceiling : ceiling_in by.0 ≤ max (max (ceiling_in r) message.clock) message.eps + 2 ^ 41
   pub height : height_in by.0 ≤ max (max (height_in r) message.stamp.term) message.stamp.round
@@ -207,14 +166,12 @@ pub record MessageKeeps (r : Registers) (message : Message) (counter : ℕ) (by 
 
 -- where a device accepts, whatever it took up before
 accepted_keeps : (r taken : Registers) (edge : Edge) (message : Message) (counter : ℕ) → IsSound taken → (taken.given ≡ r.given) ⊎ (taken.given ≡ None)
-    → (r.given ≡ None → AnswersSame r taken) → taken.sent ≡ r.sent
+    → taken.sent ≡ r.sent
     → IsEdge edge → floor_in r ≤ counter → MessageKeeps r message counter (accepted taken edge message counter)
-accepted_keeps r taken edge message counter sound given answers same fits due =
+accepted_keeps r taken edge message counter sound given same fits due =
     record {
       sound = record { duty = sound.duty; given = sound.given; rates = sound.rates; idle = sound.idle };
       given = given;
-      answers = λ none. let before = answers none in
-          record { parent = before.parent; acts = before.acts; epoch = before.epoch; sealed = before.sealed };
       floor = omega (arith, due, same);
       ceiling = omega (arith, fits.mid, fits.half);
       height = omega arith;
@@ -223,30 +180,25 @@ accepted_keeps r taken edge message counter sound given answers same fits due =
     }
 
 received_keeps : (r : Registers) (message : Message) (counter : ℕ) → IsSound r → floor_in r ≤ counter → (enter : Option (Duty × Edge)) (accept : Option Edge)
-    → (r.given ≡ None → enter ≡ None) → EntersFit enter → IfSome accept IsEdge
+    → EntersFit enter → IfSome accept IsEdge
     → MessageKeeps r message counter
     (map_or enter (map_or accept (quietly r) (λ edge. accepted r edge message counter)) (λ by. accepted (entered r by.0) by.1 message counter))
-received_keeps r message counter sound due (Some p) accept enters enter_fits accept_fits =
+received_keeps r message counter sound due (Some p) accept enter_fits accept_fits =
     accepted_keeps r (entered r p.0) p.1 message counter
     (record { duty = enter_fits.0; given = tt; rates = enter_fits.0.rates; idle = λ none. cc })
-    (inr refl) (λ none. let entered_none : Some p ≡ None = enters none in cc) refl enter_fits.1 due
-received_keeps r message counter sound due None (Some edge) enters enter_fits accept_fits =
-    accepted_keeps r r edge message counter sound (inl refl) (λ none. record { parent = refl; acts = refl; epoch = refl; sealed = refl }) refl accept_fits due
-received_keeps r message counter sound due None None enters enter_fits accept_fits =
+    (inr refl) refl enter_fits.1 due
+received_keeps r message counter sound due None (Some edge) enter_fits accept_fits =
+    accepted_keeps r r edge message counter sound (inl refl) refl accept_fits due
+received_keeps r message counter sound due None None enter_fits accept_fits =
     record {
       sound = sound;
       given = inl refl;
-      answers = λ none. record { parent = refl; acts = refl; epoch = refl; sealed = refl };
       floor = due;
       ceiling = omega arith;
       height = omega arith;
       clock = tt;
       stamp = tt;
     }
-
--- where nothing was given nothing is entered
-enters_nothing : (r : Registers) (link : ℕ) (message : Message) → r.given ≡ None → entering r link message ≡ None
-enters_nothing r link message none = rw none refl
 
 pub message_keeps : (old r new : Registers) (result : Effect) (link : ℕ) (message : Message) (counter : ℕ) → r ≡ old
     → new ≡ (called r (Receive link message counter)).0 → result ≡ (called r (Receive link message counter)).1 → IsSound r → floor_in old ≤ counter
@@ -255,5 +207,25 @@ message_keeps old r new result link message counter same after sends sound due =
     let is : IsSound old = subst IsSound same sound in
     rw (after, sends, same)
     (received_keeps old message counter is due (entering old link message) (accepting old link message)
-    (enters_nothing old link message) (entering_fits old.given link message is.given)
-    (accepting_fits old link message is))
+    (entering_fits old.given link message is.given) (accepting_fits old link message is))
+
+-- where nothing was given nothing is entered
+enters_nothing : (r : Registers) (link : ℕ) (message : Message) → r.given ≡ None → entering r link message ≡ None
+enters_nothing r link message none = rw none refl
+
+-- whom a device follows, and whether it acts, is the same
+pub record FollowsAsBefore (r new : Registers) : Type 0 where
+  pub parent : parent_in new ≡ parent_in r
+  pub acts : acts_in new ≡ acts_in r
+
+accepted_follows : (r : Registers) (message : Message) (counter : ℕ) (accept : Option Edge)
+    → FollowsAsBefore r (map_or accept (quietly r) (λ edge. accepted r edge message counter)).0
+accepted_follows r message counter None = record { parent = refl; acts = refl }
+accepted_follows r message counter (Some edge) = record { parent = refl; acts = refl }
+
+-- after a message so it is of a device that was given nothing
+pub settled_follows : (r : Registers) (link : ℕ) (message : Message) (counter : ℕ) (effect : Effect) (new : Registers) → r.given ≡ None
+    → called r (Receive link message counter) ≡ (new, effect) → FollowsAsBefore r new
+settled_follows r link message counter effect new none is =
+    subst (λ (by : Registers × Effect). FollowsAsBefore r by.0) is
+    (rw (enters_nothing r link message none) (accepted_follows r message counter (accepting r link message)))

@@ -1,4 +1,5 @@
 pub mod Calls
+pub mod Steps
 pub mod Living
 pub mod Words
 pub mod Lives

@@ -120,8 +120,20 @@ impl Node for Device {
         self.registers.rests(counter)
     }
 
+    // One that acts as root goes on to.
+    #[inline(always)]
+    fn keeps_at_ticks(&self) -> bool {
+        self.acts_as_root()
+    }
+
     fn on_message(&mut self, link: u32, message: Message, counter: u64) -> Effect {
         self.registers.receive(link, &message, counter)
+    }
+
+    // One that was given no duty takes none up.
+    #[inline(always)]
+    fn keeps_at_messages(&self) -> bool {
+        !self.is_given()
     }
 
     fn on_fix(&mut self, counter: u64, clock: u64, eps: u64) {

@@ -5,11 +5,13 @@ ghost use Rattle.sd_clock.specs.declared.Report.{Report};
 ghost use Rattle.sd_plan.specs.declared.Duty.{Duty};
 ghost use Rattle.sd_plan.specs.declared.Role.TheVariants as role;
 ghost use Rattle.sd_core.specs.declared.Effect.{Effect};
+ghost use Rattle.sd_msg.specs.declared.Message.{Message};
 ghost use Rattle.sd_core.specs.Calls.{Making, Started, Joined, Call, Tick, Receive, Fix, Give, Commit, Seal};
 ghost use Rattle.sd_core.specs.Living.{Life};
 ghost use Rattle.sd_core.specs.Words.{effect_of, report_at, parent_now, is_acting, epoch_now, given_now, is_sealed as is_sealed_now};
 ghost use Rattle.sd_core.specs.Lives.{past_of, longer};
 ghost use Rattle.sd_core.specs.Standing.{alone};
+ghost use Rattle.sd_core.specs.Steps.{Keeps};
 ghost use Rattle.sd_core.specs.Limits.{IsDuty, IfSent, IsUpTo, IsAsHighAs};
 
 use crate::Effect;
@@ -91,11 +93,6 @@ pub trait Node: Drop {
         requires height { height self.old < 2 ^ 31 }
         ensures step { steps self.old (Tick counter) result self.new }
         ensures given { given self.new ≡ given self.old }
-        // one that acts as root answers the same afterwards
-        ensures parent { acts self.old ≡ true → parent self.new ≡ parent self.old }
-        ensures acts { acts self.old ≡ true → acts self.new ≡ acts self.old }
-        ensures epoch { acts self.old ≡ true → epoch self.new ≡ epoch self.old }
-        ensures sealed { acts self.old ≡ true → sealed self.new ≡ sealed self.old }
         ensures floor { floor self.new ≤ counter }
         ensures ceiling { ceiling self.new ≤ ceiling self.old }
         ensures height { height self.new ≤ height self.old + 1 }
@@ -119,6 +116,18 @@ pub trait Node: Drop {
         false
     }
 
+    /// Whether it answers as before after any tick. A node may answer `false` where it does, and then
+    /// is asked anew after each.
+    fn keeps_at_ticks(&self) -> bool
+        ensures given { IsTrue result → (counter : ℕ) → Keeps steps self.now (Tick counter) given }
+        ensures parent { IsTrue result → (counter : ℕ) → Keeps steps self.now (Tick counter) parent }
+        ensures acts { IsTrue result → (counter : ℕ) → Keeps steps self.now (Tick counter) acts }
+        ensures epoch { IsTrue result → (counter : ℕ) → Keeps steps self.now (Tick counter) epoch }
+        ensures sealed { IsTrue result → (counter : ℕ) → Keeps steps self.now (Tick counter) sealed }
+    {
+        false
+    }
+
     /// A message that came over this link while the counter showed this.
     fn on_message(&mut self, link: u32, message: Message, counter: u64) -> Effect
         requires floor { floor self.old ≤ counter }
@@ -131,11 +140,6 @@ pub trait Node: Drop {
         requires round { message.stamp.round < 2 ^ 31 }
         ensures step { steps self.old (Receive link message counter) result self.new }
         ensures given { (given self.new ≡ given self.old) ⊎ (given self.new ≡ None) }
-        // one that was given nothing answers the same afterwards
-        ensures parent { given self.old ≡ None → parent self.new ≡ parent self.old }
-        ensures acts { given self.old ≡ None → acts self.new ≡ acts self.old }
-        ensures epoch { given self.old ≡ None → epoch self.new ≡ epoch self.old }
-        ensures sealed { given self.old ≡ None → sealed self.new ≡ sealed self.old }
         ensures floor { floor self.new ≤ counter }
         ensures ceiling { ceiling self.new
             ≤ max (max (ceiling self.old) message.clock) message.eps + 2 ^ 41 }
@@ -147,6 +151,23 @@ pub trait Node: Drop {
             → result ≡ effect_of (past_of life) (Receive link message counter) }
         ensures told { IsTrue tells → (life : Life) → stands self.old life
             → stands self.new (longer life (Receive link message counter)) };
+
+    /// Whether it answers as before after any message. A node may answer `false` where it does, and
+    /// then is asked anew after each.
+    fn keeps_at_messages(&self) -> bool
+        ensures given { IsTrue result → (link : ℕ) (message : Message) (counter : ℕ)
+            → Keeps steps self.now (Receive link message counter) given }
+        ensures parent { IsTrue result → (link : ℕ) (message : Message) (counter : ℕ)
+            → Keeps steps self.now (Receive link message counter) parent }
+        ensures acts { IsTrue result → (link : ℕ) (message : Message) (counter : ℕ)
+            → Keeps steps self.now (Receive link message counter) acts }
+        ensures epoch { IsTrue result → (link : ℕ) (message : Message) (counter : ℕ)
+            → Keeps steps self.now (Receive link message counter) epoch }
+        ensures sealed { IsTrue result → (link : ℕ) (message : Message) (counter : ℕ)
+            → Keeps steps self.now (Receive link message counter) sealed }
+    {
+        false
+    }
 
     /// The clock is set from outside, with this uncertainty.
     fn on_fix(&mut self, counter: u64, clock: u64, eps: u64)

@@ -1,6 +1,6 @@
-//! How many breaches a draft has, over all conditions, devices and fault domains. The checker stops at
-//! the first, so a search that goes from draft to draft needs a count of its own. A draft that is
-//! without a breach here is still judged by the checker.
+//! How many breaches a draft has: of structure, of the ancestor condition, and under one fault domain.
+//! The checker stops at the first breach, so a search that goes from draft to draft needs a count of
+//! its own. A draft that is without a breach here is still judged by the checker.
 use crate::draft::Draft;
 use crate::failing::Failing;
 use crate::ground::Ground;
@@ -10,13 +10,9 @@ use sd_num::NoMemory;
 use sd_plan::Hop;
 use std::alloc::Global;
 
-/// How much more a breach of structure counts than one under a domain: no domain is looked at while
-/// there is one.
-const STRUCTURE: u64 = 1_000_000;
-
-/// Room for counting.
+/// Room for counting under a domain.
 #[derive(Drop)]
-pub struct Counter {
+pub(crate) struct Counter {
     failing: Failing,
     /// The members that the domain hits.
     hit: Vec<bool>,
@@ -25,9 +21,6 @@ pub struct Counter {
     /// The members that the acting end is joined to.
     joined: Vec<bool>,
     waiting: Vec<u32>,
-    /// The devices and the links that some primary hop leads over.
-    parents: Vec<bool>,
-    carriers: Vec<bool>,
 }
 
 /// One of these, where it holds.
@@ -37,7 +30,7 @@ fn one_if(holds: bool) -> u64 {
 
 impl Counter {
     /// Room for a topology.
-    pub fn new(alloc: Global, ground: &Ground<'_>) -> Result<Counter, NoMemory> {
+    pub(crate) fn new(alloc: Global, ground: &Ground<'_>) -> Result<Counter, NoMemory> {
         let devices = ground.topo.devices();
         Ok(Counter {
             failing: Failing::new(alloc, ground)?,
@@ -45,49 +38,11 @@ impl Counter {
             done: no_flags(alloc, devices)?,
             joined: no_flags(alloc, devices)?,
             waiting: Vec::new(alloc),
-            parents: no_flags(alloc, devices)?,
-            carriers: no_flags(alloc, ground.topo.links())?,
         })
     }
 
-    /// How many breaches a draft has.
-    pub fn count(&mut self, ground: &Ground<'_>, draft: &Draft) -> Result<u64, NoMemory> {
-        let structure = structure_breaches(ground, draft);
-        if structure > 0 {
-            return Ok(structure.saturating_mul(STRUCTURE));
-        }
-        self.note_carriers(ground, draft);
-        let mut count = ancestor_breaches(ground, draft);
-        for listed in 0..ground.topo.domains() {
-            count = count.saturating_add(self.under(ground, draft, DomainId::Listed(listed))?);
-        }
-        for d in 0..ground.topo.devices() {
-            if is_set(self.parents.as_slice(), d) || draft.is_either_root(d) {
-                count = count.saturating_add(self.under(ground, draft, DomainId::Device(d))?);
-            }
-        }
-        for link in 0..ground.topo.links() {
-            if is_set(self.carriers.as_slice(), link) {
-                count = count.saturating_add(self.under(ground, draft, DomainId::Link(link))?);
-            }
-        }
-        Ok(count)
-    }
-
-    /// Notes what primary hops lead over: a device or a link alone that none does hits nothing.
-    fn note_carriers(&mut self, ground: &Ground<'_>, draft: &Draft) {
-        clear_flags(self.parents.as_mut_slice());
-        clear_flags(self.carriers.as_mut_slice());
-        for d in 0..ground.topo.devices() {
-            if let Some(hop) = draft.primary(d) {
-                set_entry(self.parents.as_mut_slice(), hop.parent, true);
-                set_entry(self.carriers.as_mut_slice(), hop.link, true);
-            }
-        }
-    }
-
-    /// How many breaches there are under a domain.
-    fn under(
+    /// How many breaches there are under a domain, of a draft without a breach of structure.
+    pub(crate) fn under(
         &mut self,
         ground: &Ground<'_>,
         draft: &Draft,
@@ -340,7 +295,7 @@ fn is_well_placed(ground: &Ground<'_>, draft: &Draft, d: u32) -> bool {
 }
 
 /// How many devices break a rule of structure.
-fn structure_breaches(ground: &Ground<'_>, draft: &Draft) -> u64 {
+pub(crate) fn structure_breaches(ground: &Ground<'_>, draft: &Draft) -> u64 {
     let roots = ground.is_member(draft.root)
         && ground.is_member(draft.backup_root)
         && draft.root != draft.backup_root
@@ -375,7 +330,7 @@ fn is_above_backup(ground: &Ground<'_>, draft: &Draft, d: u32) -> bool {
 }
 
 /// How many devices are above their own backup parents.
-fn ancestor_breaches(ground: &Ground<'_>, draft: &Draft) -> u64 {
+pub(crate) fn ancestor_breaches(ground: &Ground<'_>, draft: &Draft) -> u64 {
     let mut count = 0;
     for d in 0..ground.topo.devices() {
         count = u64::saturating_add(count, one_if(is_above_backup(ground, draft, d)));

@@ -1,5 +1,5 @@
 //! A plan that is being made: its two roots, and the hops of each device.
-use crate::tables::{entry_or, set_entry};
+use crate::tables::{copy_entries, entry_or, set_entry};
 use sd_num::NoMemory;
 use sd_plan::{Hop, Plan, PlanRow};
 use std::alloc::Global;
@@ -60,12 +60,7 @@ impl Draft {
     pub fn copy_from(&mut self, other: &Draft) {
         self.root = other.root;
         self.backup_root = other.backup_root;
-        for d in 0..self.rows.len() {
-            self.rows[d] = match other.rows.get(d) {
-                Some(row) => *row,
-                None => None,
-            };
-        }
+        copy_entries(self.rows.as_mut_slice(), other.rows.as_slice());
     }
 
     /// The row of a device.

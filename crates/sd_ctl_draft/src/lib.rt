@@ -1,5 +1,5 @@
 //! Drafts of plans: what a search goes over, the greedy rule below a pair of roots, with parallel
-//! cables as last choice of a backup, and a count of a draft's breaches.
+//! cables as last choice of a backup, and a tally of a draft's breaches.
 #![tactic(auto)]
 
 mod backups;
@@ -10,9 +10,10 @@ mod greedy;
 mod ground;
 mod placing;
 pub mod tables;
+mod tally;
 
 pub use backups::Parallel;
-pub use breaches::Counter;
 pub use draft::Draft;
 pub use greedy::{Greedy, Pair};
 pub use ground::Ground;
+pub use tally::{Change, Tally, place_of, places};

@@ -37,6 +37,15 @@ pub fn clear_flags(flags: &mut [bool]) {
     }
 }
 
+/// Becomes the same as another table of the same length.
+pub fn copy_entries<T: Copy>(table: &mut [T], other: &[T]) {
+    for number in 0..table.len() {
+        if let Some(entry) = other.get(number) {
+            table[number] = *entry;
+        }
+    }
+}
+
 /// Adds an item at the end of a list.
 pub fn push<T: Drop>(list: &mut Vec<T>, item: T) -> Result<(), NoMemory> {
     match list.push(item) {

@@ -1,19 +1,27 @@
 -- What a search ends with, whatever it tried.
-use Rattle.std.specs.Prelude.{◌≡◌, ℕ, All, Option, None, Some, IfSome}
-use Rattle.sd_topo.specs.Network.{Network}
+use Rattle.std.specs.Prelude.{◌≡◌, ℕ, ◌+◌, ◌*◌, All, Option, None, Some, IfSome}
+use Rattle.sd_topo.specs.Network.{Network, greatest_up}
 use Rattle.sd_plan.specs.Plans.{Fits}
 use Rattle.sd_plan.specs.declared.Absent.{Absent}
 use Rattle.sd_plan.specs.declared.Plan.{Plan}
+use Rattle.sd_planner.specs.Checker.CheckRoot.Timing.{silence}
 use Rattle.sd_planner.specs.Checker.Verdicts.{IsAccepted, IsBreach}
-use Rattle.sd_planner.specs.Greedy.{IsGreedy}
+use Rattle.sd_planner.specs.Greedy.{IsGreedy, IsLeastWait}
 use Rattle.sd_ctl_search.specs.declared.found.Found.{Found}
 use Rattle.sd_ctl_search.specs.declared.found.Found.TheVariants as found
 
--- the plan fits the network, leaves out just what is absent, and has the root that is given, if one is
+-- the waits are the least that the timing condition allows, as those of the greedy plan are
+pub record HasLeastWaits (net : Network) (plan : Plan) : Type 0 where
+  pub first : IsLeastWait net (2 * (silence net + net.params.tick)) plan.wait_first
+  pub second : IsLeastWait net (2 * (silence net + net.params.tick)) plan.wait_second
+  pub ordinary : IsLeastWait net (greatest_up net plan.wait_first + greatest_up net plan.wait_second + 6 * (silence net + net.params.tick)) plan.wait
+
+-- the plan fits the network, leaves out just what is absent, has the root that is given, if one is, and the least waits
 pub record IsWanted (net : Network) (absent : Absent) (root : Option ℕ) (plan : Plan) : Type 0 where
   pub fits : Fits net plan
   pub left_out : plan.absent ≡ absent
   pub from_root : IfSome root (λ r. plan.root ≡ r)
+  pub waits : HasLeastWaits net plan
 
 -- the checker refuses the greedy plan from this root
 abbrev pub FailsFrom : Network → Absent → ℕ → Type 0

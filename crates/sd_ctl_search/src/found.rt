@@ -1,6 +1,6 @@
 //! What a search ends with: a plan that the checker accepts, or the breach of the best that it had.
 ghost use Rattle.std.specs.Prelude.{◌≡◌, ◌<◌, ℕ, length, Option, IfOk, IfSome};
-ghost use Rattle.sd_ctl_search.specs.Finds.{IsJudged, IsWanted};
+ghost use Rattle.sd_ctl_search.specs.Finds.{HasLeastWaits, IsJudged, IsWanted};
 ghost use Rattle.sd_plan.specs.declared.Absent.{Absent as AbsentSeen};
 ghost use Rattle.sd_plan.specs.Plans.{Fits, IsHop, IsRow};
 ghost use Rattle.sd_topo.specs.Network.{Each};
@@ -106,7 +106,9 @@ pub(crate) fn plan_of(
 ) -> Result<Plan, NoMemory>
     requires frame { Fits (network topo.now) frame.now }
     requires root { IfSome root (λ r. r < length (network topo.now).devices) }
-    ensures { IfOk result (IsWanted (network topo.now) frame.now.absent root) }
+    ensures fits { IfOk result (Fits (network topo.now)) }
+    ensures wanted { HasLeastWaits (network topo.now) frame.now
+        → IfOk result (IsWanted (network topo.now) frame.now.absent root) }
 {
     Ok(Plan {
         root: root_within(topo, root, draft.root),

@@ -5,7 +5,7 @@ use rand_core::SeedableRng;
 use rand_core::utils::NextWord;
 use rand_pcg::Pcg32;
 use sd_ctl_draft::tables::{clear_flags, is_set, no_flags, push, set_entry};
-use sd_ctl_draft::{Draft, Ground};
+use sd_ctl_draft::{Change, Draft, Ground};
 use sd_num::NoMemory;
 use sd_plan::Hop;
 use std::alloc::Global;
@@ -68,10 +68,10 @@ impl Mover {
     }
 
     /// Another primary of a device.
-    fn move_primary(&mut self, ground: &Ground<'_>, draft: &mut Draft) {
+    fn move_primary(&mut self, ground: &Ground<'_>, draft: &mut Draft) -> Change {
         let d = self.device(ground);
         if d == draft.root {
-            return;
+            return Change::Row(d);
         }
         if let Some(hop) = self.hop_of(ground, d) {
             if !draft.leads_over(hop.parent, d, ground.topo.params().depth) {
@@ -83,13 +83,14 @@ impl Mover {
                 }
             }
         }
+        Change::Row(d)
     }
 
     /// Another backup of a device, or none.
-    fn move_backup(&mut self, ground: &Ground<'_>, draft: &mut Draft) {
+    fn move_backup(&mut self, ground: &Ground<'_>, draft: &mut Draft) -> Change {
         let d = self.device(ground);
         let Some(row) = draft.row(d) else {
-            return;
+            return Change::Row(d);
         };
         match self.hop_of(ground, d) {
             Some(hop) if hop.link != row.primary.link => draft.set_backup(d, Some(hop)),
@@ -99,6 +100,7 @@ impl Mover {
                 }
             }
         }
+        Change::Row(d)
     }
 
     /// Another backup root.
@@ -139,14 +141,20 @@ impl Mover {
         draft.root = root;
     }
 
-    /// One move.
-    pub(crate) fn step(&mut self, ground: &Ground<'_>, candidates: &Candidates, draft: &mut Draft) {
+    /// One move, and what it changed at most.
+    pub(crate) fn step(
+        &mut self,
+        ground: &Ground<'_>,
+        candidates: &Candidates,
+        draft: &mut Draft,
+    ) -> Change {
         match self.random.next_word() % 16 {
             0 => self.move_root(ground, candidates, draft),
             1 => self.move_backup_root(candidates, draft),
-            2..=8 => self.move_primary(ground, draft),
-            _ => self.move_backup(ground, draft),
+            2..=8 => return self.move_primary(ground, draft),
+            _ => return self.move_backup(ground, draft),
         }
+        Change::All
     }
 
     /// Takes the neighbours of a device that are not reached yet below it.

@@ -1,6 +1,6 @@
 //! The search: the greedy rule under each pair of roots, and then moves from plan to plan.
 ghost use Rattle.std.specs.Prelude.{◌≡◌, ◌<◌, length, IfOk, IfSome};
-ghost use Rattle.sd_ctl_search.specs.Finds.{IsFound, IsJudged, IsWanted};
+ghost use Rattle.sd_ctl_search.specs.Finds.{HasLeastWaits, IsFound, IsJudged, IsWanted};
 ghost use Rattle.sd_drill.specs.Budgets.{IsBudget};
 ghost use Rattle.sd_plan.specs.Plans.{Fits};
 ghost use Rattle.sd_planner.specs.Absences.{IsAbsentOf};
@@ -11,8 +11,8 @@ use crate::candidates::Candidates;
 use crate::found::{Found, judge, plan_of};
 use crate::moves::Mover;
 use crate::trials::try_greedy;
-use crate::weight::{Scales, Weight};
-use sd_ctl_draft::{Draft, Greedy, Ground, Parallel};
+use crate::weight::{Scales, Trial, Weight};
+use sd_ctl_draft::{Change, Draft, Greedy, Ground, Parallel};
 use sd_drill::Budget;
 use sd_num::NoMemory;
 use sd_plan::{Absent, Plan};
@@ -27,7 +27,8 @@ pub struct Settings {
     pub budget: Budget,
     /// All that is drawn is drawn by it.
     pub seed: u64,
-    /// How many moves there are at most.
+    /// How many drafts are tried at most, after the greedy plans: those under other pairs of roots, and
+    /// then those that moves make.
     pub steps: u64,
 }
 
@@ -53,26 +54,40 @@ impl Weighed {
     }
 }
 
-/// Tries the greedy rule under each pair of roots, up to the first draft without a breach.
+/// Tries the greedy rule under each pair of roots, up to the first draft without a breach and to so many
+/// tries, and tells how many it made.
 fn try_pairs(
     alloc: Global,
     scales: &mut Scales<'_>,
     candidates: &Candidates,
     parallel: Parallel,
+    most: u64,
     best: &mut Weighed,
-) -> Result<(), NoMemory> {
+) -> Result<u64, NoMemory> {
     let mut greedy = Greedy::new(alloc, scales.ground)?;
+    let mut tries: u64 = 0;
     for place in 0..candidates.pairs() {
-        if best.is_sound() {
-            return Ok(());
+        if best.is_sound() || tries >= most {
+            break;
         }
         if let Some(pair) = candidates.pair(place) {
+            tries = tries.saturating_add(1);
             let draft = greedy.draft(alloc, scales.ground, pair, parallel)?;
-            let weight = scales.weigh(alloc, &draft)?;
+            let limit = best.weight.breaches;
+            let weight = scales.weigh(alloc, &anew(&draft), limit)?;
             best.improve(&draft, weight);
         }
     }
-    Ok(())
+    Ok(tries)
+}
+
+/// A draft that is weighed with no other before it.
+fn anew(draft: &Draft) -> Trial<'_> {
+    Trial {
+        before: draft,
+        draft,
+        change: Change::All,
+    }
 }
 
 /// How many moves may bring nothing before a search begins anew.
@@ -80,22 +95,25 @@ fn patience(ground: &Ground<'_>) -> u64 {
     u64::from(ground.topo.devices()).saturating_mul(40)
 }
 
-/// Goes from draft to draft, and keeps the best.
+/// Goes from draft to draft by so many moves, and keeps the best.
 fn wander(
     alloc: Global,
     scales: &mut Scales<'_>,
     candidates: &Candidates,
-    settings: Settings,
+    seed: u64,
+    steps: u64,
     best: &mut Weighed,
 ) -> Result<(), NoMemory> {
     let ground = scales.ground;
-    let mut mover = Mover::new(alloc, ground, settings.seed)?;
+    let mut mover = Mover::new(alloc, ground, seed)?;
     let mut here = best.draft.copy(alloc)?;
-    let mut weight = best.weight;
+    let mut weight = scales.weigh(alloc, &anew(&here), u64::MAX)?;
+    scales.keep();
     let mut next = best.draft.copy(alloc)?;
     let mut idle: u64 = 0;
-    for _ in 0..settings.steps {
+    for _ in 0..steps {
         next.copy_from(&here);
+        let mut change = Change::All;
         if idle > patience(ground) {
             idle = 0;
             if best.is_sound() {
@@ -105,26 +123,32 @@ fn wander(
             }
             weight = Weight::of_breaches(u64::MAX);
         } else {
-            mover.step(ground, candidates, &mut next);
+            change = mover.step(ground, candidates, &mut next);
         }
-        let reached = scales.weigh(alloc, &next)?;
+        let trial = Trial {
+            before: &here,
+            draft: &next,
+            change,
+        };
+        let daring = weight.breaches.saturating_add(1);
+        let reached = scales.weigh(alloc, &trial, daring)?;
         idle = if reached.is_less(weight) {
             0
         } else {
             idle.saturating_add(1)
         };
-        let is_daring = reached.breaches <= weight.breaches.saturating_add(1)
-            && mover.below(64) == 0;
+        let is_daring = reached.breaches <= daring && mover.below(64) == 0;
         if !weight.is_less(reached) || is_daring {
             here.copy_from(&next);
             weight = reached;
+            scales.keep();
             best.improve(&next, reached);
         }
     }
     Ok(())
 }
 
-/// The best draft of a search.
+/// The best draft of a search. At most half of the steps go to pairs of roots.
 fn best_draft(
     alloc: Global,
     topo: &Topology,
@@ -141,17 +165,34 @@ fn best_draft(
     let candidates = Candidates::new(alloc, &ground, root)?;
     let mut scales = Scales::new(alloc, &ground, topo, frame, settings.budget)?;
     let draft = Draft::of_plan(alloc, frame)?;
-    let weight = scales.weigh(alloc, &draft)?;
+    let weight = scales.weigh(alloc, &anew(&draft), u64::MAX)?;
     let mut best = Weighed { draft, weight };
-    try_pairs(alloc, &mut scales, &candidates, Parallel::Never, &mut best)?;
-    try_pairs(
+    let most = settings.steps / 2;
+    let first = try_pairs(
+        alloc,
+        &mut scales,
+        &candidates,
+        Parallel::Never,
+        most,
+        &mut best,
+    )?;
+    let second = try_pairs(
         alloc,
         &mut scales,
         &candidates,
         Parallel::AsLastChoice,
+        most.saturating_sub(first),
         &mut best,
     )?;
-    wander(alloc, &mut scales, &candidates, settings, &mut best)?;
+    let moves = settings.steps.saturating_sub(first).saturating_sub(second);
+    wander(
+        alloc,
+        &mut scales,
+        &candidates,
+        settings.seed,
+        moves,
+        &mut best,
+    )?;
     Ok(best.draft)
 }
 
@@ -166,6 +207,7 @@ fn first_plan(
     requires root { IfSome root (λ r. r < length (network topo.now).devices) }
     ensures fits { IfOk result (Fits (network topo.now)) }
     ensures absent { IfOk result (λ plan. plan.absent ≡ absent.now) }
+    ensures waits { IfOk result (HasLeastWaits (network topo.now)) }
 {
     let root = match root {
         Some(root) => root,
@@ -190,6 +232,7 @@ fn search_from(
     requires root { IfSome root (λ r. r < length (network topo.now).devices) }
     requires frame { Fits (network topo.now) frame.now }
     requires same { frame.now.absent ≡ absent.now }
+    requires waits { HasLeastWaits (network topo.now) frame.now }
     requires budget { IsBudget settings.budget }
     ensures { IfOk result (IsJudged (network topo.now) absent.now root) }
 {
@@ -224,7 +267,8 @@ fn refine(
 
 /// Searches for a plan without what is absent. Where a root is given the plan has that root, else
 /// any two of the candidates may be its roots. A plan is found wherever the greedy plan from such a
-/// root is accepted. The same settings over the same topology give the same plan.
+/// root is accepted. Each plan has the least waits that the timing condition allows. The same settings
+/// over the same topology give the same plan.
 #[tactic(auto, using(crate::proofs::Greedy::none_either))]
 pub fn search(
     alloc: Global,

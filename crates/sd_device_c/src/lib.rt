@@ -16,4 +16,5 @@ mod rebases;
 mod steps;
 #[cfg(test)]
 mod tests;
+mod version;
 mod writing;

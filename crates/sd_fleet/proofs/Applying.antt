@@ -84,9 +84,9 @@ same_refusal old new e grew =
     ap (λ (n : Network). refusal_in (record { net = n; membership = new.membership; book = new.book }) e) grew.net
     ∙ ap (λ (r : membership.Registers). refusal_in (record { net = old.net; membership = r; book = new.book }) e) grew.membership
     ∙ ap (λ (fs : List Flight). refusal_in
-    (record { net = old.net; membership = old.membership; book = record { flights = fs; last = new.book.last; room = new.book.room; size = new.book.size } }) e) grew.flights
+    (record { net = old.net; membership = old.membership; book = record new.book { flights = fs } }) e) grew.flights
     ∙ ap (λ (n : ℕ). refusal_in
-    (record { net = old.net; membership = old.membership; book = record { flights = old.book.flights; last = n; room = new.book.room; size = new.book.size } }) e) grew.last
+    (record { net = old.net; membership = old.membership; book = record new.book { flights = old.book.flights; last = n } }) e) grew.last
 
 pub stands_roomy : (old new : Registers) (setting : Setting) (earlier : List Step) → OnlyRoomGrew old new → Stands old setting earlier
     → Stands new setting earlier

@@ -11,7 +11,7 @@ use Rattle.sd_plan.proofs.Shared.{each_more}
 use Rattle.sd_msg.specs.declared.Flight.{Flight}
 use Rattle.sd_msg.specs.declared.Message.{Message}
 use Rattle.sd_msg.specs.declared.TakeFault.{TakeFault}
-use Rattle.sd_msg.specs.Books.{Size, is_current, is_swept, has_number}
+use Rattle.sd_msg.specs.Books.{Book, is_current, is_swept, has_number}
 use Rattle.sd_core.specs.declared.Effect.{Effect}
 use Rattle.sd_core.specs.declared.Effect.TheVariants.{Quiet, Send}
 use Rattle.sd_core.specs.declared.node.Node.{Ghosts}
@@ -201,21 +201,21 @@ nodes_happened {N = N} g old e reply nodes after are_nodes sound accepted acts =
     }
 
 -- a window that closes changes nothing of it
-nodes_closed : {N : Type 0} (g : Ghosts N) (r : Registers) (nodes : List (Option N)) (last room : ℕ) (size : Size) (b : Bool)
+nodes_closed : {N : Type 0} (g : Ghosts N) (r : Registers) (nodes : List (Option N)) (book : Book) (b : Bool)
     → AreNodes g r nodes
     → AreNodes g (record {
       net = r.net;
       membership = if b then registers_closed r.membership else r.membership;
-      book = record { flights = r.book.flights; last = last; room = room; size = size };
+      book = record book { flights = r.book.flights };
     }) nodes
-nodes_closed g r nodes last room size true are_nodes =
+nodes_closed g r nodes book true are_nodes =
     record {
       places = are_nodes.places;
       there = are_nodes.there;
       kept = λ d n at. (let kept = are_nodes.kept d n at in record { numbers = kept.numbers; answers = kept.answers; duty = kept.duty });
       messages = are_nodes.messages;
     }
-nodes_closed g r nodes last room size false are_nodes =
+nodes_closed g r nodes book false are_nodes =
     record {
       places = are_nodes.places;
       there = are_nodes.there;
@@ -229,7 +229,7 @@ pub nodes_after : {N : Type 0} (g : Ghosts N) (old new : Registers) (e : Event) 
     → Acts g nodes (act_in old e) (context_of old e) reply after → IsAfter old e reply new → AreNodes g new after
 nodes_after g old new e reply nodes after are_nodes sound accepted acts is =
     let closed =
-    nodes_closed g (happened old e reply) after new.book.last new.book.room new.book.size (can_close_in (membership_after old e reply))
+    nodes_closed g (happened old e reply) after new.book (can_close_in (membership_after old e reply))
     (nodes_happened g old e reply nodes after are_nodes sound accepted acts) in
     subst (λ (net : Network). AreNodes g (record { net = net; membership = new.membership; book = new.book }) after) (sym is.net)
     (subst (λ (r : membership.Registers). AreNodes g (record { net = old.net; membership = r; book = new.book }) after) (sym is.membership)
@@ -237,16 +237,16 @@ nodes_after g old new e reply nodes after are_nodes sound accepted acts is =
     (record {
       net = old.net;
       membership = closed_if_can (membership_after old e reply);
-      book = record { flights = fs; last = new.book.last; room = new.book.room; size = new.book.size };
+      book = record new.book { flights = fs };
     }) after) (sym is.flights) closed))
 
 -- so it is where only room grew
 pub nodes_roomy : {N : Type 0} (g : Ghosts N) (old new : Registers) (nodes : List (Option N)) → AreNodes g old nodes → new.net ≡ old.net
     → new.membership ≡ old.membership → new.book.flights ≡ old.book.flights → AreNodes g new nodes
 nodes_roomy g old new nodes are_nodes net same flights =
-    let roomy = nodes_closed g old nodes new.book.last new.book.room new.book.size false are_nodes in
+    let roomy = nodes_closed g old nodes new.book false are_nodes in
     subst (λ (n : Network). AreNodes g (record { net = n; membership = new.membership; book = new.book }) nodes) (sym net)
     (subst (λ (r : membership.Registers). AreNodes g (record { net = old.net; membership = r; book = new.book }) nodes) (sym same)
     (subst (λ (fs : List Flight). AreNodes g
-    (record { net = old.net; membership = old.membership; book = record { flights = fs; last = new.book.last; room = new.book.room; size = new.book.size } }) nodes)
+    (record { net = old.net; membership = old.membership; book = record new.book { flights = fs } }) nodes)
     (sym flights) roomy))

@@ -23,7 +23,7 @@ ghost use Rattle.sd_fleet.specs.Keeping.{outcome_keeping};
 ghost use Rattle.sd_fleet.specs.Calling.{IsLimited};
 ghost use Rattle.sd_fleet.specs.Bounds.{AreNodes, context_of};
 
-use crate::keeps::{emit_at, hear_at, is_acting_at, is_settled_at};
+use crate::keeps::{emit_at, hear_at, keeps_at_messages, keeps_at_ticks};
 use crate::nodes::{CallContext, ask_at, call_at, place, rests_at};
 use crate::{ApplyFault, Call, Fabric, Outcome, Reply, Sent};
 use sd_core::Node;
@@ -358,9 +358,9 @@ impl<N: Node> Fleet<N> {
         true
     }
 
-    /// A tick of a device that acts as root happens, if it is one: the device answers as before, and
-    /// what it sends goes out. It is for `apply` where it is another, is refused, or a window is
-    /// open.
+    /// A tick happens, if its device says that it answers as before after any tick, as one that acts
+    /// as root does: what it sends goes out. It is for `apply` where the device does not say so,
+    /// where the tick is refused, or a window is open.
     // No answers and no outcome are written.
     #[inline(always)]
     pub fn emit(&mut self, reference: u64, d: u32, counter: u64) -> Option<Sent>
@@ -378,7 +378,7 @@ impl<N: Node> Fleet<N> {
         if !self.fabric.admits_tick(reference, d, counter) {
             return None;
         }
-        if !is_acting_at(&self.nodes, d) {
+        if !keeps_at_ticks(&self.nodes, d) {
             return None;
         }
         let context = context_of_call(&self.fabric, d);
@@ -387,9 +387,9 @@ impl<N: Node> Fleet<N> {
         Some(sent)
     }
 
-    /// A receipt happens, if it is one by a device that was given nothing: its flight is taken, the
-    /// device answers as before, and what it sends goes out. It is for `apply` where it is another,
-    /// is refused, or a window is open.
+    /// A receipt happens, if its device says that it answers as before after any message, as one that
+    /// was given nothing does: its flight is taken, and what the device sends goes out. It is for
+    /// `apply` where the device does not say so, where the receipt is refused, or a window is open.
     // No answers and no outcome are written.
     #[inline(always)]
     pub fn hear(&mut self, reference: u64, d: u32, counter: u64, message: u64) -> Option<Heard>
@@ -408,7 +408,7 @@ impl<N: Node> Fleet<N> {
         if !self.fabric.admits_tick(reference, d, counter) {
             return None;
         }
-        if !is_settled_at(&self.nodes, d) {
+        if !keeps_at_messages(&self.nodes, d) {
             return None;
         }
         if !self.fabric.is_on_time(reference, d, message) {

@@ -1,7 +1,8 @@
-//! What a node does at a receipt where it was given nothing, and at a tick where it acts as root: it
-//! answers as before.
-ghost use Rattle.std.specs.Prelude.{◌≡◌, ◌≢◌, ◌<◌, ◌≤◌, ◌+◌, ◌^◌, length, true, Some, None, IsTrue};
+//! A receipt and a tick of a node that says that it answers as before after such a call.
+ghost use Rattle.std.specs.Prelude.{◌≡◌, ◌≢◌, ℕ, ◌<◌, ◌≤◌, ◌+◌, ◌^◌, length, Some, None, IsTrue};
+ghost use Rattle.sd_msg.specs.declared.Message.{Message};
 ghost use Rattle.sd_core.specs.Calls.{Tick, Receive};
+ghost use Rattle.sd_core.specs.Steps.{Keeps};
 ghost use Rattle.sd_core.specs.Limits.{IfSent};
 ghost use Rattle.sd_fleet.specs.History.Nodes.{answers_of};
 ghost use Rattle.sd_fleet.specs.Calling.{IsNode, IsMessage, CanCall};
@@ -12,33 +13,36 @@ use crate::nodes::CallContext;
 use sd_core::{Effect, Node};
 use sd_msg::Flight;
 
-/// Whether the node of a device was given nothing that it has not taken up.
+/// Whether the node of a device says that it answers as before after any message.
 #[inline(always)]
-pub(crate) fn is_settled_at<N: Node>(nodes: &[Option<N>], d: u32) -> bool
+pub(crate) fn keeps_at_messages<N: Node>(nodes: &[Option<N>], d: u32) -> bool
     requires place { d < length nodes.now }
     ensures there { IsTrue result → node_at nodes.now d ≢ None }
-    ensures given { IsTrue result → (n : N) → node_at nodes.now d ≡ Some n → N.given n ≡ None }
+    ensures keeps { IsTrue result → (n : N) → node_at nodes.now d ≡ Some n
+        → (link : ℕ) (message : Message) (counter : ℕ)
+        → Keeps N.steps n (Receive link message counter) (answers_of N.Node) }
 {
     match &nodes[d as usize] {
-        Some(node) => !node.is_given(),
+        Some(node) => node.keeps_at_messages(),
         None => false,
     }
 }
 
-/// Whether the node of a device acts as root.
+/// Whether the node of a device says that it answers as before after any tick.
 #[inline(always)]
-pub(crate) fn is_acting_at<N: Node>(nodes: &[Option<N>], d: u32) -> bool
+pub(crate) fn keeps_at_ticks<N: Node>(nodes: &[Option<N>], d: u32) -> bool
     requires place { d < length nodes.now }
     ensures there { IsTrue result → node_at nodes.now d ≢ None }
-    ensures acts { IsTrue result → (n : N) → node_at nodes.now d ≡ Some n → N.acts n ≡ true }
+    ensures keeps { IsTrue result → (n : N) → node_at nodes.now d ≡ Some n
+        → (counter : ℕ) → Keeps N.steps n (Tick counter) (answers_of N.Node) }
 {
     match &nodes[d as usize] {
-        Some(node) => node.acts_as_root(),
+        Some(node) => node.keeps_at_ticks(),
         None => false,
     }
 }
 
-/// The node of a device, which was given nothing, receives a flight.
+/// The node of a device, which answers as before after any message, receives a flight.
 #[inline(always)]
 pub(crate) fn hear_at<N: Node>(
     nodes: &mut [Option<N>],
@@ -53,7 +57,9 @@ pub(crate) fn hear_at<N: Node>(
     requires callable { (n : N) → node_at nodes.old d ≡ Some n
         → IsCallable N.Node context.now
         (Receive flight.now.link flight.now.message counter) n }
-    requires settled { (n : N) → node_at nodes.old d ≡ Some n → N.given n ≡ None }
+    requires keeps { (n : N) → node_at nodes.old d ≡ Some n
+        → Keeps N.steps n (Receive flight.now.link flight.now.message counter)
+        (answers_of N.Node) }
     ensures { KeepsAt N.Node nodes.old d (Receive flight.now.link flight.now.message counter)
         context.now result nodes.new }
 {
@@ -63,14 +69,15 @@ pub(crate) fn hear_at<N: Node>(
     }
 }
 
-/// A node that was given nothing receives a flight: it answers as before.
+/// A node that answers as before after any message receives a flight.
 #[inline(always)]
 fn hear<N: Node>(node: &mut N, counter: u64, flight: &Flight, context: &CallContext) -> Effect
     requires events { context.now.events ≤ 2 ^ 26 }
     requires numbers { IsNode N.Node context.now.events context.now.reading node.old }
     requires can { CanCall N.Node context.now.events context.now.reading node.old
         (Receive flight.now.link flight.now.message counter) }
-    requires settled { N.given node.old ≡ None }
+    requires keeps { Keeps N.steps node.old
+        (Receive flight.now.link flight.now.message counter) (answers_of N.Node) }
     ensures step { N.steps node.old (Receive flight.now.link flight.now.message counter) result
         node.new }
     ensures numbers { IsNode N.Node (context.now.events + 1) counter node.new }
@@ -80,7 +87,7 @@ fn hear<N: Node>(node: &mut N, counter: u64, flight: &Flight, context: &CallCont
     node.on_message(flight.link, flight.message, counter)
 }
 
-/// The node of a device, which acts as root, ticks.
+/// The node of a device, which answers as before after any tick, ticks.
 #[inline(always)]
 pub(crate) fn emit_at<N: Node>(
     nodes: &mut [Option<N>],
@@ -93,7 +100,8 @@ pub(crate) fn emit_at<N: Node>(
     requires there { node_at nodes.old d ≢ None }
     requires callable { (n : N) → node_at nodes.old d ≡ Some n
         → IsCallable N.Node context.now (Tick counter) n }
-    requires acts { (n : N) → node_at nodes.old d ≡ Some n → N.acts n ≡ true }
+    requires keeps { (n : N) → node_at nodes.old d ≡ Some n
+        → Keeps N.steps n (Tick counter) (answers_of N.Node) }
     ensures { KeepsAt N.Node nodes.old d (Tick counter) context.now result nodes.new }
 {
     match &mut nodes[d as usize] {
@@ -102,13 +110,13 @@ pub(crate) fn emit_at<N: Node>(
     }
 }
 
-/// A node that acts as root ticks: it answers as before.
+/// A node that answers as before after any tick ticks.
 #[inline(always)]
 fn emit<N: Node>(node: &mut N, counter: u64, context: &CallContext) -> Effect
     requires events { context.now.events ≤ 2 ^ 26 }
     requires numbers { IsNode N.Node context.now.events context.now.reading node.old }
     requires can { CanCall N.Node context.now.events context.now.reading node.old (Tick counter) }
-    requires acts { N.acts node.old ≡ true }
+    requires keeps { Keeps N.steps node.old (Tick counter) (answers_of N.Node) }
     ensures step { N.steps node.old (Tick counter) result node.new }
     ensures numbers { IsNode N.Node (context.now.events + 1) counter node.new }
     ensures sent { IfSent result (IsMessage (context.now.events + 1)) }

@@ -49,10 +49,8 @@
 //!   relation: in `sd_replay`.
 //! - Which flights are on their way, by number, and what an event leaves of them: in
 //!   `sd_history::flights`.
-//!
-//! # Not shown
-//!
-//! - That what an onlooker takes for entered is the device's own epoch, over histories.
+//! - That what an onlooker takes for entered is the device's own epoch, over histories: in
+//!   `sd_proof_bound` (`entered_is_own`).
 #![tactic(auto)]
 
 /// Why an event is refused, the first cause in this order.

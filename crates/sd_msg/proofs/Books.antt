@@ -1,17 +1,15 @@
 -- What holds of the flights that a book keeps goes on holding, and what is seen of them.
-use Rattle.std.proofs.Common.{◌≡◌, ℕ, zero, suc, ◌+◌, ◌<◌, ◌≤◌, Bool, true, false, ◌&&◌, not, cond, nat_le, nat_lt, List, [], ◌∷◌, ◌++◌, length, get_or, drop, set, refl, sym, ◌∙◌, ap, subst, arith, inl, inr}
+use Rattle.std.proofs.Common.{◌≡◌, ℕ, zero, suc, ◌+◌, ◌<◌, ◌≤◌, Bool, true, false, ◌&&◌, not, cond, nat_le, nat_lt, List, [], ◌∷◌, ◌++◌, length, get_or, drop, set, refl, sym, ◌∙◌, ap, subst, arith}
 use Rattle.std.specs.List.{filter, All}
-use Rattle.std.proofs.lemmas.Bool.{and_from, and_parts, cases_lt, eq-eqb, le-leb, lt-ltb}
-use Rattle.std.proofs.lemmas.List.{length-append, length-set, get_or-set_same, get_or-set_other}
-use Rattle.std.proofs.lemmas.List.Elements.{All-push, All-set, All-get_or, All-head, All-tail, filter_agree}
+use Rattle.std.proofs.lemmas.Bool.{and_from, eq-eqb, le-leb, lt-ltb}
+use Rattle.std.proofs.lemmas.List.Elements.{All-push, All-set, All-get_or, All-filter, All-head, All-tail, filter_agree}
 use Rattle.sd_topo.specs.declared.Thing.{Thing}
 use Rattle.sd_msg.specs.declared.Flight.{Flight}
 use Rattle.sd_msg.specs.declared.spent.Spent.{Spent}
 use Rattle.sd_msg.specs.Books.{Size, AreNumbered, has_number, without, with_sent, is_swept, is_current, is_within}
 use Rattle.sd_msg.specs.Marks.{mark_of}
 use Rattle.sd_msg.specs.Spent.{is_spared, is_left, as_spent, size_of, AreKept}
-use Rattle.sd_msg.proofs.Numbered.{floor_low, numbered_filter}
-use Rattle.sd_msg.proofs.Rows.{row_numbered, row_push, row_spent}
+use Rattle.sd_msg.proofs.Numbered.{floor_low, lower, numbered_filter, numbered_push, numbered_spent}
 use Rattle.sd_msg.proofs.Finding.{beyond, first_is_other, without_none}
 use Rattle.sd_msg.proofs.Filters.{passing_last, failing_last, filter_and}
 
@@ -20,7 +18,7 @@ IsWithin spent f = is_within (size_of spent) f ≡ true
 
 -- they ascend by number
 pub numbered : (last : ℕ) (spent : Spent) (fs : List Flight) → AreKept last spent fs → AreNumbered 0 last fs
-numbered last spent fs h = row_numbered 0 last fs h.row (omega (arith, h.count))
+numbered last spent fs h = h.numbers
 
 -- and so does what is seen of them
 pub seen_numbered : (test : Flight → Bool) (last : ℕ) (spent : Spent) (fs : List Flight) → AreKept last spent fs → AreNumbered 0 last (filter test fs)
@@ -38,10 +36,8 @@ one_more m last low = omega (arith, low)
 pub pushed : (last : ℕ) (spent : Spent) (fs : List Flight) (f : Flight) → AreKept last spent fs → f.number ≡ last + 1 → is_within (size_of spent) f ≡ true
     → AreKept (last + 1) spent (fs ++ f ∷ [])
 pushed last spent fs f h next inside =
-    let long : length (fs ++ f ∷ []) ≡ length fs + 1 = length-append fs (f ∷ []) in
     record {
-      count = omega (arith, h.count, long);
-      row = row_push last fs f next h.row;
+      numbers = numbered_push 0 last fs f next h.numbers;
       within = All-push (IsWithin spent) fs f h.within inside;
       links = λ k. one_more (mark_of spent.links k) last (h.links k);
       receivers = λ k. one_more (mark_of spent.receivers k) last (h.receivers k);
@@ -77,8 +73,7 @@ pub kept_rest : (last : ℕ) (spent : Spent) (fs : List Flight) → AreKept last
 kept_rest last spent [] h = h
 kept_rest last spent (f ∷ fs) h =
     record {
-      count = omega (arith, h.count);
-      row = h.row.1;
+      numbers = lower 0 f.number last fs (omega arith) h.numbers.1;
       within = All-tail (IsWithin spent) f fs h.within;
       links = h.links;
       receivers = h.receivers;
@@ -88,6 +83,17 @@ pub seen_rest : (spent : Spent) (fs : List Flight) (f : Flight) → f ≡ get_or
     → filter (is_left spent) (drop 1 fs) ≡ filter (is_left spent) fs
 seen_rest spent [] f is gone = refl
 seen_rest spent (g ∷ fs) f is gone = rw (subst (λ x. is_left spent x ≡ false) is gone) refl
+
+-- Those that pass a test
+
+pub kept_filter : (test : Flight → Bool) (last : ℕ) (spent : Spent) (fs : List Flight) → AreKept last spent fs → AreKept last spent (filter test fs)
+kept_filter test last spent fs h =
+    record {
+      numbers = numbered_filter 0 last test fs h.numbers;
+      within = All-filter test (IsWithin spent) fs h.within;
+      links = h.links;
+      receivers = h.receivers;
+    }
 
 -- What a purge and a sweep leave to be seen
 
@@ -115,8 +121,7 @@ pub kept_spent : (last : ℕ) (spent : Spent) (fs : List Flight) (i : ℕ) (f : 
     → AreKept last spent (set fs i (as_spent f))
 kept_spent last spent fs i f h within is =
     record {
-      count = subst (λ n. n ≤ last) (sym (length-set fs i (as_spent f))) h.count;
-      row = row_spent last fs i f h.row within is;
+      numbers = numbered_spent 0 last fs i f h.numbers within is;
       within = All-set (IsWithin spent) fs i (as_spent f) (subst (IsWithin spent) (sym (is f)) (All-get_or (IsWithin spent) fs i f within h.within)) h.within;
       links = h.links;
       receivers = h.receivers;
@@ -152,49 +157,3 @@ spent_seen floor last spent (g ∷ fs) (suc i) f h within is = by (is_left spent
 pub seen_spent : (last : ℕ) (spent : Spent) (fs : List Flight) (i : ℕ) (f : Flight) → AreKept last spent fs → i < length fs → ((d : Flight) → f ≡ get_or fs i d)
     → filter (is_left spent) (set fs i (as_spent f)) ≡ without f.number (filter (is_left spent) fs)
 seen_spent last spent fs i f h within is = spent_seen 0 last spent fs i f (numbered last spent fs h) within is
-
--- Where each that is not left is spent in its place
-
--- what is seen stays
-pub settled_seen : (spent : Spent) (fs : List Flight) (i : ℕ) (f : Flight) → i < length fs → ((d : Flight) → f ≡ get_or fs i d) → is_left spent f ≡ false
-    → filter (is_left spent) (set fs i (as_spent f)) ≡ filter (is_left spent) fs
-settled_seen spent [] i f within is gone = refl
-settled_seen spent (g ∷ fs) zero f within is gone = rw (subst (λ x. is_left spent x ≡ false) (is f) gone) refl
-settled_seen spent (g ∷ fs) (suc i) f within is gone =
-    ap (λ gs. cond (is_left spent g) (g ∷ gs) gs) (settled_seen spent fs i f (omega arith) is gone)
-
--- each flight below the place reaches only where it is left
-abbrev pub AreSettled : Spent → List Flight → ℕ → Type 0
-AreSettled spent fs i = (k : ℕ) (d : Flight) → k < i → k < length fs → (get_or fs k d).reaches ≡ is_left spent (get_or fs k d)
-
-pub settled_more : (spent : Spent) (fs : List Flight) (i : ℕ) (f : Flight) → i < length fs → ((d : Flight) → f ≡ get_or fs i d) → AreSettled spent fs i
-    → f.reaches ≡ is_left spent f → AreSettled spent fs (i + 1)
-settled_more spent fs i f inside is settled here k d within short =
-    elim (cases_lt k i) [
-      | inl early ↦ settled k d early short
-      | inr late ↦ (let same : k ≡ i = omega (arith, late, within) in
-          rw same (subst (λ (g : Flight). g.reaches ≡ is_left spent g) (is d) here))
-    ]
-
-pub settled_set : (spent : Spent) (fs : List Flight) (i : ℕ) (f : Flight) → i < length fs → AreSettled spent fs i → AreSettled spent (set fs i (as_spent f)) (i + 1)
-settled_set spent fs i f inside settled k d within short =
-    elim (cases_lt k i) [
-      | inl early ↦ (let same : get_or (set fs i (as_spent f)) k d ≡ get_or fs k d = get_or-set_other fs i k (as_spent f) d (λ e. omega (arith, early, e)) in
-          rw same (settled k d early (subst (λ n. k < n) (length-set fs i (as_spent f)) short)))
-      | inr late ↦ (let here : k ≡ i = omega (arith, late, within) in
-          rw here (rw (get_or-set_same fs i (as_spent f) d inside) refl))
-    ]
-
--- one that is left reaches
-pub left_reaches : (spent : Spent) (f : Flight) → is_left spent f ≡ true → f.reaches ≡ is_left spent f
-left_reaches spent f left = (and_parts f.reaches (is_spared spent f) left).0 ∙ sym left
-
--- so an earlier reference brings none back
-pub same_left : (old new : Spent) (f : Flight) → f.reaches ≡ is_left old f → (is_left old f ≡ true → is_left new f ≡ true) → is_left new f ≡ is_left old f
-same_left old new f settled stays = by f.reaches refl
-  where
-    by : (b : Bool) → f.reaches ≡ b → is_left new f ≡ is_left old f
-    by true reaches =
-        let left : is_left old f ≡ true = sym settled ∙ reaches in
-        stays left ∙ sym left
-    by false reaches = ap (λ b. b && is_spared new f) reaches ∙ sym (ap (λ b. b && is_spared old f) reaches)

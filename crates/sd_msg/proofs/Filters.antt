@@ -1,5 +1,5 @@
 -- Flights that pass tests.
-use Rattle.std.proofs.Common.{◌≡◌, ℕ, zero, suc, ◌<◌, Bool, true, false, ◌&&◌, cond, List, [], ◌∷◌, ◌++◌, length, get_or, refl, ◌∙◌, ap, arith}
+use Rattle.std.proofs.Common.{◌≡◌, Bool, true, false, ◌&&◌, cond, List, [], ◌∷◌, ◌++◌, refl, ◌∙◌, ap}
 use Rattle.std.specs.List.{filter}
 use Rattle.std.proofs.lemmas.List.{append-nil}
 use Rattle.std.proofs.lemmas.List.Elements.{filter-append}
@@ -13,13 +13,14 @@ passing_last test fs f passes = filter-append test fs (f ∷ []) ∙ rw passes r
 pub failing_last : (test : Flight → Bool) (fs : List Flight) (f : Flight) → test f ≡ false → filter test (fs ++ f ∷ []) ≡ filter test fs
 failing_last test fs f fails = filter-append test fs (f ∷ []) ∙ rw fails (append-nil (filter test fs))
 
--- tests that agree on each
-pub agree_each : (p q : Flight → Bool) (fs : List Flight) → ((k : ℕ) (d : Flight) → k < length fs → p (get_or fs k d) ≡ q (get_or fs k d))
-    → filter p fs ≡ filter q fs
-agree_each p q [] same = refl
-agree_each p q (f ∷ fs) same =
-    ap (λ b. cond b (f ∷ filter p fs) (filter p fs)) (same zero f (omega arith))
-    ∙ ap (λ gs. cond (q f) (f ∷ gs) gs) (agree_each p q fs (λ k d within. same (suc k) d (omega arith)))
+-- a test that all pass that passed another
+pub filter_again : (p q : Flight → Bool) (fs : List Flight) → ((f : Flight) → p f ≡ true → q f ≡ true) → filter q (filter p fs) ≡ filter p fs
+filter_again p q [] passes = refl
+filter_again p q (f ∷ fs) passes = by (p f) refl (filter_again p q fs passes)
+  where
+    by : (b : Bool) → p f ≡ b → filter q (filter p fs) ≡ filter p fs → filter q (cond b (f ∷ filter p fs) (filter p fs)) ≡ cond b (f ∷ filter p fs) (filter p fs)
+    by true here rest = rw (passes f here) (ap (λ gs. f ∷ gs) rest)
+    by false here rest = rest
 
 -- both tests at once
 pub filter_and : (p q : Flight → Bool) (fs : List Flight) → filter (λ f. p f && q f) fs ≡ filter q (filter p fs)

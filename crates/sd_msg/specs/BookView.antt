@@ -11,6 +11,7 @@ book_seen b =
     record {
       flights = filter (is_left b.spent) b.flights.items;
       last = b.last;
+      places = deque_capacity b.flights;
       room = deque_capacity b.flights - deque_len b.flights;
       size = size_of b.spent;
     }

@@ -11,11 +11,12 @@ pub record Size : Type 0 where
   pub devices : ℕ
   pub links : ℕ
 
--- what is seen of a book: the flights that are not spent, by ascending number, the last number given, for how many more flights there is room,
--- and for how many devices and links the book is
+-- what is seen of a book: the flights that are not spent, by ascending number, the last number given, how many places there is memory for,
+-- for how many more flights there is room, and for how many devices and links the book is
 pub record Book : Type 0 where
   pub flights : List Flight
   pub last : ℕ
+  pub places : ℕ
   pub room : ℕ
   pub size : Size
 

@@ -1,8 +1,8 @@
 -- Which of the flights that are kept are spent.
-use Rattle.std.specs.Prelude.{◌≡◌, ℕ, ◌+◌, ◌≤◌, Bool, true, false, ◌&&◌, List, [], ◌∷◌, All, length, nat_le, nat_lt}
+use Rattle.std.specs.Prelude.{◌≡◌, ℕ, ◌≤◌, Bool, true, false, ◌&&◌, List, All, nat_le, nat_lt}
 use Rattle.sd_msg.specs.declared.Flight.{Flight}
 use Rattle.sd_msg.specs.declared.spent.Spent.{Spent}
-use Rattle.sd_msg.specs.Books.{Size, is_within}
+use Rattle.sd_msg.specs.Books.{Size, AreNumbered, is_within}
 use Rattle.sd_msg.specs.Marks.{mark_of, count_of}
 
 -- it has not ended, and neither its link nor its receiver was swept since it was sent
@@ -21,15 +21,9 @@ size_of spent = record { devices = count_of spent.receivers; links = count_of sp
 abbrev pub as_spent : Flight → Flight
 as_spent f = record f { reaches = false }
 
--- after each flight there are as many as numbers were given after its own
-abbrev pub IsRow : ℕ → List Flight → Type 0
-IsRow last [] = Unit {0}
-IsRow last (f ∷ fs) = (f.number + length fs ≡ last) × IsRow last fs
-
--- The flights have the last numbers that were given, one by one, and there are marks for them. No mark is beyond the last number.
+-- The flights have numbers that were given, and ascend by them, and there are marks for them. No mark is beyond the last number.
 pub record AreKept (last : ℕ) (spent : Spent) (flights : List Flight) : Type 0 where
-  pub count : length flights ≤ last
-  pub row : IsRow last flights
+  pub numbers : AreNumbered 0 last flights
   pub within : All (λ f. is_within (size_of spent) f ≡ true) flights
   pub links : (key : ℕ) → mark_of spent.links key ≤ last
   pub receivers : (key : ℕ) → mark_of spent.receivers key ≤ last

@@ -1,8 +1,10 @@
 //! The book of the flights that are on their way.
-ghost use Rattle.std.specs.Prelude.{◌≡◌, ◌≤◌, ◌<◌, ◌+◌, ◌-◌, ◌^◌, [], filter, not, is_ok, Ok, Err, IsOk, IfOk, IfErr, OnOk, if◌then◌else◌};
+ghost use Rattle.std.specs.Prelude.{◌≡◌, ◌≤◌, ◌<◌, ◌+◌, ◌-◌, ◌*◌, ◌^◌, [], filter, length, max, not, is_ok, Ok, Err, IsOk, IfOk, IfErr, OnOk, if◌then◌else◌};
 ghost use Rattle.sd_msg.specs.Books.{AreGiven, found, for_device, dismissed, without, with_sent, is_swept, is_current};
 
-use crate::flights::{drop_first, flight_for, flight_given, flight_left, reopen, room, spend};
+use crate::flights::{
+    drop_first, drop_spent, flight_for, flight_given, flight_left, reopen, room, spend,
+};
 use crate::spent::Spent;
 use crate::{Flight, TakeFault};
 use sd_num::NoMemory;
@@ -15,18 +17,20 @@ use std::marker::Model;
 /// sent, from 1 on; a flight is spent when it is taken, lost, swept or purged, or at once where it
 /// does not reach. Only `new` and `ready` take memory.
 ///
-/// Each number has a place after the one before, also that of a flight which does not reach: so the
-/// place of a number is told by how many were given after it. A flight that is taken or lost is spent
-/// in its place, and a sweep and a purge only note what they spend. Where there is no more room,
-/// `ready` gives up the places in front of the first flight that is not spent, and takes memory for as
-/// many again as are left if that is too little. So no call goes over flights that are not its own,
-/// but for `ready`, which gives up each place once, and `send` of a flight that has ended before.
+/// A flight that is taken or lost is spent in its place, and a sweep and a purge only note what they
+/// spend. Where there is too little room, `ready` gives up the places in front of the first flight
+/// that is left, and those of all that are spent if half of the places are not free then. It takes
+/// memory for as many again as are left if that is too little. So on average each place is gone over
+/// a limited number of times, and `send` goes over them only for a flight that has ended before.
+/// There is memory for at most twice as many flights as were ever left at once, and as many as room
+/// was asked for.
 ///
-/// A flight that is not spent keeps the places of all that were sent after it. So there are at most
-/// some two places for each number that is given while one flight is on its way, and a purge ends it.
+/// A number that is given has the place after the one before, also that of a flight which does not
+/// reach. So its place is told by how many were given after it. Only a flight that was left when all
+/// that are spent gave up their places may have to be searched, by halving.
 #[derive(Drop)]
 pub struct FlightBook {
-    /// Those with the latest numbers, one after the other: all that are not spent, and others.
+    /// All that are not spent, and others.
     flights: VecDeque<Flight>,
     /// The last number given.
     last: u64,
@@ -53,16 +57,20 @@ impl FlightBook {
         ensures last { IfOk result (λ b. b.last ≡ 0) }
         ensures devices { IfOk result (λ b. b.size.devices ≡ devices) }
         ensures links { IfOk result (λ b. b.size.links ≡ links) }
+        ensures places { IfOk result (λ b. b.places ≡ 0) }
     {
         let spent = Spent::new(alloc, devices, links)?;
-        Ok(FlightBook {
-            flights: VecDeque::new(alloc),
-            last: 0,
-            spent,
-        })
+        match VecDeque::with_capacity(alloc, 0) {
+            Ok(flights) => Ok(FlightBook {
+                flights,
+                last: 0,
+                spent,
+            }),
+            Err(_) => Err(NoMemory),
+        }
     }
 
-    /// Makes room for some more flights.
+    /// Makes room for some more flights. Where it has too little, half of its places are free then.
     pub fn ready(&mut self, alloc: Global, count: usize) -> Result<(), NoMemory>
         ensures given { AreGiven self.new }
         ensures room { OnOk result (count ≤ self.new.room) }
@@ -70,17 +78,22 @@ impl FlightBook {
         ensures flights { self.new.flights ≡ self.old.flights }
         ensures last { self.new.last ≡ self.old.last }
         ensures size { self.new.size ≡ self.old.size }
+        ensures places { self.new.places
+            ≤ max self.old.places (2 * length self.new.flights + count) }
+        ensures free { self.old.room < count
+            → OnOk result (self.new.places ≤ 2 * self.new.room) }
     {
         if count <= room(&self.flights) {
             return Ok(());
         }
         drop_first(&mut self.flights, &self.spent);
-        if count <= room(&self.flights) {
+        if count.saturating_add(self.flights.len()) <= room(&self.flights) {
             return Ok(());
         }
-        // as many again as there are, so that they are moved only now and then
+        drop_spent(&mut self.flights, &self.spent);
+        // for as many again as are left, so that they are gone over only now and then
         let more = count.saturating_add(self.flights.len());
-        match self.flights.reserve(more) {
+        match self.flights.reserve_exact(more) {
             Ok(()) => Ok(()),
             Err(_) => Err(NoMemory),
         }
@@ -99,9 +112,10 @@ impl FlightBook {
             ≡ with_sent self.old.flights (record flight { number = result }) }
         ensures last { self.new.last ≡ result }
         ensures size { self.new.size ≡ self.old.size }
+        ensures places { self.new.places ≡ self.old.places }
         ensures room { self.old.room ≤ self.new.room + 1 }
     {
-        reopen(&mut self.flights, self.last, &mut self.spent, flight.last);
+        reopen(&mut self.flights, &mut self.spent, flight.last);
         let number = self.last + 1;
         self.last = number;
         self.flights.push_back_reserved(Flight { number, ..flight });
@@ -138,6 +152,7 @@ impl FlightBook {
             ≡ (if is_ok result then without number self.old.flights else self.old.flights) }
         ensures last { self.new.last ≡ self.old.last }
         ensures size { self.new.size ≡ self.old.size }
+        ensures places { self.new.places ≡ self.old.places }
         ensures room { self.old.room ≤ self.new.room }
     {
         let (place, flight) = flight_for(&self.flights, self.last, &self.spent, number, device)?;
@@ -156,6 +171,7 @@ impl FlightBook {
         ensures flights { self.new.flights ≡ without number self.old.flights }
         ensures last { self.new.last ≡ self.old.last }
         ensures size { self.new.size ≡ self.old.size }
+        ensures places { self.new.places ≡ self.old.places }
         ensures room { self.old.room ≤ self.new.room }
     {
         match flight_given(&self.flights, self.last, number) {
@@ -176,6 +192,7 @@ impl FlightBook {
             ≡ (if is_ok result then without number self.old.flights else self.old.flights) }
         ensures last { self.new.last ≡ self.old.last }
         ensures size { self.new.size ≡ self.old.size }
+        ensures places { self.new.places ≡ self.old.places }
         ensures room { self.old.room ≤ self.new.room }
     {
         let (place, _) = flight_left(&self.flights, self.last, &self.spent, number)?;
@@ -189,6 +206,7 @@ impl FlightBook {
         ensures flights { self.new.flights ≡ filter (λ f. not (is_swept thing f)) self.old.flights }
         ensures last { self.new.last ≡ self.old.last }
         ensures size { self.new.size ≡ self.old.size }
+        ensures places { self.new.places ≡ self.old.places }
         ensures room { self.old.room ≤ self.new.room }
     {
         self.spent.sweep(thing, self.last);
@@ -200,6 +218,7 @@ impl FlightBook {
         ensures flights { self.new.flights ≡ filter (is_current reference) self.old.flights }
         ensures last { self.new.last ≡ self.old.last }
         ensures size { self.new.size ≡ self.old.size }
+        ensures places { self.new.places ≡ self.old.places }
         ensures room { self.old.room ≤ self.new.room }
     {
         self.spent.purge(reference);

@@ -1,31 +1,64 @@
-//! The flights of a book. Each number that was given has a place, after the one before.
-ghost use Rattle.std.specs.Prelude.{◌≡◌, ℕ, ◌+◌, ◌-◌, ◌<◌, ◌≤◌, List, filter, length, Ok, Err, IfOk, IfErr, slice_index_or, slice_set};
+//! The flights of a book, by ascending number.
+ghost use Rattle.std.specs.Prelude.{◌≡◌, ℕ, ◌+◌, ◌-◌, ◌<◌, ◌≤◌, All, filter, length, Ok, Err, IfOk, IfErr, IfSome, IfNone, true, slice_index_or, slice_set};
 ghost use Rattle.std.specs.VecDeque.{deque_len, deque_capacity};
-ghost use Rattle.sd_msg.specs.Books.{found, for_device, without};
-ghost use Rattle.sd_msg.specs.Spent.{is_left, as_spent, AreKept, IsRow, size_of};
+ghost use Rattle.sd_msg.specs.Books.{AreNumbered, found, for_device, without};
+ghost use Rattle.sd_msg.specs.Spent.{is_left, as_spent, AreKept, size_of};
 
 use crate::spent::Spent;
 use crate::{Flight, TakeFault};
 use std::collections::VecDeque;
 
-/// The place of a number among so many, of which the last has the last number given; or why there
-/// is none.
+/// The flight with a number and its place, if each number after it has the next place.
 #[inline(always)]
-fn place_of(count: usize, last: u64, number: u64) -> Result<usize, TakeFault>
-    ensures place { IfOk result (λ place. place < count) }
-    ensures number { IfOk result (λ place. number + count ≡ last + (place + 1)) }
-    ensures given { IfOk result (λ place. (1 ≤ number) × (number ≤ last)) }
-    ensures fault { IfErr result (λ e. (flights : List Flight) → length flights ≡ count
-        → count ≤ last → IsRow last flights → found last flights number ≡ Err e) }
+fn flight_guessed(flights: &VecDeque<Flight>, last: u64, number: u64) -> Option<(usize, &Flight)>
+    requires { number ≤ last }
+    ensures place { IfSome result (λ p. p.0 < length flights.now.items) }
+    ensures item { IfSome result
+        (λ p. (d : Flight) → p.1.now ≡ slice_index_or flights.now.items p.0 d) }
+    ensures number { IfSome result (λ p. p.1.now.number ≡ number) }
 {
-    if number == 0 || number > last {
-        return Err(TakeFault::Unknown);
-    }
     let after = last - number;
+    let count = flights.len();
     if after >= count as u64 {
-        return Err(TakeFault::Spent);
+        return None;
     }
-    Ok(count - 1 - after as usize)
+    let place = count - 1 - after as usize;
+    let flight = &flights[place];
+    if flight.number != number {
+        return None;
+    }
+    Some((place, flight))
+}
+
+/// The place of the first flight with no smaller number, by halving.
+fn place_from(flights: &VecDeque<Flight>, number: u64) -> usize
+    ensures bound { result ≤ length flights.now.items }
+    ensures before { (top : ℕ) → AreNumbered 0 top flights.now.items → (k : ℕ) (d : Flight)
+        → k < result → (slice_index_or flights.now.items k d).number < number }
+    ensures after { (top : ℕ) → AreNumbered 0 top flights.now.items → (k : ℕ) (d : Flight)
+        → result ≤ k → k < length flights.now.items
+        → number ≤ (slice_index_or flights.now.items k d).number }
+{
+    flights.partition_point(|flight| flight.number < number)
+}
+
+/// The flight with a number and its place, by halving.
+#[cold]
+#[inline(never)]
+fn flight_searched(flights: &VecDeque<Flight>, number: u64) -> Option<(usize, &Flight)>
+    ensures place { IfSome result (λ p. p.0 < length flights.now.items) }
+    ensures item { IfSome result
+        (λ p. (d : Flight) → p.1.now ≡ slice_index_or flights.now.items p.0 d) }
+    ensures number { IfSome result (λ p. p.1.now.number ≡ number) }
+    ensures none { IfNone result ((top : ℕ) → AreNumbered 0 top flights.now.items
+        → All (λ f. f.number ≡ number → ⊥) flights.now.items) }
+{
+    let place = place_from(flights, number);
+    let flight = flights.get(place)?;
+    if flight.number != number {
+        return None;
+    }
+    Some((place, flight))
 }
 
 /// The flight with a number, of those given up to the last, and its place, or why there is none.
@@ -35,8 +68,7 @@ pub(crate) fn flight_given(
     last: u64,
     number: u64,
 ) -> Result<(usize, &Flight), TakeFault>
-    requires count { length flights.now.items ≤ last }
-    requires row { IsRow last flights.now.items }
+    requires { AreNumbered 0 last flights.now.items }
     ensures place { IfOk result (λ p. p.0 < length flights.now.items) }
     ensures item { IfOk result
         (λ p. (d : Flight) → p.1.now ≡ slice_index_or flights.now.items p.0 d) }
@@ -44,8 +76,17 @@ pub(crate) fn flight_given(
     ensures flight { IfOk result (λ p. found last flights.now.items number ≡ Ok p.1.now) }
     ensures fault { IfErr result (λ e. found last flights.now.items number ≡ Err e) }
 {
-    let place = place_of(flights.len(), last, number)?;
-    Ok((place, &flights[place]))
+    if number == 0 || number > last {
+        return Err(TakeFault::Unknown);
+    }
+    // Only one from before places were given up may have to be searched.
+    match flight_guessed(flights, last, number) {
+        Some((place, flight)) => Ok((place, flight)),
+        None => match flight_searched(flights, number) {
+            Some((place, flight)) => Ok((place, flight)),
+            None => Err(TakeFault::Spent),
+        },
+    }
 }
 
 /// The same of those that are left.
@@ -122,31 +163,12 @@ pub(crate) fn spend(flights: &mut VecDeque<Flight>, last: u64, spent: &Spent, pl
     flights[place].reaches = false;
 }
 
-/// Spends in its place each that is not left.
-#[cold]
-#[inline(never)]
-fn settle(flights: &mut VecDeque<Flight>, last: u64, spent: &Spent)
-    requires kept { AreKept last spent.now flights.old.items }
-    ensures left { filter (is_left spent.now) flights.new.items
-        ≡ filter (is_left spent.now) flights.old.items }
-    ensures settled { (k : ℕ) (d : Flight) → k < length flights.new.items
-        → (slice_index_or flights.new.items k d).reaches
-        ≡ is_left spent.now (slice_index_or flights.new.items k d) }
-    ensures kept { AreKept last spent.now flights.new.items }
-    ensures len { deque_len flights.new ≡ deque_len flights.old }
-    ensures capacity { deque_capacity flights.new ≡ deque_capacity flights.old }
-{
-    for place in 0..flights.len() {
-        if !spent.leaves(&flights[place]) {
-            spend(flights, last, spent, place);
-        }
-    }
-}
-
-/// Leaves out those that are spent at the front, up to one that is left.
+/// Gives up the places of those that are spent at the front, up to one that is left.
 pub(crate) fn drop_first(flights: &mut VecDeque<Flight>, spent: &Spent)
     ensures left { filter (is_left spent.now) flights.new.items
         ≡ filter (is_left spent.now) flights.old.items }
+    ensures first { (d : Flight) → 0 < length flights.new.items
+        → is_left spent.now (slice_index_or flights.new.items 0 d) ≡ true }
     ensures kept { (last : ℕ) → AreKept last spent.now flights.old.items
         → AreKept last spent.now flights.new.items }
     ensures bound { deque_len flights.new ≤ deque_len flights.old }
@@ -160,22 +182,35 @@ pub(crate) fn drop_first(flights: &mut VecDeque<Flight>, spent: &Spent)
     }
 }
 
-/// Spends in its place what is spent, where a flight with this `last` would be spent with it.
+/// Gives up the places of all that are spent.
+#[cold]
+#[inline(never)]
+pub(crate) fn drop_spent(flights: &mut VecDeque<Flight>, spent: &Spent)
+    ensures left { flights.new.items ≡ filter (is_left spent.now) flights.old.items }
+    ensures kept { (last : ℕ) → AreKept last spent.now flights.old.items
+        → AreKept last spent.now flights.new.items }
+    ensures bound { deque_len flights.new ≤ deque_len flights.old }
+    ensures capacity { deque_capacity flights.new ≡ deque_capacity flights.old }
+{
+    flights.retain(|flight| spent.leaves(flight));
+}
+
+/// Gives up what is spent, where a flight with this `last` would be spent with it.
 #[inline(always)]
-pub(crate) fn reopen(flights: &mut VecDeque<Flight>, number: u64, spent: &mut Spent, last: u64)
-    requires kept { AreKept number spent.old flights.old.items }
+pub(crate) fn reopen(flights: &mut VecDeque<Flight>, spent: &mut Spent, last: u64)
     ensures reference { spent.new.reference ≤ last }
     ensures left { filter (is_left spent.new) flights.new.items
         ≡ filter (is_left spent.old) flights.old.items }
-    ensures kept { AreKept number spent.new flights.new.items }
-    ensures len { deque_len flights.new ≡ deque_len flights.old }
+    ensures kept { (number : ℕ) → AreKept number spent.old flights.old.items
+        → AreKept number spent.new flights.new.items }
+    ensures bound { deque_len flights.new ≤ deque_len flights.old }
     ensures capacity { deque_capacity flights.new ≡ deque_capacity flights.old }
     ensures size { size_of spent.new ≡ size_of spent.old }
 {
     if spent.reference <= last {
         return;
     }
-    settle(flights, number, spent);
+    drop_spent(flights, spent);
     spent.reopen(last);
 }
 

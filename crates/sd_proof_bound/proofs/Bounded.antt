@@ -1,7 +1,8 @@
 -- The recovery bound, with nothing assumed: both its halves, since steady histories keep the invariant and devices are silent no longer than they may be.
 -- And the same of accepted plans, and of histories in which no premise is broken.
-use Rattle.std.specs.Prelude.{◌≡◌, ℕ, ◌+◌, ◌≤◌, ◌∷◌, ◌++◌, IsTrue}
-use Rattle.std.proofs.Common.{arith, sym, subst}
+use Rattle.std.specs.Prelude.{◌≡◌, ℕ, ◌+◌, ◌≤◌, true, not, ◌∷◌, ◌++◌, IsTrue}
+use Rattle.std.specs.List.{list_all}
+use Rattle.std.proofs.Common.{arith, sym, subst, ◌∙◌}
 use Rattle.sd_drill.specs.Num.Numbers.{grow, low}
 use Rattle.sd_drill.specs.Topo.Network.{Network, rates_of}
 use Rattle.sd_drill.specs.ages.Ages.{ageing}
@@ -25,7 +26,10 @@ use Rattle.sd_proof_safety.proofs.invariant.Parts.{accepted_is_guarded, all_are_
 use Rattle.sd_proof_safety.proofs.timers.Spans.{grow_rises}
 use Rattle.sd_proof_safety.proofs.whole.Kept.{stays_invariant}
 use Rattle.sd_proof_safety.proofs.whole.Silent.{are_silent}
-use Rattle.sd_proof_safety.specs.History.World.{alone}
+use Rattle.sd_proof_safety.specs.Sched.Events.{is_stage}
+use Rattle.sd_proof_safety.specs.History.World.{alone, setting_over}
+use Rattle.sd_proof_safety.specs.History.Chronicle.{chronicle}
+use Rattle.sd_proof_bound.proofs.histories.Unstaged.{is_first_era, none_staged_in, stays_first, chronicle_same, history_alone, premises_same}
 
 -- what is below a number is below each greater one
 below_more : (net : Network) (plan : Plan) (budget : Budget) (f : DomainId) (d a b : ℕ) → a ≤ b → AlwaysBelow net plan budget f d a
@@ -90,17 +94,31 @@ tight_is_less net plan budget f d w tight worst is =
     sum t s far old w rh far' old' one two three four = omega (arith, one, two, three, four)
 
 pub bound_holds : (net : Network) (plan : Plan) (budget : Budget) (f : DomainId) → BoundHolds net plan budget f
-bound_holds net plan budget f network fits accepted d w worst history later s earlier report is same premises unstaged based held failed told counted =
+bound_holds net plan budget f network fits accepted d w worst others history later s earlier report is same premises unstaged based held failed told
+    counted =
     always_bounded net plan budget f d w worst history later s earlier report
     (record {
       network = network;
       fits = fits;
       guarded = accepted_is_guarded net plan accepted;
-      is = history_is_admitted (alone net plan) history is;
-      premises = subst (λ steps. IsTrue (all_but_start_hold (alone net plan) (seen_of steps))) (sym same)
-          (all_are_more (alone net plan) (seen_of (later ++ s ∷ earlier)) premises);
-      unstaged = subst (λ steps. IsTrue (no_stage (seen_of steps))) (sym same) unstaged;
-      based = subst (λ steps. IsTrue (within_base budget (seen_of steps))) (sym same) based;
-      held = subst (λ steps. IsTrue (within_hold budget steps)) (sym same) held;
-      failed = subst (λ steps. FailsSo net f (seen_of steps)) (sym same) failed;
-    }) same told counted
+      is = history_is_admitted (alone net plan) history (history_alone net plan others history none is);
+      premises = subst (λ steps. IsTrue (all_but_start_hold (alone net plan) (seen_of steps))) (sym steps)
+          (all_are_more (alone net plan) (seen_of (later ++ s ∷ earlier))
+          (sym (premises_same net plan others (seen_of (later ++ s ∷ earlier)) first) ∙ premises));
+      unstaged = subst (λ steps. IsTrue (no_stage (seen_of steps))) (sym steps) unstaged;
+      based = subst (λ steps. IsTrue (within_base budget (seen_of steps))) (sym steps) based;
+      held = subst (λ steps. IsTrue (within_hold budget steps)) (sym steps) held;
+      failed = subst (λ steps. FailsSo net f (seen_of steps)) (sym steps) failed;
+    }) steps told counted
+  where
+    none : list_all (λ e. not (is_stage e)) history ≡ true
+    none =
+        none_staged_in net plan others (setting_over net (plan ∷ others)) history
+        (subst (λ steps. IsTrue (no_stage (seen_of steps))) (sym same) unstaged)
+
+    -- as of this plan alone
+    steps : chronicle (alone net plan) history ≡ later ++ s ∷ earlier
+    steps = sym (chronicle_same net plan others history none) ∙ same
+
+    first : is_first_era (seen_of (later ++ s ∷ earlier)) ≡ true
+    first = subst (λ steps. is_first_era (seen_of steps) ≡ true) steps (stays_first net plan others history none)

@@ -4,6 +4,7 @@ pub mod Bounded
 pub mod Calm
 pub mod Hearing
 pub mod Closing
+pub mod Entered
 pub mod Renewed
 pub mod RenewedBound
 pub mod ages

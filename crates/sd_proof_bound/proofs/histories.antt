@@ -15,8 +15,11 @@
 -- A history is a part of a longer one where it is a `Tail` of it (`messages`); whatever is
 -- given of a run that recovers is given of each such part, but for its failures, which may be yet to
 -- come.
+--
+-- Such a history is one of its first plan alone, whatever plans come after it (`Unstaged`).
 -- Histories without a stage.
 pub mod Plain
 pub mod Lives
 pub mod Failures
 pub mod Standing
+pub mod Unstaged

@@ -13,7 +13,7 @@ use Rattle.sd_proof_safety.specs.Core.Words.{estimate_now}
 use Rattle.sd_proof_safety.specs.Sched.declared.Event.{Event}
 use Rattle.sd_proof_safety.specs.Sched.Events.{reference_of, device_of, counter_of, is_stage}
 use Rattle.sd_proof_safety.specs.History.Things.{failure_of}
-use Rattle.sd_proof_safety.specs.History.World.{Seen, is_counted, alone}
+use Rattle.sd_proof_safety.specs.History.World.{Seen, is_counted, setting_over, alone}
 use Rattle.sd_proof_safety.specs.History.Steps.{Step, seen_of, acts_in}
 use Rattle.sd_proof_safety.specs.History.Chronicle.{chronicle, past_in, IsHistory}
 use Rattle.sd_proof_safety.specs.Sched.Honesty.{clock_set}
@@ -54,15 +54,15 @@ pub record FailsAtOnce (net : Network) (f : DomainId) (seen : List Seen) (refere
 abbrev pub FailsSo : Network → DomainId → List Seen → Type 0
 FailsSo net f seen = (failures seen ≡ []) ⊎ ((reference : ℕ) × FailsAtOnce net f seen reference)
 
--- No report of the device while it is live is above w: on every history under this plan alone, without a stage, in which nothing fails or the
--- domain fails at once, while no premise is broken, clocks are set within the base, and acting roots hold their estimates no longer than the
--- budget says. All this is said of the whole history; the report may come anywhere in it, also while some things of the domain have failed and
--- others are yet to.
+-- No report of the device while it is live is above w: on every history without a stage under this plan, whatever plans come after it, in which
+-- nothing fails or the domain fails at once, while no premise is broken, clocks are set within the base, and acting roots hold their estimates
+-- no longer than the budget says. All this is said of the whole history; the report may come anywhere in it, also while some things of the
+-- domain have failed and others are yet to. Live is who is up and a member of this plan.
 abbrev pub StaysBelow : Network → Plan → Budget → DomainId → (d w : ℕ) → Type 0
 StaysBelow net plan budget f d w =
-    (history : List Event) (later : List Step) (s : Step) (earlier : List Step) (report : Report)
-    → IsHistory (alone net plan) history → chronicle (alone net plan) history ≡ later ++ s ∷ earlier
-    → IsTrue (all_hold (alone net plan) (seen_of (later ++ s ∷ earlier)))
+    (others : List Plan) (history : List Event) (later : List Step) (s : Step) (earlier : List Step) (report : Report)
+    → IsHistory (setting_over net (plan ∷ others)) history → chronicle (setting_over net (plan ∷ others)) history ≡ later ++ s ∷ earlier
+    → IsTrue (all_hold (setting_over net (plan ∷ others)) (seen_of (later ++ s ∷ earlier)))
     → IsTrue (no_stage (seen_of (later ++ s ∷ earlier))) → IsTrue (within_base budget (seen_of (later ++ s ∷ earlier)))
     → IsTrue (within_hold budget (later ++ s ∷ earlier))
     → FailsSo net f (seen_of (later ++ s ∷ earlier))

@@ -11,6 +11,7 @@ pub mod Steady
 pub mod Tight
 pub mod Calm
 pub mod Closing
+pub mod Entered
 pub mod Renewed
 pub mod RenewedBound
 pub mod RenewedBases

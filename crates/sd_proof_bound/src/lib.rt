@@ -5,8 +5,10 @@
 //! # The result
 //!
 //! `bound_holds` (proofs/Bounded) is `BoundHolds net plan budget f` for every topology, plan, budget
-//! and domain, with nothing assumed. `BoundHolds` stands in specs/Bound, with the premises on the
-//! history. `sd_top` stands on it: it is the clause `bounds` of `run`.
+//! and domain, with nothing assumed. `BoundHolds` stands in specs/Holding, and the premises on the
+//! history in specs/Bound. Plans that come after this one change nothing of a history without a
+//! stage: it is one of this plan alone (`history_alone`, proofs/histories/Unstaged). `sd_top` stands
+//! on `bound_holds`: it is the clause `bounds` of `run`.
 //!
 //! `hears_again` (proofs/Hearing) says how soon all hear again, by one time for all devices and all
 //! domains (`recovery`). `hears_by_age` and `hears_by_bound` say it by the age of the drill, and by
@@ -20,7 +22,8 @@
 //! smaller number of each device. `calm_holds` (specs/Calm) is the number of each device while nothing
 //! has failed. The others are on histories with any number of renewals. `enter_in_time` and
 //! `seals_close` (specs/Closing): when all members have entered a staged plan, and which seal closes
-//! its window. `stays_settled` (specs/Renewed): how devices stand and hear after a renewal, while
+//! its window. `entered_is_own` (specs/Entered): who has entered, as an onlooker sees it, has the
+//! staged plan as its own. `stays_settled` (specs/Renewed): how devices stand and hear after a renewal, while
 //! nothing has failed since. `hears_again_renewed`, `ages_hold_renewed` and `bound_holds_renewed`
 //! (specs/RenewedBound): the same once things of a domain fail. `drill_holds_renewed`
 //! (specs/RenewedBases): no report is above the number of the drill then.

@@ -1,4 +1,4 @@
--- A plan whose hops all lead to the root or to the backup root is accepted where tests that compute hold of each domain and each device.
+-- A plan whose walks have three hops at most is accepted where tests that compute hold of each domain and each device.
 use Rattle.std.specs.Prelude.{◌≡◌, ℕ, zero, suc, ◌<◌, ◌≤◌, Bool, true, false, ◌&&◌, ◌||◌, not, List, [], ◌∷◌, ◌++◌, length, nat_eq, find, slice_get, Option, Some, None, option_to_list, option_map, is_none, if◌then◌else◌}
 use Rattle.std.specs.List.{list_any, list_all}
 use Rattle.std.proofs.Common.{refl, sym, ap, ◌∙◌, subst, arith, inl, inr}
@@ -69,6 +69,11 @@ passes net test d all within =
 abbrev pub leads_to_ends : Network → Plan → DomainId → ℕ → Bool
 leads_to_ends net plan f d = list_all (λ hop. ends_walks plan hop.parent) (hops_of net plan f d)
 
+-- no walk from the device has more than n hops
+abbrev pub ends_within : Network → Plan → DomainId → ℕ → ℕ → Bool
+ends_within net plan f zero d = list_all (λ hop. false) (hops_of net plan f d)
+ends_within net plan f (suc n) d = list_all (λ hop. ends_within net plan f n hop.parent) (hops_of net plan f d)
+
 -- the device is hit, and the domain has its backup
 abbrev pub loses : Network → Plan → DomainId → ℕ → Bool
 loses net plan f d =
@@ -88,7 +93,7 @@ is_fed net plan f (suc n) d =
 abbrev pub withstands : Network → Plan → DomainId → Bool
 withstands net plan f =
     is_none (root_breach net plan f)
-    && (all_pass net (leads_to_ends net plan f)
+    && (all_pass net (ends_within net plan f 3)
     && (all_pass net (λ d. not (loses net plan f d))
     && all_pass net (λ d. not (is_sound net plan f d) || is_fed net plan f 3 d)))
 
@@ -133,13 +138,13 @@ fed_by net plan f (suc n) d fed =
 -- the four parts of a test of a domain
 record Parts (net : Network) (plan : Plan) (f : DomainId) : Type 0 where
   root : is_none (root_breach net plan f) ≡ true
-  ends : all_pass net (leads_to_ends net plan f) ≡ true
+  ends : all_pass net (ends_within net plan f 3) ≡ true
   backups : all_pass net (λ d. not (loses net plan f d)) ≡ true
   fed : all_pass net (λ d. not (is_sound net plan f d) || is_fed net plan f 3 d) ≡ true
 
 parts : (net : Network) (plan : Plan) (f : DomainId) → withstands net plan f ≡ true → Parts net plan f
 parts net plan f holds =
-    let ends : Bool = all_pass net (leads_to_ends net plan f) in
+    let ends : Bool = all_pass net (ends_within net plan f 3) in
     let backups : Bool = all_pass net (λ d. not (loses net plan f d)) in
     let fed : Bool = all_pass net (λ d. not (is_sound net plan f d) || is_fed net plan f 3 d) in
     let (one, rest) = and_parts (is_none (root_breach net plan f)) (ends && (backups && fed)) holds in
@@ -215,11 +220,46 @@ module _ (net : Network) (plan : Plan) (fits : Fits net plan) where
           absurd (both_ways (ends_walks plan hop.parent)
           (no_end f hop.parent next (and_parts (list_any (same_hop next) (hops_of net plan f hop.parent)) (is_walk net plan f next.parent hs) rest).0) ends)
 
-  no_cycle : (f : DomainId) → all_pass net (leads_to_ends net plan f) ≡ true → HasNoCycle net plan f
+  -- a walk that comes back can begin at its second device
+  turned : (f : DomainId) (d e : ℕ) (hop : Hop) (hs : List Hop) → list_any (same_hop hop) (hops_of net plan f d) ≡ true → is_walk net plan f e hs ≡ true
+      → end_of e hs ≡ d → (is_walk net plan f e (hs ++ hop ∷ []) ≡ true) × (end_of e (hs ++ hop ∷ []) ≡ hop.parent)
+  turned f d e hop [] here walked same = (
+    and_from (list_any (same_hop hop) (hops_of net plan f e)) true (subst (λ x. list_any (same_hop hop) (hops_of net plan f x) ≡ true) (sym same) here) refl,
+    refl,
+  )
+  turned f d e hop (next ∷ hs) here walked same =
+      let (one, rest) = and_parts (list_any (same_hop next) (hops_of net plan f e)) (is_walk net plan f next.parent hs) walked in
+      let (more, ends) = turned f d next.parent hop hs here rest same in
+      (and_from (list_any (same_hop next) (hops_of net plan f e)) (is_walk net plan f next.parent (hs ++ hop ∷ [])) one more, ends)
+
+  -- where walks from a device have n hops at most, none comes back to it
+  none_back : (f : DomainId) (n d : ℕ) → ends_within net plan f n d ≡ true → (hop : Hop) (hs : List Hop) → is_walk net plan f d (hop ∷ hs) ≡ true
+      → end_of hop.parent hs ≡ d → ⊥
+  none_back f zero d all hop hs walked same =
+      nothing (among (λ x. false) hop (hops_of net plan f d) all
+      (and_parts (list_any (same_hop hop) (hops_of net plan f d)) (is_walk net plan f hop.parent hs) walked).0)
+    where
+      nothing : false ≡ true → ⊥
+      nothing h = cc
+  none_back f (suc n) d all hop hs walked same =
+      let (here, rest) = and_parts (list_any (same_hop hop) (hops_of net plan f d)) (is_walk net plan f hop.parent hs) walked in
+      let within = among (λ x. ends_within net plan f n x.parent) hop (hops_of net plan f d) all here in
+      by hs rest same here within (none_back f n hop.parent within)
+    where
+      by : (hs : List Hop) → is_walk net plan f hop.parent hs ≡ true → end_of hop.parent hs ≡ d → list_any (same_hop hop) (hops_of net plan f d) ≡ true
+          → ends_within net plan f n hop.parent ≡ true
+          → ((next : Hop) (hs : List Hop) → is_walk net plan f hop.parent (next ∷ hs) ≡ true → end_of next.parent hs ≡ hop.parent → ⊥) → ⊥
+      by [] rest same here within never =
+          let (more, ends) = turned f d hop.parent hop [] here rest same in never hop [] more ends
+      by (next ∷ hs) rest same here within never =
+          let (more, ends) = turned f d hop.parent hop (next ∷ hs) here rest same in never next (hs ++ hop ∷ []) more ends
+
+  no_cycle : (f : DomainId) → all_pass net (ends_within net plan f 3) ≡ true → HasNoCycle net plan f
   no_cycle f all d hop hs walked same =
-      let (none, here, ends) = one_hop f all d hop hs walked in
-      let back : hop.parent ≡ d = sym (ap (end_of hop.parent) none) ∙ same in
-      both_ways (ends_walks plan d) (no_end f d hop here) (subst (λ x. ends_walks plan x ≡ true) back ends)
+      elim (cases_lt d (length net.devices)) [
+        | inl within ↦ none_back f 3 d (passes net (ends_within net plan f 3) d all within) hop hs walked same
+        | inr past ↦ none_back f 3 d (ap (list_all (λ (x : Hop). ends_within net plan f 2 x.parent)) (no_hops f d past)) hop hs walked same
+      ]
 
   keeps_backups : (f : DomainId) → all_pass net (λ d. not (loses net plan f d)) ≡ true → DomainHolds net plan f
   keeps_backups f all d lost =
@@ -249,6 +289,25 @@ module _ (net : Network) (plan : Plan) (fits : Fits net plan) where
       by true b is holds = holds
       by false b is holds = cc
 
+  -- what is asked of each domain, condition by condition
+  pub record MeetsOfDomains : Type 0 where
+    pub root : Each (λ f. root_breach net plan f ≡ None) (domains net)
+    pub loop : Each (HasNoCycle net plan) (domains net)
+    pub domain : Each (DomainHolds net plan) (domains net)
+    pub reach : Each (ReachHolds net plan) (domains net)
+
+  pub meets_of_domains : list_all (withstands net plan) (domains net) ≡ true → MeetsOfDomains
+  meets_of_domains each =
+      record {
+        root = of_each (λ f. root_breach net plan f ≡ None) (λ f of_domain. is_none-None (root_breach net plan f) of_domain.root);
+        loop = of_each (HasNoCycle net plan) (λ f of_domain. no_cycle f of_domain.ends);
+        domain = of_each (DomainHolds net plan) (λ f of_domain. keeps_backups f of_domain.backups);
+        reach = of_each (ReachHolds net plan) (λ f of_domain. reaches f of_domain.fed);
+      }
+    where
+      of_each : (P : DomainId → Type 0) → ((f : DomainId) → Parts net plan f → P f) → Each P (domains net)
+      of_each P tells = each_of P (withstands net plan) (domains net) (λ f holds. tells f (parts net plan f holds)) each
+
   pub accepted_by : is_accepted net plan ≡ true → IsAccepted net plan
   accepted_by tests =
       let all : Bool = list_all (withstands net plan) (domains net) in
@@ -256,16 +315,13 @@ module _ (net : Network) (plan : Plan) (fits : Fits net plan) where
       let (structure, rest) = and_parts (is_none (structure_breach net plan)) (is_none (ancestor_breach net plan) && (timed && all)) tests in
       let (ancestor, rest) = and_parts (is_none (ancestor_breach net plan)) (timed && all) rest in
       let (timing, each) = and_parts timed all rest in
+      let of_domains : MeetsOfDomains = meets_of_domains each in
       record {
         structure = is_none-None (structure_breach net plan) structure;
         ancestor = is_none-None (ancestor_breach net plan) ancestor;
         timing = is_none-None (timing_breach net plan) timing;
-        root = of_each (λ f. root_breach net plan f ≡ None) each (λ f of_domain. is_none-None (root_breach net plan f) of_domain.root);
-        loop = of_each (HasNoCycle net plan) each (λ f of_domain. no_cycle f of_domain.ends);
-        domain = of_each (DomainHolds net plan) each (λ f of_domain. keeps_backups f of_domain.backups);
-        reach = of_each (ReachHolds net plan) each (λ f of_domain. reaches f of_domain.fed);
+        root = of_domains.root;
+        loop = of_domains.loop;
+        domain = of_domains.domain;
+        reach = of_domains.reach;
       }
-    where
-      of_each : (P : DomainId → Type 0) → list_all (withstands net plan) (domains net) ≡ true → ((f : DomainId) → Parts net plan f → P f)
-          → Each P (domains net)
-      of_each P each tells = each_of P (withstands net plan) (domains net) (λ f holds. tells f (parts net plan f holds)) each

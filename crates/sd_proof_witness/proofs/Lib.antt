@@ -7,3 +7,4 @@ mod Read
 pub mod Renewed
 pub mod Recovered
 pub mod mended
+pub mod straggler

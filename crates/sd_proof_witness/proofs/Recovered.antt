@@ -120,7 +120,7 @@ below_bound f d told w history recovers worst reported counts = by (steps_under 
         → was_counted (alone network first_plan) steps d ≡ true → told.eps ≤ w
     by [] is reported counts = cc
     by (s ∷ earlier) is reported counts =
-        bound_holds network first_plan budget f recovers.network recovers.fits recovers.accepted d w worst history [] s earlier told recovers.is is
+        bound_holds network first_plan budget f recovers.network recovers.fits recovers.accepted d w worst [] history [] s earlier told recovers.is is
         (subst (λ (steps : List Step). IsTrue (all_hold (alone network first_plan) (seen_of steps))) is recovers.premises)
         (subst (λ (steps : List Step). IsTrue (no_stage (seen_of steps))) is recovers.unstaged)
         (subst (λ (steps : List Step). IsTrue (within_base budget (seen_of steps))) is recovers.based)

@@ -4,3 +4,4 @@ pub mod Schedules
 pub mod Values
 pub mod Witnesses
 pub mod mended
+pub mod straggler

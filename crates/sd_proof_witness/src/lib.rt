@@ -25,9 +25,13 @@
 //!   root is fixed, and a renewal mends the link, lets a device join and closes at line 357
 //!   (`IsMended`). Its texts are no files of an example: specs/mended/Texts has them.
 //!
+//! - `fifth_is_needed` (proofs/straggler/Looped): a plan that breaks the fifth rule of timing and no
+//!   other condition, with a history of 489 events that breaks no premise and ends with a loop
+//!   (`FifthIsNeeded`). The plans are those of examples/needed/straggler.
+//!
 //! # How
 //!
 //! `Values` has what the texts say. `Accepting` is a test of a plan that computes, and that only an
-//! accepted plan passes: it is for plans whose hops all lead to the root or to the backup root.
+//! accepted plan passes: it is for plans whose walks have three hops at most.
 //! `Histories` does the same for histories. All other facts compute.
 #![tactic(auto)]

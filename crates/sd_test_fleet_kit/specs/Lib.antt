@@ -1,3 +1,5 @@
+-- Nodes of other kinds than a device.
+pub mod Kinds
 -- Handed on: what crates above name of those below.
 pub use Rattle.sd_clock.specs as Clock
 pub use Rattle.sd_topo.specs as Topo

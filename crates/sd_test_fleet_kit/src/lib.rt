@@ -1,8 +1,9 @@
-//! What the tests of fleets and replays share: worked fleets (`examples`), and a plain slow program
-//! that says what a fleet is to do (`plain`).
+//! What the tests of fleets and replays share: worked fleets (`examples`), nodes of other kinds
+//! than a device (`kinds`), and a plain slow program that says what a fleet is to do (`plain`).
 #![tactic(auto)]
 
 pub mod examples;
+pub mod kinds;
 pub mod plain;
 
 // Handed on to crates above.

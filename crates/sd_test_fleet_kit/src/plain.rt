@@ -12,7 +12,7 @@ mod things;
 mod turns;
 mod windows;
 
-pub use history::{Plain, Sent, Step, Subject, Transition};
+pub use history::{NodeKind, Plain, Sent, Step, Subject, Transition};
 pub use net::Net;
 pub use numbers::Numbers;
 pub use things::{failed_by, mended_by, received_by, used_by};

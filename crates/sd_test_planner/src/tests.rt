@@ -1,5 +1,6 @@
 //! Greedy plans of small networks that are read.
 mod counted;
+mod drafts;
 mod places;
 mod plain;
 mod plans;

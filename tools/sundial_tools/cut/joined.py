@@ -2,38 +2,25 @@
 
 from __future__ import annotations
 
-from typing import Iterable, Iterator, List, NamedTuple, Set, Tuple
+from typing import Iterable, Iterator, List, Optional, Set, Tuple
 
 from sundial_tools.cut.parts import Row
-from sundial_tools.outputs import PREMISES
 
 DONE, REFUSED, BROKEN = 0, 3, 7
 AT = {"report": 1, "broken": 1, "alarm": 1, "input": 2}
 
 
-class Told(NamedTuple):
-    """A line of the whole. `place` orders the lines of one event: premises come first."""
-
-    line: int
-    place: int
-    kind: str
-    text: str
-    in_opening: bool
-
-
 class Joined:
     """Takes the lines of each part in turn. `status` is that of the whole so far.
 
-    A premise that broke is named once. A part goes on behind the beginning of the next one: there its `broken` lines count,
-    and no others. What broke in an opening stands at the first line of its part, and is left out where something broke before:
-    then it may be a consequence. `left_out` has it.
+    A premise that broke is named once. A line of an opening is none of the whole: a report is asked for there anew, and what
+    breaks there follows from what broke before. `left_out` has what is no report.
     """
 
     def __init__(self) -> None:
         self.status = DONE
         self.left_out: List[str] = []
         self._named: Set[str] = set()
-        self._late: List[Told] = []
         self._lines = self._reports = 0
         self._over = False
 
@@ -42,9 +29,6 @@ class Joined:
         if self._over:
             return
         self._lines += row.lines
-        behind = row.first_line + row.lines
-        found = [one for one in self._late if one.line < behind]
-        self._late = [one for one in self._late if one.line >= behind]
         for line in told:
             words = line.split(" ")
             if words[0] == "done":
@@ -53,49 +37,37 @@ class Joined:
                 self.status, self._over = 1 if words[0] == "refused" else REFUSED, True
                 yield line
                 return
-            self._sort(words, row, found)
-        for one in sorted(found, key=lambda one: one[:2]):
-            if self._counts(one):
-                yield one.text
+            text = self._counted(words, row)
+            if text is not None:
+                yield text
             if self._over:
                 return
 
     def end(self) -> Iterator[str]:
-        if self._late:
-            yield from self.lines(Row("", 1, 0, self._late[-1].line + 1, 0, 0, "", 0, 0), [])
         if not self._over:
             yield f"done {self._lines} {self._reports}"
 
-    def _sort(self, words: List[str], row: Row, found: List[Told]) -> None:
+    def _counted(self, words: List[str], row: Row) -> Optional[str]:
+        """The line with the number and the times of the whole, where it is one of the whole. What follows from it is kept."""
         at, kind = AT[words[0]], words[0]
-        number = int(words[at])
-        in_opening, is_late = number <= row.opening, row.overlap > 0 and number > row.opening + row.lines
-        line = row.first_line + (0 if in_opening else number - row.opening - 1)
-        words[at] = str(line)
+        number = int(words[at]) - row.opening
+        words[at] = str(row.first_line + number - 1)
+        if number < 1 and kind != "input":
+            if kind != "report":
+                self.left_out.append(" ".join(words))
+            return None
         if kind == "report":
             words[3] = str(int(words[3]) + row.moved)
+            self._reports += 1
         elif kind == "alarm" and words[2] == "interval":
             words[4] = str(int(words[4]) + row.moved)
-        place = PREMISES.index(words[2]) if kind == "broken" else len(PREMISES)
-        if not is_late:
-            found.append(Told(line, place, kind, " ".join(words), in_opening))
-        elif kind == "broken":
-            self._late.append(Told(line, place, kind, " ".join(words), in_opening))
-
-    def _counts(self, one: Told) -> bool:
-        """Whether the line is one of the whole. What follows from it is kept."""
-        if one.in_opening and self.status == BROKEN:
-            self.left_out.append(one.text)
-            return False
-        if one.kind == "broken":
-            premise = PREMISES[one.place]
-            if premise in self._named:
-                return False
-            self._named.add(premise)
-        self._reports += one.kind == "report"
-        self.status = REFUSED if one.kind == "input" else BROKEN if one.kind != "report" else self.status
-        self._over = one.kind == "input"
-        return True
+        elif kind == "broken" and words[2] in self._named:
+            return None
+        if kind == "broken":
+            self._named.add(words[2])
+        self._over = kind == "input"
+        self.status = REFUSED if self._over else BROKEN if kind != "report" else self.status
+        return " ".join(words)
 
 
 def joined(parts: Iterable[Tuple[Row, Iterable[str]]]) -> Tuple[int, List[str]]:

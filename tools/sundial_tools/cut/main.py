@@ -12,12 +12,12 @@ import tempfile
 import threading
 from collections import deque
 from concurrent.futures import Future, ThreadPoolExecutor
-from typing import Callable, Deque, Iterable, Iterator, List, NamedTuple, Optional, Sequence, Tuple
+from typing import Callable, Deque, Iterator, List, NamedTuple, Optional, Sequence, Tuple
 
 from sundial_tools.cut.cutter import NEVER, Cutter, lines_before, rounds_before
 from sundial_tools.cut.joined import Joined
 from sundial_tools.cut.opening import Opening
-from sundial_tools.cut.parts import HEADER, TABLE, Part, Row
+from sundial_tools.cut.parts import HEADER, TABLE, Part, Row, plans_of
 from sundial_tools.errors import ToolError
 from sundial_tools.fleet.fleet import Fleet
 from sundial_tools.inputs import as_files
@@ -42,7 +42,7 @@ class Wish(NamedTuple):
 class Cutting:
     """Cuts the lines of a schedule into parts, as files of a directory. Without one it only looks where it could.
 
-    Far from each wished cut the lines are skimmed: the fleet takes them, and nothing is kept for an opening.
+    Far from each wished cut the lines are skimmed: the fleet takes them, and what they read is kept for an opening, no more.
     """
 
     def __init__(self, topology: Topology, plans: Sequence[Plan], wish: Wish, directory: Optional[str], finished: Finished) -> None:
@@ -50,8 +50,7 @@ class Cutting:
         self.cutter = Cutter(self._fleet, self._is_due)
         self._wish, self._directory, self._finished = wish, directory, finished
         self._at = sorted(wish.at, reverse=True)
-        # Those that go on: all but the last one for some rounds more.
-        self._parts: List[Part] = []
+        self._part: Optional[Part] = None
         self.cuts = self.parts = 0
         # From which line, or from which reference on, a cut is near; and since when all is kept for it.
         self._near_line = self._near_ref = NEVER
@@ -74,15 +73,16 @@ class Cutting:
             latest = event.ref
         if number == 0:
             raise ToolError("the schedule is empty", source)
-        self._finish(None, self._parts)
+        if self._part is not None:
+            self._finished(self._part.finish(None))
 
     def _is_due(self, line: int, ref: int) -> bool:
-        if not self._parts:
+        if self._part is None:
             return True
         if ref < self._near_since + self._rounds:
             return False
         if self._wish.every is not None:
-            return line - self._parts[-1].first_line >= self._wish.every
+            return line - self._part.first_line >= self._wish.every
         return bool(self._at) and ref >= self._at[-1]
 
     def _skim(self, number: int, text: str) -> bool:
@@ -93,46 +93,46 @@ class Cutting:
             self._is_far, self._near_since = False, ref
             self.cutter.begin()
             return False
-        if word == "tick" and len(words) == 4:
-            self._fleet.tick(ref, int(words[2]), int(words[3]))
-        elif word == "recv" and len(words) == 5:
-            self._fleet.receive(ref, int(words[2]), int(words[3]), int(words[4]))
-        elif word != "ask":
+        if word not in ("tick", "recv", "ask") or len(words) != (5 if word == "recv" else 4):
             return False
-        self._parts[0].skim(text, words)
+        device, counter = int(words[2]), int(words[3])
+        self.cutter.marks.read(device, ref, counter)
+        if word == "tick":
+            self._fleet.tick(ref, device, counter)
+        elif word == "recv":
+            self._fleet.receive(ref, device, counter, int(words[4]))
+        assert self._part is not None
+        self._part.skim(text, words)
         return True
 
     def _take(self, number: int, event: Event, text: str, latest: int) -> None:
-        opening = self.cutter.before(number, event)
+        opening = None if self._is_far else self.cutter.before(number, event)
         if self._directory is not None and (number == 1 or opening is not None):
-            self._begin_part(number, event, opening)
+            self._begin_part(number, event, opening, latest)
         self.cuts += opening is not None
-        while self._parts and self._parts[0].until == self.cutter.emissions:
-            self._finish(latest, [self._parts.pop(0)])
-        for part in self._parts:
-            part.add(event, text)
-        self.cutter.after(number, event, self._fleet.happen(event))
-        self._is_far = len(self._parts) == 1 and number < self._near_line and event.ref < self._near_ref
+        if self._part is not None:
+            self._part.add(event, text)
+        done = self._fleet.happen(event)
+        if self._is_far:
+            self.cutter.marks.glance(event, done)
+        else:
+            self.cutter.after(number, event, done)
+        self._is_far = self._part is not None and number < self._near_line and event.ref < self._near_ref
 
-    def _begin_part(self, number: int, event: Event, opening: Optional[Opening]) -> None:
-        topology = self._fleet.topology
-        for part in self._parts[-1:]:
-            part.until = self.cutter.emissions + topology.loss + 2
+    def _begin_part(self, number: int, event: Event, opening: Optional[Opening], latest: int) -> None:
+        if self._part is not None:
+            self._finished(self._part.finish(latest))
         self.parts += 1
         path = os.path.join(self._directory or "", f"part-{self.parts:04}.txt")
-        self._parts.append(Part(self._fleet, path, number, opening, self._wish.moves))
+        self._part = Part(path, number, opening, self._wish.moves)
         while self._at and event.ref >= self._at[-1]:
             self._at.pop()
         if self._wish.moves:
             self._near_line = 0
         elif self._wish.every is not None:
-            self._near_line = number + self._wish.every - lines_before(topology)
+            self._near_line = number + self._wish.every - lines_before(self._fleet.topology)
         else:
             self._near_ref = self._at[-1] - self._rounds if self._at else NEVER
-
-    def _finish(self, end: Optional[int], parts: Iterable[Part]) -> None:
-        for part in parts:
-            self._finished(part.finish(end))
 
 
 class Runs:
@@ -229,7 +229,7 @@ def _print(lines: Iterator[str]) -> None:
 
 def _tell_left_out(whole: Joined) -> None:
     for line in whole.left_out:
-        print(f"sundial-cut: left out, since a premise broke before the cut: {line}", file=sys.stderr)
+        print(f"sundial-cut: left out, since it is from an opening: {line}", file=sys.stderr)
 
 
 def _tell(cutting: Cutting, rows: Sequence[Row]) -> None:
@@ -239,7 +239,7 @@ def _tell(cutting: Cutting, rows: Sequence[Row]) -> None:
     for why, count in cutting.cutter.refused.most_common():
         print(f"sundial-cut: no cut at {count} emissions: {why}", file=sys.stderr)
     for row in rows:
-        if row.opening + row.lines + row.overlap + 1 > MOST_EVENTS:
+        if row.opening + row.lines + 1 > MOST_EVENTS:
             print(f"sundial-cut: {row.file} has more than {MOST_EVENTS} events, and a replay refuses it", file=sys.stderr)
 
 
@@ -261,7 +261,7 @@ def certified(program: str, options: argparse.Namespace, directory: str, before:
             text.writelines(itertools.islice(whole, lines))
             text.flush()
             names.append(text.name)
-        plans = [options.plan[it.first_plan - 1:] for it in (before, row)]
+        plans = [plans_of(options.plan, it.first_plan, it.copies) for it in (before, row)]
         words = [program, "resume", options.topology, *plans[0], names[0], "/", *plans[1], names[1]]
         done = subprocess.run(words, stdout=subprocess.PIPE, text=True, check=False)
     if done.returncode not in (0, 3, 7):
@@ -271,7 +271,7 @@ def certified(program: str, options: argparse.Namespace, directory: str, before:
 
 def replayed(program: str, options: argparse.Namespace, directory: str, row: Row) -> List[str]:
     """What the program prints over a part."""
-    words = [program, "replay", options.topology, *options.plan[row.first_plan - 1:], os.path.join(directory, row.file)]
+    words = [program, "replay", options.topology, *plans_of(options.plan, row.first_plan, row.copies), os.path.join(directory, row.file)]
     done = subprocess.run(words, stdout=subprocess.PIPE, text=True, check=False)
     if done.returncode not in (0, 1, 3, 7):
         raise ToolError(f"{program} replay ended with status {done.returncode}", row.file)

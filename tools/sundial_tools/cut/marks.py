@@ -1,12 +1,13 @@
-"""Where each device of a fleet could start anew: where it heard last, or sent last as root."""
+"""What an opening has to bring back of the events before it: docs/LONG-RUNS.md."""
 
 from __future__ import annotations
 
-from typing import Dict, NamedTuple, Tuple
+from typing import Any, Dict, List, NamedTuple, Set, Tuple
 
-from sundial_tools.fleet.device import Device
+from sundial_tools.fleet.device import MILLION, Device
 from sundial_tools.fleet.fleet import Fleet
 from sundial_tools.schedule import Event
+from sundial_tools.topology import Device as Rates
 
 Thing = Tuple[str, int]
 
@@ -21,18 +22,52 @@ class Mark(NamedTuple):
     eps: int
 
 
-class Marks:
-    """Is told each event behind it, with what it brought. `set_lines` has where an estimate was set last.
+class Drift:
+    """The readings of a device since its start that a later one must keep its rate with: those with the two least offsets.
 
-    Where some ticks and receipts were not told, it is to `forget` what it knows of devices.
+    `fast` is least where the counter was slowest so far, `slow` where it was fastest. `rates` are 10^6 less ppm, and more.
+    """
+
+    __slots__ = ("rates", "_grain", "fast", "fast_at", "slow", "slow_at")
+
+    def __init__(self, rates: Rates, ref: int, counter: int) -> None:
+        self.rates, self._grain = (MILLION - rates.ppm, MILLION + rates.ppm), MILLION * rates.grain
+        self.fast, self.slow = self.rates[0] * counter - MILLION * ref, MILLION * ref - self.rates[1] * counter
+        self.fast_at = self.slow_at = ref, counter
+
+    def read(self, ref: int, counter: int) -> bool:
+        """Takes a reading. Answers whether it keeps the rate with all before it."""
+        fast, slow = self.rates[0] * counter - MILLION * ref, MILLION * ref - self.rates[1] * counter
+        keeps = fast <= self.fast + self._grain and slow <= self.slow + self._grain
+        if fast <= self.fast:
+            self.fast, self.fast_at = fast, (ref, counter)
+        if slow <= self.slow:
+            self.slow, self.slow_at = slow, (ref, counter)
+        return keeps
+
+    def hull(self, counter: int) -> Tuple[int, int]:
+        """The first and the last reference at which a reading of this counter lowers neither offset."""
+        return -((-self.slow - self.rates[1] * counter) // MILLION), (self.rates[0] * counter - self.fast) // MILLION
+
+
+class Marks:
+    """Is told each event behind it, with what it brought.
+
+    Where some ticks and receipts were told to `read` alone, it is to `forget` where devices heard.
     """
 
     def __init__(self, fleet: Fleet) -> None:
         self.fleet = fleet
+        # Where each device heard last, or sent last as root; and where its estimate was set last.
         self.of: Dict[int, Mark] = {}
         self.set_lines: Dict[int, int] = {}
-        # What failed since the latest closing, with the reference of its latest failure.
+        self.drifts: Dict[int, Drift] = {}
+        # What failed since the latest closing, with the reference of its latest failure; and what has failed since before
+        # that, of each time between two closings.
         self.failed_since: Dict[Thing, int] = {}
+        self.failed_before: List[List[Thing]] = []
+        # Which of *start*, *drift* and *loss* are known to have broken: an opening need not keep what they look at.
+        self.broken: Set[str] = set()
 
     def forget(self) -> None:
         self.of.clear()
@@ -55,12 +90,50 @@ class Marks:
             self._mark(line, event)
         self.glance(event, done)
 
+    def read(self, device: int, ref: int, counter: int) -> None:
+        """A device has read its counter."""
+        if not self.drifts[device].read(ref, counter):
+            self.broken.add("drift")
+
     def glance(self, event: Event, done: str) -> None:
         """Keeps what is kept of each event, also where no cut is near."""
-        if event.word == "fail":
-            self.failed_since[event.thing or "", event.number or 0] = event.ref
+        word, device, counter = event.word, event.device, event.counter
+        if device is not None and counter is not None:
+            if word in ("start", "join"):
+                self.drifts[device] = Drift(self.fleet.topology.devices[device], event.ref, counter)
+            else:
+                self.read(device, event.ref, counter)
+        if event.clock is not None and abs(event.clock - event.ref) > (event.eps or 0):
+            self.broken.add("start")
+        if word == "fail":
+            thing = event.thing or "", event.number or 0
+            self.failed_since[thing] = event.ref
+            self.failed_before = [[it for it in phase if it != thing] for phase in self.failed_before]
         if done == "close":
-            self.failed_since = {}
+            self._close()
+
+    def _close(self) -> None:
+        fleet = self.fleet
+        phases = [*self.failed_before, sorted(self.failed_since)]
+        left = [[it for it in phase if it[1] in (fleet.failed_devices if it[0] == "device" else fleet.failed_links)] for phase in phases]
+        self.failed_before, self.failed_since = [phase for phase in left if phase], {}
+
+    def state(self) -> Dict[str, Any]:
+        """What has to be kept of it over a cut, as data."""
+        return {
+            "drifts": {number: [*it.fast_at, *it.slow_at] for number, it in self.drifts.items()},
+            "since": [[*thing, ref] for thing, ref in self.failed_since.items()], "before": self.failed_before,
+            "broken": sorted(self.broken),
+        }
+
+    def resume(self, state: Dict[str, Any]) -> None:
+        """Takes up what was kept."""
+        for number, (ref, counter, *slow) in state["drifts"].items():
+            self.drifts[int(number)] = drift = Drift(self.fleet.topology.devices[int(number)], ref, counter)
+            drift.read(*slow)
+        self.failed_since = {(kind, number): ref for kind, number, ref in state["since"]}
+        self.failed_before = [[(kind, number) for kind, number in phase] for phase in state["before"]]
+        self.broken = set(state["broken"])
 
     def _state(self, event: Event) -> Device:
         return self.fleet.devices[event.device or 0]

@@ -3,8 +3,7 @@
 from __future__ import annotations
 
 import contextlib
-import sys
-from typing import Iterable, Iterator, NamedTuple, Optional, TextIO, Tuple, Union
+from typing import Iterable, Iterator, NamedTuple, Optional, TextIO, Tuple
 
 from sundial_tools.errors import ToolError
 from sundial_tools.exchanges.exchange import Exchange, ExchangeWriter, LeftOut
@@ -12,6 +11,7 @@ from sundial_tools.exchanges.ntpdata import Sample, read_ntpdata
 from sundial_tools.exchanges.pairing import Pairings, Port
 from sundial_tools.exchanges.peers import Peers
 from sundial_tools.exchanges.ptp_events import read_capture
+from sundial_tools.inputs import read_lines
 from sundial_tools.safe_write import Progress, whole_output
 from sundial_tools.topology import Topology
 
@@ -73,9 +73,9 @@ def _port(task: Task, peer: str, line: int) -> Optional[Port]:
 @contextlib.contextmanager
 def _writing(task: Task) -> Iterator[Tuple[ExchangeWriter, Iterable[str]]]:
     """A writer and the lines of the input. Where no exchange was written nothing is."""
-    with whole_output(task.output) as output, _open(task.source) as file, Progress(task.source) as progress:
+    with whole_output(task.output) as output, Progress(task.source) as progress:
         writer = ExchangeWriter(task.topology, task.asymmetry, task.hold, output, LeftOut())
-        yield writer, _stepped(file, progress)
+        yield writer, _stepped(read_lines(task.source), progress)
         if not writer.written:
             raise ToolError(_nothing_left(writer, task.hold), task.source)
         writer.end()
@@ -86,11 +86,6 @@ def _nothing_left(writer: ExchangeWriter, hold: int) -> str:
         return f"no exchange was held for at most {hold} ps; the shortest was held for {writer.shortest} ps (--hold)"
     reasons = "; ".join(writer.left_out.lines())
     return "the input has no exchange" + (f": {reasons}" if reasons else "")
-
-
-def _open(path: str) -> TextIO:
-    file: Union[int, str] = sys.stdin.fileno() if path == "-" else path
-    return open(file, encoding="utf-8", newline="\n", closefd=path != "-")
 
 
 def _stepped(lines: Iterable[str], progress: Progress) -> Iterator[str]:

@@ -13,7 +13,7 @@ from sundial_tools.exchanges.convert import Task, convert_chrony, convert_ptp
 from sundial_tools.exchanges.exchange import MOST_ASYMMETRY
 from sundial_tools.exchanges.peers import Peers
 from sundial_tools.safe_write import whole_output
-from sundial_tools.times import picoseconds
+from sundial_tools.times import time_option, written
 from sundial_tools.topology import read_topology
 
 DEFAULT_HOLD = 10**9
@@ -29,7 +29,7 @@ def _parser() -> argparse.ArgumentParser:
     parser = argparse.ArgumentParser(
         prog="sundial-exchanges",
         description="Makes an exchanges text for `sundial twoway` from what ptp4l or chrony measured.",
-        epilog="All times are picoseconds, or a number with ps, ns, us, ms or s. Standard error says what is left out. See docs/EXCHANGES-FROM-PTP.md.",
+        epilog="A time is a number and its unit, ps, ns, us, ms or s, as 20us. Standard error says what is left out. See docs/EXCHANGES.md.",
     )
     commands = parser.add_subparsers(required=True, metavar="COMMAND")
     listening = commands.add_parser("capture", help="keep the events that ptp4l sends to its slave_event_monitor")
@@ -56,16 +56,16 @@ def _add_conversion(parser: argparse.ArgumentParser, name: str, command: Callabl
     parser.add_argument(
         "--asymmetry",
         required=True,
-        type=_number(0, MOST_ASYMMETRY),
-        metavar="PS",
+        type=time_option(0, MOST_ASYMMETRY),
+        metavar="TIME",
         help="by how much the two delays of an exchange may differ; no measurement shows it",
     )
     parser.add_argument(
         "--hold",
-        type=_number(0, 10**15),
+        type=time_option(0, 10**15),
         default=DEFAULT_HOLD,
-        metavar="PS",
-        help=f"leave out exchanges whose answer was held longer (default: {DEFAULT_HOLD})",
+        metavar="TIME",
+        help=f"leave out exchanges whose answer was held longer (default: {written(DEFAULT_HOLD)})",
     )
     parser.add_argument("--output", "-o", metavar="FILE", help="where the exchanges go (default: standard output)")
     parser.set_defaults(command=lambda said: _convert(said, command))
@@ -79,16 +79,6 @@ def _seconds(text: str) -> float:
     if not 0 <= seconds <= MOST_SECONDS:
         raise argparse.ArgumentTypeError(f"{text!r} is no number of seconds from 0 to {MOST_SECONDS}")
     return seconds
-
-
-def _number(least: int, most: int) -> Callable[[str], int]:
-    def number(text: str) -> int:
-        value = picoseconds(text)
-        if value is None or not least <= value <= most:
-            raise argparse.ArgumentTypeError(f"{text!r} is no time from {least} to {most} ps, as 20000000 or 20us")
-        return value
-
-    return number
 
 
 def _capture(said: argparse.Namespace) -> int:

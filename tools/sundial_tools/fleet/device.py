@@ -2,7 +2,7 @@
 
 from __future__ import annotations
 
-from typing import Optional, Tuple
+from typing import List, Optional, Tuple
 
 from sundial_tools.fleet.book import Flight
 from sundial_tools.plan import Plan
@@ -96,6 +96,15 @@ class Device:
         if self.mode == PRIMARY:
             return row.primary.link
         return row.backup.link if self.mode == BACKUP and row.backup is not None else None
+
+    def state(self) -> List[int]:
+        """The registers as data, of a device that was given no duty that it has not taken up."""
+        return [self.number, self.epoch, self.mode, int(self.sealed), *self.stamp, self.heard, self.sent, self.clock, self.base, self.counter]
+
+    def resume(self, state: List[int]) -> None:
+        """Takes up what was kept of a device of this number and plan."""
+        _, self.epoch, self.mode, sealed, term, place, self.heard, self.sent, self.clock, self.base, self.counter = state
+        self.sealed, self.stamp = bool(sealed), (term, place)
 
     def give(self, epoch: int, plan: Plan) -> None:
         self.given, self.given_plan = epoch, plan

@@ -71,6 +71,23 @@ class Fleet:
             for plan in plans
         ]
 
+    def state(self) -> Dict[str, Any]:
+        """What has to be kept of it, as data, where no window is open and no message is on its way."""
+        return {
+            "devices": [it.state() for it in self.up.values()], "failed_devices": sorted(self.failed_devices),
+            "failed_links": sorted(self.failed_links), "in_force": self.in_force, "messages": self._messages,
+        }
+
+    def resume(self, state: Dict[str, Any]) -> None:
+        """Takes up what was kept."""
+        self.in_force, self._messages = state["in_force"], state["messages"]
+        self.failed_devices, self.failed_links = set(state["failed_devices"]), set(state["failed_links"])
+        for registers in state["devices"]:
+            number, epoch = registers[:2]
+            device = Device(number, self._rates[number], epoch, self.plans[epoch - 1], 0, 0, 0)
+            device.resume(registers)
+            self.devices[number] = self.up[number] = device
+
     @property
     def plan(self) -> Plan:
         """The plan in force."""

@@ -1,4 +1,4 @@
-"""The lineage of a report: which clocks and which links its interval rests on. docs/LINES.md has the words.
+"""The lineage of a report: which clocks and which links its interval rests on. man/sundial-lines.5 has the words.
 
 The report contains its reference where its own lineage is honest: the clock that was set, from which its estimate
 descends, was within its eps; each device that held the estimate kept its drift meanwhile; and each message that carried

@@ -4,16 +4,15 @@ from __future__ import annotations
 
 import argparse
 import contextlib
-import sys
-from typing import Iterator, List, Optional, TextIO
+from typing import Iterator, List, Optional
 
 from sundial_tools.errors import ToolError
+from sundial_tools.inputs import NAME, read_lines
 from sundial_tools.lines.behind import Behind, Events
 from sundial_tools.lines.convert import DONE, Converter
 from sundial_tools.lines.rows import csv_row, json_row
 from sundial_tools.plan import Plan, read_plan
 from sundial_tools.safe_write import FOLLOW, OUTPUT, Progress, output_of
-from sundial_tools.schedule import open_schedule
 from sundial_tools.topology import Topology, read_topology
 
 
@@ -25,10 +24,10 @@ def main(words: List[str]) -> int:
         raise ToolError("--lineage needs --plan, once for each plan")
     with contextlib.ExitStack() as stack:
         progress = stack.enter_context(Progress("sundial-lines"))
-        schedule = _behind(stack, options.schedule, progress)
-        exchanges = _behind(stack, options.exchanges, progress)
-        file, source = _output(stack, options.output_of_sundial)
-        output = _Counted(file, progress)
+        schedule = _behind(options.schedule, progress)
+        exchanges = _behind(options.exchanges, progress)
+        source = NAME if options.output_of_sundial == "-" else options.output_of_sundial
+        output = _Counted(read_lines(options.output_of_sundial), progress)
         topology, plans = _inputs(options, output.first)
         events = Events(schedule, topology, plans, options.schedule, options.lineage) if schedule is not None else None
         text = stack.enter_context(output_of(options.output, options.follow))
@@ -47,37 +46,29 @@ def _inputs(options: argparse.Namespace, first: str) -> "tuple[Optional[Topology
     return topology, [read_plan(path, topology) for path in options.plan]
 
 
-def _behind(stack: contextlib.ExitStack, path: Optional[str], progress: Progress) -> Optional[Behind]:
-    if path is None:
-        return None
-    return Behind(_stepped(stack.enter_context(open_schedule(path)), progress), path)
+def _behind(path: Optional[str], progress: Progress) -> Optional[Behind]:
+    return None if path is None else Behind(_stepped(read_lines(path), progress), path)
 
 
-def _stepped(lines: TextIO, progress: Progress) -> Iterator[str]:
+def _stepped(lines: Iterator[str], progress: Progress) -> Iterator[str]:
     for line in lines:
         progress.step()
         yield line
 
 
-def _output(stack: contextlib.ExitStack, path: str) -> "tuple[TextIO, str]":
-    if path == "-":
-        # (with its own ends of lines: a carriage return is no part of what was printed)
-        return stack.enter_context(open(sys.stdin.fileno(), encoding="utf-8", newline="\n", closefd=False)), "standard input"
-    return stack.enter_context(open(path, encoding="utf-8", newline="\n")), path
-
-
 class _Counted:
     """A text whose lines are counted as they are read. Its first line is known before."""
 
-    def __init__(self, text: TextIO, progress: Progress) -> None:
-        self._text, self._progress = text, progress
-        self.first = text.readline()
+    def __init__(self, lines: Iterator[str], progress: Progress) -> None:
+        # (with their own ends: a carriage return is no part of what was printed)
+        self._lines, self._progress = lines, progress
+        self.first = next(lines, "")
         self._fresh = True
 
     def __iter__(self) -> Iterator[str]:
         if self._fresh and self.first:
             yield self.readline()
-        for line in self._text:
+        for line in self._lines:
             self._progress.step()
             yield line
 
@@ -86,17 +77,17 @@ class _Counted:
         if self._fresh:
             self._fresh = False
             return self.first
-        return self._text.readline()
+        return next(self._lines, "")
 
     def read(self) -> str:
-        return self._text.read()
+        return "".join(self._lines)
 
 
 def _parser() -> argparse.ArgumentParser:
     parser = argparse.ArgumentParser(
         prog="sundial-lines",
         description="Writes what a command of sundial printed as JSON lines or as CSV.",
-        epilog="docs/LINES.md has the kinds of lines and their fields. Times are picoseconds.",
+        epilog="sundial-lines(5) has the kinds of lines and their fields. Times are picoseconds.",
     )
     parser.add_argument("output_of_sundial", nargs="?", default="-", metavar="OUTPUT", help="what the command printed (default: standard input)")
     parser.add_argument("--topology", "-t", help="gives devices and links of events their names; needed for plan and renew")

@@ -5,7 +5,7 @@ from __future__ import annotations
 import tomllib
 from typing import Any, Dict, Iterator, List, Optional, Set, Tuple
 
-from sundial_tools.errors import ToolError
+from sundial_tools.errors import ToolError, decoded
 from sundial_tools.network.absent import shown
 from sundial_tools.things import nearest
 from sundial_tools.topology import MOST_BYTES, Domain, Topology, open_bytes, parse_topology
@@ -26,11 +26,11 @@ MOST_LOSS, MOST_YEARS = 100, 10**6
 def findings(path: str, message_loss: float) -> List[str]:
     """What was found, a line each. Raises ToolError where the text is no topology."""
     with open_bytes(path) as file:
-        text = file.read(MOST_BYTES).decode("utf-8")
+        text = decoded(file.read(MOST_BYTES), path)
     topology = parse_topology(text, path)
     table = tomllib.loads(text)
     found = [*_unknown(table), *_newer(table, topology)]
-    found += [*_empty(topology), *_untrayed(topology), *_candidates(topology), *_feeds(topology), *_loss(topology, message_loss)]
+    found += [*_empty(topology), *_unlinked(topology), *_held(topology), *_untrayed(topology), *_candidates(topology), *_feeds(topology), *_loss(topology, message_loss)]
     return found
 
 
@@ -70,6 +70,32 @@ def _empty(topology: Topology) -> Iterator[str]:
     for domain in topology.domains:
         if not domain.devices and not domain.links:
             yield f"domain {domain.name} has no devices and no links"
+
+
+def _links_of(topology: Topology) -> Dict[int, Set[int]]:
+    """The links of each device."""
+    found: Dict[int, Set[int]] = {device.number: set() for device in topology.devices}
+    for link in topology.links:
+        for end in link.ends:
+            found[end].add(link.number)
+    return found
+
+
+def _unlinked(topology: Topology) -> Iterator[str]:
+    alone = [device for device, links in _links_of(topology).items() if not links]
+    if alone:
+        yield f"{shown(topology, alone)} {'has' if len(alone) == 1 else 'have'} no link: no plan reaches {'it' if len(alone) == 1 else 'them'}"
+
+
+def _held(topology: Topology) -> Iterator[str]:
+    """Domains that hold all ways of a device which is not in them: it is cut off with them, and no plan can mend that."""
+    links_of = _links_of(topology)
+    for domain in topology.domains:
+        taken = set(domain.links).union(*(links_of[device] for device in domain.devices))
+        ends = {end for link in taken for end in topology.links[link].ends}.difference(domain.devices)
+        held = sorted(device for device in ends if links_of[device] <= taken)
+        if held:
+            yield f"domain {domain.name} holds all ways of {shown(topology, held)}, which {'is' if len(held) == 1 else 'are'} not in it"
 
 
 def _untrayed(topology: Topology) -> Iterator[str]:

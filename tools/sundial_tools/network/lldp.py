@@ -32,11 +32,20 @@ class Neighbour:
 
 @dataclass(frozen=True)
 class Ignored:
-    """Neighbours that are left out: by system name, by chassis id, and by the ports where a host sees them."""
+    """Neighbours that are left out: by system name, by chassis id, and by the ports where a host sees them. And the domains
+    that are taken off the names of hosts."""
 
     names: Set[str] = field(default_factory=set)
     chassis: Set[str] = field(default_factory=set)
     ports: Set[Port] = field(default_factory=set)
+    domains: Tuple[str, ...] = ()
+
+    def plain(self, name: str) -> str:
+        """A name without the domain that is taken off."""
+        for domain in self.domains:
+            if name.endswith(f".{domain}"):
+                return name[: -len(domain) - 1]
+        return name
 
 
 @dataclass(frozen=True)
@@ -53,7 +62,7 @@ def read_neighbours(paths: Sequence[str], ignored: Ignored, found: Found) -> Dic
     seen: Dict[str, List[Seen]] = {}
     for path in paths:
         host = pathlib.Path(path).name
-        host = host[: -len(".json")] if host.endswith(".json") else host
+        host = ignored.plain(host.removesuffix(".json"))
         if host in seen:
             raise ToolError(f"two files of the host {host}", path)
         seen[host] = list(_seen_by(host, path, ignored, found))
@@ -72,13 +81,13 @@ def _seen_by(host: str, path: str, ignored: Ignored, found: Found) -> Iterator[S
             found.leave_out("neighbours on ignored ports")
         elif neighbour.chassis in ignored.chassis:
             found.leave_out("neighbours of ignored chassis")
-        elif neighbour.name in ignored.names:
+        elif neighbour.name is not None and ignored.names.intersection((neighbour.name, ignored.plain(neighbour.name))):
             found.leave_out("neighbours of ignored devices")
         else:
-            yield Seen(near, _far(neighbour, host, path), path)
+            yield Seen(near, _far(neighbour, host, ignored, path), path)
 
 
-def _far(neighbour: Neighbour, host: str, path: str) -> Port:
+def _far(neighbour: Neighbour, host: str, ignored: Ignored, path: str) -> Port:
     if neighbour.name is None:
         chassis = f" (its chassis is {neighbour.chassis})" if neighbour.chassis else ""
         more = f", or --ignore-chassis {neighbour.chassis}" if neighbour.chassis else ""
@@ -88,7 +97,7 @@ def _far(neighbour: Neighbour, host: str, path: str) -> Port:
         )
     if neighbour.far_port is None:
         raise ToolError(f"the neighbour on {neighbour.port} gives no name of its port: {HOW_TO_NAME}", path)
-    return neighbour.name, neighbour.far_port
+    return ignored.plain(neighbour.name), neighbour.far_port
 
 
 # The two forms
@@ -159,10 +168,6 @@ def _text(value: Any) -> Optional[str]:
 # Cables
 
 
-def _missing_line(device: str) -> str:
-    return f"add the line {device},KIND,ROLE,RACK,FEEDS, or say --ignore {device}"
-
-
 class Cables:
     """Joins what both ends of a cable see."""
 
@@ -170,10 +175,17 @@ class Cables:
         self._seen, self._order, self._ignored, self._one_sided = seen, order, ignored, one_sided
         self._far: Dict[Port, Seen] = {}
 
+    def _missing(self, device: str) -> str:
+        """What to do with a device that the table does not have."""
+        name, _, domain = device.partition(".")
+        if domain and name in self._order:
+            return f"say --strip-domain {domain}, since {name} is there; or --ignore {device}"
+        return f"add the line {device},KIND,ROLE,RACK,FEEDS, or say --ignore {device}"
+
     def into(self, found: Found) -> None:
         for host in self._seen:
             if host not in self._order and host not in self._ignored.names:
-                raise ToolError(f"a file of the host {host}, which is not in the table of devices: {_missing_line(host)}")
+                raise ToolError(f"a file of the host {host}, which is not in the table of devices: {self._missing(host)}")
         for view in (view for host in self._seen for view in self._seen[host]):
             self._note(view, found)
         cables: Dict[Tuple[Port, Port], FoundCable] = {}
@@ -196,7 +208,7 @@ class Cables:
         if view.far[0] not in self._order:
             raise ToolError(
                 f"{view.near[0]} sees {view.far[0]} on {view.near[1]}, which is not in the table of devices: "
-                + _missing_line(view.far[0]), view.path,
+                + self._missing(view.far[0]), view.path,
             )
         if view.near in self._far:
             raise ToolError(

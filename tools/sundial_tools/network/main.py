@@ -17,7 +17,7 @@ from sundial_tools.network.names import write_names
 from sundial_tools.network.netbox import IN_USE, Choices, Netbox
 from sundial_tools.network.tables import read_delays, read_devices, read_links, read_oscillators
 from sundial_tools.safe_write import OUTPUT, whole_output
-from sundial_tools.times import picoseconds
+from sundial_tools.times import time_option
 from sundial_tools.topology import MOST_PICOSECONDS, read_topology, topology_text
 
 # The options that name texts. Files of LLDP are not among them: the name of such a file says its host.
@@ -75,7 +75,8 @@ def _found(options: argparse.Namespace) -> Found:
         found.cables += read_links(options.links)
         return found
     order: Dict[str, int] = {device.name: number for number, device in enumerate(found.devices)}
-    ignored = Ignored(set(options.ignore), set(options.ignore_chassis), set(options.ignore_port))
+    domains = tuple(domain.strip(".") for domain in options.strip_domain)
+    ignored = Ignored(set(options.ignore), set(options.ignore_chassis), set(options.ignore_port), domains)
     Cables(read_neighbours(options.files, ignored, found), order, ignored, options.one_sided).into(found)
     return found
 
@@ -87,20 +88,14 @@ def _port(word: str) -> Port:
     return host, port
 
 
-def _time(word: str) -> int:
-    value = picoseconds(word)
-    if value is None or not 1 <= value <= MOST_PICOSECONDS:
-        raise argparse.ArgumentTypeError(f"{word!r} is no time from 1ps to 1s, as 100us")
-    if word.isdigit():
-        raise argparse.ArgumentTypeError(f"{word!r} has no unit: write {word}ps, {word}ns or {word}us")
-    return value
+_time = time_option(1, MOST_PICOSECONDS)
 
 
 def _parser() -> argparse.ArgumentParser:
     parser = argparse.ArgumentParser(
         prog="sundial-topology",
         description="Makes a topology text of version 2 from the network that is there, and a table of its names.",
-        epilog="Times of options are a number with ps, ns, us, ms or s. docs/TOPOLOGY-FROM-A-NETWORK.md has the tables.",
+        epilog="A time is a number and its unit, ps, ns, us, ms or s, as 100us. docs/TOPOLOGY-FROM-A-NETWORK.md has the tables.",
     )
     sources = parser.add_subparsers(dest="source", required=True, metavar="lldp|netbox|tables|names|absent|lint|make")
     lldp = sources.add_parser("lldp", help="from lldpcli show neighbors -f json0 (or json), one file a host, named after it")
@@ -111,6 +106,9 @@ def _parser() -> argparse.ArgumentParser:
     lldp.add_argument("--ignore-chassis", action="append", default=[], metavar="ID", help="leave out neighbours of this chassis id")
     lldp.add_argument(
         "--ignore-port", action="append", default=[], type=_port, metavar="HOST:PORT", help="leave out what is seen on this port"
+    )
+    lldp.add_argument(
+        "--strip-domain", action="append", default=[], metavar="DOMAIN", help="take this domain off the names of hosts, as dc1.example.com"
     )
     tables = sources.add_parser("tables", help="from two CSV tables")
     tables.add_argument("--devices", required=True, help="CSV: name,kind,role,rack,feeds[,side]")

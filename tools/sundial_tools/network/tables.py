@@ -7,9 +7,10 @@ from dataclasses import dataclass
 from typing import Dict, Iterator, List, Sequence, Tuple
 
 from sundial_tools.errors import ToolError
+from sundial_tools.inputs import read_lines
 from sundial_tools.json_text import whole
 from sundial_tools.network.found import FoundCable, FoundDevice
-from sundial_tools.times import picoseconds
+from sundial_tools.times import time_of
 from sundial_tools.topology import MOST_PICOSECONDS, Bounds
 
 NONE = "-"
@@ -41,27 +42,26 @@ class Row:
     def may(self, column: str) -> str:
         return self.cells.get(column, "")
 
-    def number(self, column: str, least: int, most: int) -> int:
-        value = picoseconds(self.need(column))
-        if value is None or not least <= value <= most:
-            raise self.refuse(f"{column} is {self.cells[column]!r}, and has to be a number from {least} to {most}")
-        return value
+    def time(self, column: str, least: int, most: int) -> int:
+        try:
+            return time_of(self.need(column), least, most)
+        except ToolError as fault:
+            raise self.refuse(f"{column} {fault.reason}") from None
 
 
 def read_rows(path: str, needed: Sequence[str], optional: Sequence[str] = ()) -> Iterator[Row]:
     """The rows of a table whose first line names its columns. Lines that begin with # are left out."""
-    with open(path, encoding="utf-8-sig", newline="") as file:
-        reader = csv.reader(file, strict=True)
-        try:
-            columns = _columns(next(reader, []), path, needed, optional)
-            for cells in reader:
-                if not cells or cells[0].startswith("#"):
-                    continue
-                if len(cells) != len(columns):
-                    raise ToolError(f"{len(cells)} cells, and there are {len(columns)} columns", path, reader.line_num)
-                yield Row(dict(zip(columns, (cell.strip() for cell in cells))), path, reader.line_num)
-        except csv.Error as fault:
-            raise ToolError(f"no CSV: {fault}", path, reader.line_num) from None
+    reader = csv.reader((line.removeprefix("\ufeff") for line in read_lines(path)), strict=True)
+    try:
+        columns = _columns(next(reader, []), path, needed, optional)
+        for cells in reader:
+            if not cells or cells[0].startswith("#"):
+                continue
+            if len(cells) != len(columns):
+                raise ToolError(f"{len(cells)} cells, and there are {len(columns)} columns", path, reader.line_num)
+            yield Row(dict(zip(columns, (cell.strip() for cell in cells))), path, reader.line_num)
+    except csv.Error as fault:
+        raise ToolError(f"no CSV: {fault}", path, reader.line_num) from None
 
 
 def _columns(line: List[str], path: str, needed: Sequence[str], optional: Sequence[str]) -> List[str]:
@@ -139,7 +139,7 @@ def read_oscillators(path: str) -> Oscillators:
         rate = whole(ppm)
         if rate is None or rate > 100000:
             raise row.refuse(f"ppm is {ppm!r}, and has to be a whole number from 0 to 100000")
-        rates[kind] = (rate, row.number("grain", 0, MOST_PICOSECONDS))
+        rates[kind] = (rate, row.time("grain", 0, MOST_PICOSECONDS))
     return Oscillators(path, rates)
 
 
@@ -169,6 +169,6 @@ def read_delays(path: str) -> Delays:
         key = (row.need("from"), row.need("to"), row.may("medium"))
         if key in table:
             raise row.refuse(f"the delay from {key[0]} to {key[1]} is there twice")
-        least = row.number("min", 0, MOST_PICOSECONDS)
-        table[key] = Bounds(least, row.number("max", least, MOST_PICOSECONDS))
+        least = row.time("min", 0, MOST_PICOSECONDS)
+        table[key] = Bounds(least, row.time("max", least, MOST_PICOSECONDS))
     return Delays(path, table)

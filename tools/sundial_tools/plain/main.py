@@ -41,7 +41,7 @@ def _parser() -> argparse.ArgumentParser:
         description="Replays a schedule by the definitions alone, without a check of the plans. Over plans that the "
         "checker accepts it prints what `sundial replay` prints, with the same status.",
         epilog="A schedule of some hundred lines takes seconds. Use it to see what happens under a plan that "
-        "`sundial check` refuses. docs/NEEDED.md has such schedules.",
+        "`sundial check` refuses. docs/CONDITIONS.md has such schedules.",
     )
     parser.add_argument("topology", metavar="TOPOLOGY")
     parser.add_argument(

@@ -8,12 +8,12 @@ import tempfile
 from concurrent.futures import ThreadPoolExecutor
 from typing import Callable, Dict, Iterator, List, NamedTuple, Optional, Tuple
 
+from sundial_tools.effects import Effects
 from sundial_tools.errors import ToolError
 from sundial_tools.outputs import parse_line
 from sundial_tools.plan import Plan
 from sundial_tools.things import Named, all_named, left_without
 from sundial_tools.topology import Topology
-from sundial_tools.why.said import epath, things_of, way
 
 DONE, REFUSED = 0, 1
 SEED = "1"
@@ -43,7 +43,7 @@ class Next(NamedTuple):
 
 
 class Loss(NamedTuple):
-    """`cut_off` are devices that no candidate for root reaches any more."""
+    """`cut_off` are devices that no candidate for root reaches any more, and `budget` is BASE and HOLD of the bound."""
 
     named: Named
     takes_over: bool
@@ -51,6 +51,7 @@ class Loss(NamedTuple):
     bound: Bound
     cut_off: Tuple[str, ...]
     next: Next
+    budget: Tuple[int, int]
 
     def row(self) -> Dict[str, object]:
         """The loss as a JSON object. Times are picoseconds."""
@@ -58,7 +59,7 @@ class Loss(NamedTuple):
         said: Dict[str, object] = {"found_by_search": self.next.found, "search_refusal": self.next.search_refusal or None}
         return {
             "kind": self.named.kind, "name": self.named.name, "takes_over": self.takes_over, "moving": list(self.moving),
-            "bound_ps": self.bound.eps, "bound_device": self.bound.device, "without_bound": self.bound.without,
+            "base_ps": self.budget[0], "hold_ps": self.budget[1], "bound_ps": self.bound.eps, "bound_device": self.bound.device, "without_bound": self.bound.without,
             "cut_off": list(self.cut_off), "planned_again": not refusal, "refusal": refusal or None,
             "next_root": roots[0] if roots else None, "next_backup_root": roots[1] if roots else None,
             **(said if self.next.searched else {}),
@@ -79,7 +80,7 @@ class Losses:
         self, program: str, topology: Topology, plan: Plan, files: Tuple[str, str], base: int, hold: int, search: Optional[Search] = None
     ) -> None:
         self._program, self._topology, self._plan, self._files = program, topology, plan, files
-        self._words, self._search = (str(base), str(hold)), search
+        self._budget, self._words, self._search = (base, hold), (str(base), str(hold)), search
 
     def all(self, step: Callable[[], None]) -> Iterator[Loss]:
         """Each loss, in the order of the checker. As many run at once as there are processors."""
@@ -87,10 +88,13 @@ class Losses:
         with tempfile.TemporaryDirectory() as folder, ThreadPoolExecutor(os.cpu_count() or 1) as pool:
             named = all_named(self._topology)
             paths = [os.path.join(folder, str(place)) for place in range(len(named))]
+            effects = Effects(self._topology, self._plan)
             for one, (cut_off, then) in zip(named, pool.map(self._renewed, named, paths)):
                 step()
-                takes_over, moving = moved(self._topology, self._plan, one)
-                yield Loss(one, takes_over, moving, bounds.get(one.text, Bound(None, None, 0)), cut_off, then)
+                effect = effects.of(one)
+                takes_over = self._plan.root in one.devices and effect.acts is not None
+                moving = tuple(self._topology.devices[it].name for it in effect.moving)
+                yield Loss(one, takes_over, moving, bounds.get(one.text, Bound(None, None, 0)), cut_off, then, self._budget)
 
     def _bounds(self) -> Dict[str, Bound]:
         found: Dict[str, Bound] = {}
@@ -152,17 +156,3 @@ def _roots_of(plan: str) -> Tuple[str, ...]:
         names.append(rest.partition('"')[0] if found else "")
     return tuple(names)
 
-
-def moved(topology: Topology, plan: Plan, named: Named) -> Tuple[bool, Tuple[str, ...]]:
-    """Whether the backup root loses both of its ways or the root fails, and the devices that may move to their backups."""
-    taken = {("device", it) for it in named.devices} | {("link", it) for it in named.links}
-    names: List[str] = []
-    for number in plan.members(topology):
-        row = plan.rows.get(number)
-        if row is None or row.backup is None or ("device", number) in taken:
-            continue
-        hops = way(plan, number) if number == plan.backup_root else epath(plan, number)
-        if things_of(hops) & taken:
-            names.append(topology.devices[number].name)
-    takes_over = plan.root in named.devices and plan.backup_root not in named.devices
-    return takes_over, tuple(names)

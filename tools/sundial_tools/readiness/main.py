@@ -8,13 +8,13 @@ from typing import Iterable, Iterator, List, Optional, TextIO
 
 from sundial_tools.errors import ToolError
 from sundial_tools.inputs import as_files
-from sundial_tools.plan import read_plan
+from sundial_tools.plan import default_hold, read_plan
 from sundial_tools.readiness.losses import Loss, Losses, Next, Search
+from sundial_tools.report.units import human
 from sundial_tools.safe_write import OUTPUT, Progress, whole_output
+from sundial_tools.times import time_of
 from sundial_tools.topology import read_topology, search_program, sundial_program
-from sundial_tools.whatif.wishes import time_of
 
-TICKS = 3
 MOST_STEPS = 1 << 60
 COLUMNS = ("loss", "moving", "greatest eps", "at", "cut off", "planned again")
 
@@ -40,7 +40,7 @@ def _search(steps: Optional[int]) -> Optional[Search]:
 def _told(options: argparse.Namespace, program: str, search: Optional[Search]) -> int:
     topology = read_topology(options.topology)
     plan = read_plan(options.plan, topology)
-    hold = plan.wait_first + plan.wait_second + TICKS * topology.tick if options.hold is None else time_of(options.hold)
+    hold = default_hold(topology, plan) if options.hold is None else time_of(options.hold)
     losses = Losses(program, topology, plan, (options.topology, options.plan), time_of(options.base), hold, search)
     with Progress("sundial-readiness", "losses") as progress, whole_output(options.output) as text:
         found = list(losses.all(progress.step))
@@ -48,7 +48,7 @@ def _told(options: argparse.Namespace, program: str, search: Optional[Search]) -
             text.writelines(json.dumps(loss.row()) + "\n" for loss in found)
         else:
             _write_table([it for it in found if it.next.refusal] if options.refused else found, text)
-            text.write(_count(found, search is not None) + "\n")
+            text.write(f"{_count(found, search is not None)}; eps for BASE {human(found[0].budget[0])} and HOLD {human(found[0].budget[1])}\n")
     return 0
 
 

@@ -1,4 +1,4 @@
-"""Lines of compact logs, which `sundialctl record` reads: numbers for names, and picoseconds (docs/COMPACT-LOGS.md).
+"""Lines of compact logs, which `sundialctl record` reads: numbers for names, and picoseconds (docs/RECORD.md).
 
 A line is that of a schedule, but that it names a message as logs do: `recv REF DEVICE COUNTER LINK EPOCH TERM ROUND`, and
 `lose REF DEVICE LINK EPOCH TERM ROUND` with the receiver as DEVICE.

@@ -5,7 +5,7 @@
 
 from __future__ import annotations
 
-from typing import Dict, List, Optional, Sequence, Set, Union
+from typing import Any, Dict, List, Optional, Sequence, Set, Union
 
 from sundial_tools.fleet.fleet import Fleet
 from sundial_tools.plan import Plan
@@ -29,10 +29,14 @@ class JudgedFleet:
         self._begun: Set[int] = set()
         self._counters: Dict[int, int] = {}
 
-    def know(self, plans: Sequence[Plan]) -> None:
-        """The plans, with further ones behind those that were known."""
-        self._plans = plans
-        self.fleet.know(plans)
+    def state(self) -> Dict[str, Any]:
+        """What has to be kept of it, as data, where no window is open and no message is on its way."""
+        return {"fleet": self.fleet.state(), "begun": sorted(self._begun), "counters": self._counters}
+
+    def resume(self, state: Dict[str, Any]) -> None:
+        """Takes up what was kept."""
+        self.fleet.resume(state["fleet"])
+        self._begun, self._counters = set(state["begun"]), {int(number): counter for number, counter in state["counters"].items()}
 
     def message_of(self, event: LogEvent) -> int:
         """The number of the message of a `recv` or `lose`, or 0 where none such is on its way."""

@@ -1,8 +1,9 @@
-"""Logs of devices, one event a line: a JSON object (docs/RECORD.md), or a line of a compact log (docs/COMPACT-LOGS.md)."""
+"""Logs of devices, one event a line: a JSON object, or a line of a compact log (docs/RECORD.md)."""
 
 from __future__ import annotations
 
 import json
+import resource
 import sys
 from decimal import Context, Decimal
 from typing import Any, Callable, Dict, Iterator, List, Optional, TextIO, Tuple
@@ -28,6 +29,8 @@ MOST_DIGITS = 40
 SPACES = " \t\r\n"
 MOST_SHAPES = 8
 MOST_SHOWN = 40
+# What a process opens besides logs.
+OTHER_FILES = 64
 UNITS: Dict[str, Tuple[Unit, ...]] = {
     stem: tuple((f"{stem}_{unit}", factor) for unit, factor in PICOSECONDS.items())
     for stem in ("reference", "counter", "clock", "eps")
@@ -41,6 +44,16 @@ def _decoded(text: str) -> Any:
     except StopIteration:
         return DECODER.decode(text)
     return value if text[end:] in ("\n", "") else DECODER.decode(text)
+
+
+def allow_files(count: int) -> None:
+    """Lets the process have a file open for each of so many logs."""
+    soft, hard = resource.getrlimit(resource.RLIMIT_NOFILE)
+    wanted = count + OTHER_FILES
+    if hard != resource.RLIM_INFINITY and hard < wanted:
+        raise ToolError(f"{count} logs need {wanted} open files, and this process may open {hard}: ulimit -Hn says so")
+    if soft != resource.RLIM_INFINITY and soft < wanted:
+        resource.setrlimit(resource.RLIMIT_NOFILE, (wanted, hard))
 
 
 class Log:

@@ -3,8 +3,6 @@
 from __future__ import annotations
 
 import argparse
-import contextlib
-import resource
 import sys
 from typing import List, Sequence, TextIO
 
@@ -12,7 +10,7 @@ from sundial_tools.errors import ToolError
 from sundial_tools.plan import Plan, read_plan
 from sundial_tools.record.compact import CompactRecorder
 from sundial_tools.record.feed import Feed, Growing
-from sundial_tools.record.logs import Log
+from sundial_tools.record.logs import Log, allow_files
 from sundial_tools.record.recorder import Recorder
 from sundial_tools.safe_write import FOLLOW, OUTPUT, Progress, output_of
 from sundial_tools.times import picoseconds
@@ -26,7 +24,7 @@ def main(words: List[str]) -> int:
     _judge(options)
     topology = read_topology(options.topology)
     plans = [read_plan(path, topology) for path in options.plan]
-    _allow_files(len(options.logs))
+    allow_files(len(options.logs))
     with output_of(options.output, options.follow or options.feed) as text, Progress("sundial-record") as progress:
         said = _feed(options, topology, text, progress) if options.feed else _record(options, topology, plans, text, progress)
     print(f"sundial-record: {said}", file=sys.stderr)
@@ -66,15 +64,6 @@ def _feed(options: argparse.Namespace, topology: Topology, text: TextIO, progres
     return f"{feed.entries} entries of {len(logs)} logs; origin {feed.origin} ps"
 
 
-def _allow_files(count: int) -> None:
-    """Lets the process have a file open for each log, as far as the system allows."""
-    soft, hard = resource.getrlimit(resource.RLIMIT_NOFILE)
-    wanted = count + 64
-    if soft != resource.RLIM_INFINITY and soft < wanted:
-        with contextlib.suppress(ValueError, OSError):
-            resource.setrlimit(resource.RLIMIT_NOFILE, (wanted if hard == resource.RLIM_INFINITY else min(wanted, hard), hard))
-
-
 def _time(word: str) -> int:
     value = picoseconds(word)
     if value is None:
@@ -88,7 +77,7 @@ def _parser() -> argparse.ArgumentParser:
     parser = argparse.ArgumentParser(
         prog="sundial-record",
         description="Makes a schedule of the logs of devices, for sundial replay and sundial order.",
-        epilog="docs/RECORD.md has the form of the logs, and docs/COMPACT-LOGS.md the compact one. A time is a number with ps, ns, us, ms or s.",
+        epilog="docs/RECORD.md has the forms of the logs. A time is a number with ps, ns, us, ms or s.",
     )
     parser.add_argument("topology", metavar="TOPOLOGY")
     parser.add_argument("logs", nargs="+", metavar="LOG", help="JSON lines, or a compact log; each log in the order of its references; - is standard input")

@@ -4,7 +4,7 @@ from __future__ import annotations
 
 from dataclasses import dataclass
 from functools import cached_property
-from typing import Dict, Iterable, Iterator, List, Optional, Tuple
+from typing import Dict, Iterable, List, Optional, Tuple
 
 from sundial_tools.errors import ToolError
 from sundial_tools.outputs import NUMBER, OutputLine, parse_line
@@ -24,10 +24,6 @@ class Group:
     def worst(self) -> int:
         return max((bound for bound in self.bounds if bound is not None), default=-1)
 
-    @cached_property
-    def unbounded(self) -> int:
-        return sum(bound is None for bound in self.bounds)
-
 
 @dataclass
 class Drill:
@@ -36,14 +32,6 @@ class Drill:
     devices: List[int]
     groups: List[Group]
     domains: int
-
-    @cached_property
-    def worst(self) -> int:
-        return max(group.worst for group in self.groups)
-
-    @cached_property
-    def least(self) -> int:
-        return min(bound for group in self.groups for bound in group.bounds if bound is not None)
 
 
 class DrillReader:
@@ -125,19 +113,7 @@ class DrillReader:
 
     def _drill(self) -> Drill:
         numbers = [self._topology.device_numbers[name] for name in self._members]
-        groups = sorted(self._groups.values(), key=lambda group: (-group.worst, group.unbounded))
+        groups = sorted(self._groups.values(), key=lambda group: -group.worst)
         if not any(bound is not None for group in groups for bound in group.bounds):
             raise ToolError("the drill has no bound", self._source)
         return Drill(numbers, groups, self._domains)
-
-
-def widest_devices(drill: Drill) -> Iterator[Tuple[int, int, int, Group]]:
-    """For each device by its worst bound, the greatest first: its place, its number, the bound and a group with it."""
-    worst: List[Tuple[int, int, Group]] = []
-    for place in range(len(drill.devices)):
-        bounded = [group for group in drill.groups if group.bounds[place] is not None]
-        if bounded:
-            group = max(bounded, key=lambda group: group.bounds[place] or 0)
-            worst.append((group.bounds[place] or 0, place, group))
-    for bound, place, group in sorted(worst, key=lambda found: (-found[0], found[1])):
-        yield place, drill.devices[place], bound, group

@@ -1,103 +1,217 @@
-"""The part of the page that shows a drill: a map of domains and devices, and tables of both, the worst first."""
+"""The part of the page that shows a drill: the domains that do alike by the devices that are alike, and what makes each number."""
 
 from __future__ import annotations
 
-from typing import Iterable, List, Tuple
+import re
+from fnmatch import fnmatchcase
+from typing import Dict, List, NamedTuple, Optional, Sequence, Tuple
 
-from sundial_tools.report.drill import Drill, Group, widest_devices
-from sundial_tools.report.heat_map import SHADES, HeatMap
-from sundial_tools.report.markup import Raw, element, folded
+from sundial_tools.errors import ToolError
+from sundial_tools.plan import Plan
+from sundial_tools.report.drill import Drill, Group
+from sundial_tools.report.markup import Raw, element, filled, folded, joined, region
+from sundial_tools.report.parts import MEANING, Makeup, Parts
 from sundial_tools.report.tables import Cell, names_of, table
-from sundial_tools.report.units import clear, column, count, human
+from sundial_tools.report.units import clear, column, count, in_unit, unit_of
+from sundial_tools.things import find_named
 from sundial_tools.topology import Topology
 
-OPEN_ROWS = 20
+SHADES, MOST_COLUMNS, MOST_ROWS, MOST_NAMES, OPEN_ROWS = 9, 16, 100, 12, 40
 
 
-def drill_section(topology: Topology, drill: Drill) -> Raw:
-    heat = HeatMap(topology, drill)
-    more = heat.left_out()
-    first = drill.groups[0]
-    worst = next(widest_devices(drill))
-    name = topology.devices[worst[1]].name
-    facts = (
-        f"{count(drill.domains, 'domain')}, {count(len(drill.devices), 'device')}. The greatest bound is "
-        f"{clear(drill.worst)}, that of {name} under {first.domains[0]}; the least is {clear(drill.least)}."
-    )
-    return element(
-        "section",
-        element("h2", "Drill: the greatest eps when a domain fails", id="drill"),
-        element("p", facts, class_="facts"),
-        element("div", *_scales(drill), heat.html(), element("p", more, class_="note") if more else Raw(""),
-                _by_domain(topology, drill, heat), _by_device(topology, drill, heat), class_="scaled"),
-        class_="drill",
-    )
+class Column(NamedTuple):
+    """Devices that are one column, by their places in the drill."""
+
+    label: str
+    places: Tuple[int, ...]
 
 
-def _scales(drill: Drill) -> Iterable[Raw]:
-    """The choice of a scale, which needs no script, and what the shades mean on each."""
-    for key, text, is_first in ("linear", "scale from 0", True), ("log", "logarithmic scale", False):
-        yield element("input", type="radio", name="scale", id=f"scale-{key}", class_=f"scale {key}", checked=is_first)
-        yield element("label", text, for_=f"scale-{key}")
-    for key, shade, ends in ("linear", "a", ("0", human(drill.worst))), ("log", "g", (human(drill.least), human(drill.worst))):
-        cells = [element("i", class_=f"cell {shade}{place}") for place in range(SHADES)]
-        yield element("p", ends[0], " ", cells, " ", ends[1], " ", element("i", class_="cell hx"), " no bound", class_=f"ramp {key}")
+class Alike(NamedTuple):
+    """Domains under which each column has the same greatest bound, and as many devices without one."""
+
+    domains: List[str]
+    group: Group
+    cells: Tuple[Tuple[Optional[int], int], ...]
+
+    @property
+    def worst(self) -> int:
+        return max((bound for bound, _ in self.cells if bound is not None), default=-1)
+
+    @property
+    def unbounded(self) -> int:
+        return sum(unbounded for _, unbounded in self.cells)
 
 
-def _bars(bounds: List[int], heat: HeatMap, worst: int) -> Tuple[str, List[Cell]]:
-    """The unit of a column of bounds, and its cells; the bound of no device is -1."""
-    shown = column([max(0, bound) for bound in bounds])
-    return shown.unit, [(_bar(text, bound, heat, worst), bound) if bound >= 0 else "none" for bound, text in zip(bounds, shown.texts)]
+class DrillSection:
+    """`calm` has by device what it stays below while nothing has failed, where that is known. `patterns` say of which devices."""
 
+    def __init__(
+        self, topology: Topology, plan: Plan, drill: Drill, calm: Dict[int, int], makeup: Makeup, patterns: Sequence[str]
+    ) -> None:
+        self._topology, self._plan, self._drill, self._calm, self._makeup = topology, plan, drill, calm, makeup
+        self._names = [topology.devices[device].name for device in drill.devices]
+        self._rack = {device: domain.number for domain in reversed(topology.domains) for device in domain.devices}
+        self._of = self._asked(patterns)
+        self._columns = self._made_columns()
+        self._rows = self._made_rows()
+        bounds = [bound for row in self._rows for bound, _ in row.cells if bound is not None]
+        if not bounds:
+            raise ToolError("the drill has no bound of these devices")
+        self._least, self._worst = min(bounds), max(bounds)
+        self._parts = self._made_parts()
 
-def _bar(text: str, bound: int, heat: HeatMap, worst: int) -> Raw:
-    """A bar under the number: as long as its part of the greatest bound, and by logarithm."""
-    linear, log = bound / max(1, worst), max(0.02, heat.share(bound))
-    return element("span", text, element("i", class_="bar", style=f"--linear:{linear:.1%};--log:{log:.1%}"))
+    # Of which devices
 
+    def _asked(self, patterns: Sequence[str]) -> List[int]:
+        """The places of the devices that readers ask for: those of the patterns, or hosts, or all where there are none."""
+        edge = _edge(self._topology, self._plan)
+        found = [
+            place for place, name in enumerate(self._names)
+            if (any(fnmatchcase(name, pattern) for pattern in patterns) if patterns else self._drill.devices[place] in edge)
+        ]
+        if patterns and not found:
+            raise ToolError(f"no device has a name like {' or '.join(patterns)}")
+        self._is_edge = bool(found) and not patterns
+        return found or list(range(len(self._names)))
 
-def _by_domain(topology: Topology, drill: Drill, heat: HeatMap) -> Raw:
-    rows: List[List[Cell]] = []
-    unit, bars = _bars([group.worst for group in drill.groups], heat, drill.worst)
-    for group, bar in zip(drill.groups, bars):
-        rows.append(
-            [
-                _domains(group),
-                str(len(group.domains)),
-                bar,
-                _widest(topology, drill, group),
-                str(group.unbounded),
-            ]
+    def _made_columns(self) -> List[Column]:
+        places: Dict[Tuple[object, ...], List[int]] = {}
+        single = len(self._of) <= MOST_COLUMNS
+        roots = {self._plan.root: ("0", "R "), self._plan.backup_root: ("1", "B ")}
+        for place in self._of:
+            device, name = self._drill.devices[place], self._names[place]
+            order, sign = roots.get(device, ("2", ""))
+            key = (order, role_of(name), self._rack.get(device, len(self._rack)), place) if single or sign else (order, role_of(name))
+            places.setdefault((*key, sign), []).append(place)
+        return [
+            Column(f"{key[-1]}{self._names[found[0]]}" + (f" and {len(found) - 1} alike" if len(found) > 1 else ""), tuple(found))
+            for key, found in sorted(places.items(), key=lambda one: tuple(map(str, one[0][:2])) + (one[1],))
+        ]
+
+    def _made_rows(self) -> List[Alike]:
+        rows: Dict[Tuple[object, ...], Alike] = {}
+        for group in self._drill.groups:
+            cells = tuple(self._cell_of(group, column) for column in self._columns)
+            for domain in group.domains:
+                kind, _, name = domain.partition(" ")
+                rows.setdefault((kind, role_of(name), cells), Alike([], group, cells)).domains.append(domain)
+        return sorted(rows.values(), key=lambda row: (-row.worst, row.unbounded))
+
+    def _cell_of(self, group: Group, column: Column) -> Tuple[Optional[int], int]:
+        bounds = [group.bounds[place] for place in column.places]
+        return max((bound for bound in bounds if bound is not None), default=None), sum(bound is None for bound in bounds)
+
+    def _made_parts(self) -> Dict[int, Tuple[int, str, Optional[Parts]]]:
+        """By place the worst bound, under which domain, and its parts where they make the number."""
+        found: Dict[int, Tuple[int, str, Optional[Parts]]] = {}
+        for place in self._of:
+            group = max(self._drill.groups, key=lambda group: -1 if group.bounds[place] is None else group.bounds[place] or 0)
+            bound = group.bounds[place]
+            if bound is not None:
+                parts = self._makeup.of(find_named(self._topology, group.domains[0]), self._drill.devices[place])
+                found[place] = bound, group.domains[0], parts if sum(parts) == bound else None
+        return found
+
+    @property
+    def is_explained(self) -> bool:
+        """Whether all numbers are those of BASE and HOLD."""
+        return all(parts is not None for *_, parts in self._parts.values())
+
+    # The section
+
+    def html(self) -> Raw:
+        return filled(
+            "drill", facts=self._facts(), least=clear(self._least), worst=clear(self._worst), map=self._map(), devices=self._by_device()
         )
-    return _folded("The worst eps by domain", "by-domain", ("domain", "domains alike", f"worst eps, {unit}", "of", "without bound"), rows)
+
+    def _facts(self) -> str:
+        worst = max(self._parts.items(), key=lambda one: one[1][0])
+        text = f"{budget_text(self._makeup)} " if self.is_explained else f"BASE and HOLD are not {budget_text(self._makeup)[:-1]}: give --base and --hold to see what makes the numbers. "
+        text += f"{count(self._drill.domains, 'domain')}, {count(len(self._drill.devices), 'device')}. "
+        if len(self._of) < len(self._drill.devices):
+            text += f"Shown: {count(len(self._of), 'device')}" + (", the hosts: nobody follows them, and no candidate for root is beside them. " if self._is_edge else ". ")
+        text += f"The greatest bound is {clear(worst[1][0])}, that of {self._names[worst[0]]} under {worst[1][1]}; the least is {clear(self._least)}."
+        if self._calm:
+            text += f" While nothing has failed, no report is above {clear(max(self._calm.values()))}."
+        return text
+
+    def _shade(self, bound: int) -> int:
+        return min(SHADES - 1, (bound - self._least) * SHADES // max(1, self._worst - self._least))
+
+    def _map(self) -> Raw:
+        size, unit = unit_of(self._worst)
+        heads = [element("th", text, scope="col") for text in ("domain", "alike", f"worst, {unit}", "no bound")]
+        heads += [element("th", column.label, scope="col", title=self._names_of(column.places)) for column in self._columns]
+        shown = self._rows[:MOST_ROWS]
+        rows = [element("tr", self._row_heads(row, size), [self._cell(row, place, size) for place in range(len(self._columns))]) for row in shown]
+        whole = element("table", element("thead", element("tr", heads)), element("tbody", rows), class_="heat")
+        more = self._rows[MOST_ROWS:]
+        said = f"{sum(len(row.domains) for row in more)} domains more are at most {clear(more[0].worst)} wide." if more else ""
+        return joined([region("The drill by domains and devices", whole, class_="table"), element("p", said, class_="note") if more else ""])
+
+    def _row_heads(self, row: Alike, size: int) -> List[Raw]:
+        names = ", ".join(row.domains[:MOST_NAMES]) + (f" and {len(row.domains) - MOST_NAMES} more" if len(row.domains) > MOST_NAMES else "")
+        label = row.domains[0] + (f" and {len(row.domains) - 1} alike" if len(row.domains) > 1 else "")
+        worst = "none" if row.worst < 0 else in_unit(row.worst, size)
+        return [element("th", label, scope="row", title=names), *(element("td", text, class_="number") for text in (str(len(row.domains)), worst, str(row.unbounded)))]
+
+    def _cell(self, row: Alike, place: int, size: int) -> Raw:
+        bound, unbounded = row.cells[place]
+        column = self._columns[place]
+        if bound is None:
+            return element("td", "none", class_="cell hx", title=f"{row.domains[0]}, {column.label}: no bound")
+        widest = next(it for it in column.places if row.group.bounds[it] == bound)
+        some = f" ({unbounded} none)" if unbounded else ""
+        said = f"{row.domains[0]}, {self._names[widest]}: {clear(bound)}" + (f"; {unbounded} without a bound" if unbounded else "")
+        return element("td", in_unit(bound, size) + some, class_=f"cell a{self._shade(bound)}", title=said)
+
+    def _by_device(self) -> Raw:
+        """Devices that are alike have one row."""
+        without = dict.fromkeys(self._of, 0)
+        for group in self._drill.groups:
+            for place in self._of:
+                without[place] += len(group.domains) * (group.bounds[place] is None)
+        rows: Dict[Tuple[object, ...], List[int]] = {}
+        for place, (bound, _, parts) in sorted(self._parts.items(), key=lambda one: (-one[1][0], one[0])):
+            rows.setdefault((role_of(self._names[place]), bound, parts, self._calm.get(self._drill.devices[place]), without[place]), []).append(place)
+        firsts = [found[0] for found in rows.values()]
+        worst, calm = column([self._parts[place][0] for place in firsts]), column([self._calm.get(self._drill.devices[place], 0) for place in firsts])
+        head = ["device", *([f"calm, {calm.unit}"] if self._calm else []), f"worst eps, {worst.unit}", *(["what makes it"] if self.is_explained else []), "under", "domains without bound"]
+        cells: List[List[Cell]] = []
+        for found, text, calm_text in zip(rows.values(), worst.texts, calm.texts):
+            bound, domain, parts = self._parts[found[0]]
+            row: List[Cell] = [self._names_of(found)]
+            row += [(calm_text, self._calm.get(self._drill.devices[found[0]], 0))] if self._calm else []
+            row += [(text, bound), *([self._bar(parts)] if parts is not None and self.is_explained else []), domain, str(without[found[0]])]
+            cells.append(row)
+        keys = [filled("key", key=f"part {part}", text=text) for part, text in MEANING.items()]
+        legend = element("p", keys, class_="legend") if self.is_explained else ""
+        return folded(f"The worst eps by device: {count(len(cells), 'row')}, the greatest first", legend, table("by-device", head, cells), is_open=len(cells) <= OPEN_ROWS)
+
+    def _bar(self, parts: Parts) -> Raw:
+        """The parts beside each other, as long as they are of the greatest number."""
+        said = [f"{MEANING[part]}: {clear(size)}" for part, size in parts._asdict().items()]
+        bars = [
+            element("i", class_=f"part {part}", title=text, style=f"--w:{size / self._worst:.2%}")
+            for (part, size), text in zip(parts._asdict().items(), said)
+        ]
+        return element("span", bars, class_="parts", role="img", aria_label="; ".join(said))
+
+    def _names_of(self, places: Sequence[int]) -> str:
+        return names_of(self._topology, [self._drill.devices[place] for place in places])
 
 
-def _by_device(topology: Topology, drill: Drill, heat: HeatMap) -> Raw:
-    rows: List[List[Cell]] = []
-    unbounded_by_place = [0] * len(drill.devices)
-    for found in drill.groups:
-        for place in [place for place, bound in enumerate(found.bounds) if bound is None] if found.unbounded else ():
-            unbounded_by_place[place] += len(found.domains)
-    widest = list(widest_devices(drill))
-    unit, bars = _bars([bound for _, _, bound, _ in widest], heat, drill.worst)
-    for (place, device, _, group), bar in zip(widest, bars):
-        unbounded = unbounded_by_place[place]
-        rows.append([topology.devices[device].name, bar, _domains(group), str(unbounded)])
-    return _folded("The worst eps by device", "by-device", ("device", f"worst eps, {unit}", "under", "domains without bound"), rows)
+def budget_text(makeup: Makeup) -> str:
+    return f"BASE {clear(makeup.base)}, HOLD {clear(makeup.hold)}."
 
 
-def _folded(caption: str, name: str, head: "tuple[str, ...]", rows: List[List[Cell]]) -> Raw:
-    """A table that is open where it is short."""
-    return folded(f"{caption}: {len(rows)} rows, the greatest first", table(name, head, rows), is_open=len(rows) <= OPEN_ROWS)
+def role_of(name: str) -> str:
+    """The letters with which a name begins: leaf of leaf12-3."""
+    found = re.match("[A-Za-z]+", name)
+    return found[0] if found else name
 
 
-def _domains(group: Group) -> str:
-    more = len(group.domains) - 3
-    return ", ".join(group.domains[:3]) + (f" and {more} more" if more > 0 else "")
-
-
-def _widest(topology: Topology, drill: Drill, group: Group) -> str:
-    return names_of(
-        topology,
-        [device for device, bound in zip(drill.devices, group.bounds) if bound is not None and bound == group.worst],
-    )
+def _edge(topology: Topology, plan: Plan) -> "set[int]":
+    """The hosts: devices that nobody follows, and beside which there is no candidate for root."""
+    beside = {link.other(end) for link in topology.links for end in link.ends if end in topology.roots}
+    return {device.number for device in topology.devices if device.number not in beside and not plan.below(device.number)} - set(topology.roots)

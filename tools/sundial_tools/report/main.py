@@ -5,34 +5,36 @@ from __future__ import annotations
 import argparse
 import os
 import time
-from typing import Dict, Iterator, List, Optional, TextIO, Tuple
+from typing import Dict, Iterator, List, Optional, Tuple
 
 from sundial_tools import __version__
 from sundial_tools.calm import CalmReader
 from sundial_tools.errors import ToolError
-from sundial_tools.inputs import as_files
+from sundial_tools.inputs import as_files, read_lines
 from sundial_tools.outputs import OutputLine, read_output
-from sundial_tools.plan import Plan, read_plan
+from sundial_tools.plan import Plan, default_hold, read_plan
 from sundial_tools.report.changes import changes_section
 from sundial_tools.report.drill import Drill, DrillReader
-from sundial_tools.report.drill_section import drill_section
+from sundial_tools.report.drill_section import DrillSection, budget_text
 from sundial_tools.report.markup import Raw, element
 from sundial_tools.report.page import contents, page, source, sources_table
+from sundial_tools.report.parts import Makeup
 from sundial_tools.report.readiness import Readiness, read_readiness
 from sundial_tools.report.readiness_section import readiness_section
 from sundial_tools.report.refusal import Refusal, refusal_of
 from sundial_tools.report.replay import Replay, ReplayReader
 from sundial_tools.report.replay_section import replay_section
 from sundial_tools.report.tree_section import TreeSection
-from sundial_tools.report.units import count, human
-from sundial_tools.report.verdict import verdict
+from sundial_tools.report.units import clear, count, human
+from sundial_tools.report.verdict import WORDS, verdict
 from sundial_tools.safe_write import Progress, whole_output
-from sundial_tools.schedule import open_schedule
+from sundial_tools.times import time_option
 from sundial_tools.topology import Topology, read_topology
 
 PARTS = ("tree", "drill", "replay", "readiness")
 # How wide a plan is at the least where plans stand side by side, in pixels of the page.
 LEAST_BESIDE, MOST_BESIDE = 360, 520
+BASE = 10**6
 
 
 def main(words: List[str]) -> int:
@@ -44,8 +46,12 @@ def main(words: List[str]) -> int:
 def _write(said: argparse.Namespace) -> int:
     topology = read_topology(said.topology)
     plans = [read_plan(path, topology) for path in said.plans]
+    report = _Report(said, topology, plans)
     with whole_output(said.output) as output:
-        output.write(_Report(said, topology, plans).page())
+        output.write(report.page())
+    if said.text is not None:
+        with whole_output(said.text) as output:
+            output.write(report.verdict.text())
     return 0
 
 
@@ -60,6 +66,14 @@ def _parser() -> argparse.ArgumentParser:
     parser.add_argument("--check", metavar="FILE", help="what `sundial check` printed: a refusal is marked")
     parser.add_argument("--drill", metavar="FILE", help="what `sundial drill` printed over the first plan")
     parser.add_argument("--bounds", metavar="FILE", help="what `sundialctl bounds` printed over the first plan: the replay shows what a healthy fabric stays below")
+    parser.add_argument("--base", type=time_option(), metavar="TIME", help="BASE of the drill (default: that of readiness, or 1us)")
+    parser.add_argument(
+        "--hold", type=time_option(), metavar="TIME",
+        help="HOLD of the drill (default: that of readiness, or both waits of the backup root, and three ticks)",
+    )
+    parser.add_argument(
+        "--of", action="append", default=[], metavar="PATTERN", help="the drill of devices with such names, as 'leaf*' (default: hosts, or all)"
+    )
     parser.add_argument("--readiness", metavar="FILE", help="what `sundial-readiness --json` printed over the first plan")
     parser.add_argument(
         "--replay",
@@ -68,10 +82,10 @@ def _parser() -> argparse.ArgumentParser:
         help="a schedule, and what `sundial replay` or `order` printed",
     )
     parser.add_argument("--domain", metavar="DOMAIN", help="show the trees under this domain, as 'listed rack0'")
-    parser.add_argument("--layout", choices=("rows", "dot"), default="rows", help="how the trees are laid out: in rows, or by dot of graphviz (default: rows)")
     parser.add_argument(
         "--only", metavar="PART", choices=PARTS, action="append", help="only this part: tree, drill, replay or readiness"
     )
+    parser.add_argument("--text", metavar="FILE", help="write the verdict as plain text, too, for those who cannot see the page")
     parser.add_argument("--title", metavar="TEXT", help="the heading of the page")
     parser.add_argument("--output", "-o", metavar="FILE", help="where the page goes (default: standard output)")
     return parser
@@ -97,7 +111,8 @@ class _Report:
         accepted = self._accepted or drill is not None or calm is not None or readiness is not None
         refusals = [self._refusals[place] for place in sorted(self._refusals)]
         links: List[Tuple[str, str]] = [("verdict", "Verdict")]
-        sections: List[Raw] = [verdict(refusals, shown, accepted).html()]
+        self.verdict = verdict(refusals, shown, accepted)
+        sections: List[Raw] = [self.verdict.html()]
         if shown is not None and self._wants("replay"):
             links.append(("replay", "Replay"))
             sections.append(replay_section(self._topology, shown, calm or {}))
@@ -106,12 +121,26 @@ class _Report:
             sections.append(self._trees())
         if drill is not None and self._wants("drill"):
             links.append(("drill", "Drill"))
-            sections.append(drill_section(self._topology, drill))
+            sections.append(self._drilled(drill, calm or {}, readiness))
         if readiness is not None and self._wants("readiness"):
             links.append(("readiness", "Readiness"))
             sections.append(readiness_section(readiness))
         opening = [self._facts(), contents([*links, ("files", "Files")])]
-        return page(self._said.title or "Sundial: a fabric and its plans", opening, [*sections, self._files()])
+        return page(self._said.title or "Sundial: a fabric and its plans", WORDS[self.verdict.kind], opening, [*sections, self._files()])
+
+    def _drilled(self, drill: Drill, calm: Dict[int, int], readiness: Optional[Readiness]) -> Raw:
+        """The drill, with BASE and HOLD as they are said, or as readiness has them."""
+        said, plan = self._said, self._plans[0]
+        base, hold = readiness.budget if readiness is not None else (BASE, default_hold(self._topology, plan))
+        makeup = Makeup(
+            self._topology, plan, base if said.base is None else said.base, hold if said.hold is None else said.hold
+        )
+        section = DrillSection(self._topology, plan, drill, calm, makeup, said.of)
+        if readiness is not None and (makeup.base, makeup.hold) != readiness.budget:
+            raise ToolError(f"sundial-readiness had BASE {clear(base)} and HOLD {clear(hold)}: make it and the drill with the same", said.readiness)
+        if not section.is_explained and (readiness is not None or said.base is not None or said.hold is not None):
+            raise ToolError(f"it is no drill of this plan with {budget_text(makeup)[:-1]}", said.drill)
+        return section.html()
 
     def _wants(self, part: str) -> bool:
         return not self._said.only or part in self._said.only
@@ -121,8 +150,8 @@ class _Report:
         text = (
             f"{count(len(topology.devices), 'device')}, {count(len(topology.links), 'link')}, "
             f"{count(len(topology.domains), 'listed domain')}. Period {human(topology.period)}, "
-            f"tick {human(topology.tick)}, loss {topology.loss}, depth {topology.depth}. Times are of the reference. "
-            "The head of a column tells its unit; elsewhere the unit stands with the number."
+            f"tick {human(topology.tick)}, loss {topology.loss}, depth {topology.depth}. Times of a replay are reference times from the first event on. "
+            "The unit of a column is in its heading; elsewhere it follows the number."
         )
         made = f"Made {_today()} by sundial-report {__version__} of {os.path.basename(self._said.topology)}, {count(len(self._plans), 'plan')}"
         made += f" and {os.path.basename(self._said.replay[0])}." if self._said.replay else "."
@@ -143,7 +172,7 @@ class _Report:
             before = self._plans[place - 2] if place > 1 else None
             trees.append(
                 TreeSection(
-                    self._topology, plan, place, self._refusals.get(place), self._said.domain, self._said.layout == "dot", before
+                    self._topology, plan, place, self._refusals.get(place), self._said.domain, before
                 )
             )
         changes = [
@@ -162,25 +191,25 @@ class _Report:
         self._refusals[refusal.plan] = refusal
 
     def _check(self) -> None:
-        if self._said.check is None:
-            return
-        with open(self._said.check, encoding="utf-8", newline="\n") as file:
-            lines = file.readlines()
-        for line, text in zip(read_output(lines, self._said.check), lines):
+        name = self._said.check
+        lines = list(read_lines(name)) if name is not None else []
+        if name is not None and not lines:
+            raise ToolError("it is empty: sundial check always prints a line", name)
+        for line, text in zip(read_output(lines, name), lines):
             if line.kind.startswith("refused"):
-                self._refused(line, text[:-1], self._said.check)
+                self._refused(line, text[:-1], name)
             elif line.kind == "accepted":
                 self._accepted = True
             else:
-                raise ToolError(f"no line of a check: {text[:80]!r}", self._said.check)
+                raise ToolError(f"no line of a check: {text[:80]!r}", name)
 
     def _drill(self) -> Optional[Drill]:
         name = self._said.drill
         if name is None:
             return None
         reader = DrillReader(self._topology, name)
-        with open(name, encoding="utf-8", newline="\n") as file, Progress(name) as progress:
-            drill = reader.read(_stepped(file, progress))
+        with Progress(name) as progress:
+            drill = reader.read(_stepped(name, progress))
         self._other(reader.other, name)
         return drill
 
@@ -189,8 +218,8 @@ class _Report:
         if name is None:
             return None
         reader = CalmReader(self._topology, name)
-        with open(name, encoding="utf-8", newline="\n") as file, Progress(name) as progress:
-            calm = reader.read(_stepped(file, progress))
+        with Progress(name) as progress:
+            calm = reader.read(_stepped(name, progress))
         self._other(reader.other, name)
         return calm
 
@@ -204,26 +233,20 @@ class _Report:
 
     def _readiness(self) -> Optional[Readiness]:
         name = self._said.readiness
-        if name is None:
-            return None
-        with open(name, encoding="utf-8", newline="\n") as file:
-            return read_readiness(file, self._topology, name)
+        return None if name is None else read_readiness(read_lines(name), self._topology, name)
 
     def _replay(self) -> Optional[Replay]:
         if self._said.replay is None:
             return None
         schedule, output = self._said.replay
-        with open(output, encoding="utf-8", newline="\n") as lines:
-            with_causes = any(line.startswith("broken ") for line in lines)
-        with open_schedule(schedule) as events, open(output, encoding="utf-8", newline="\n") as lines:
-            replay = ReplayReader(self._topology, self._plans, schedule, output, with_causes).read(events, lines)
+        with_causes = any(line.startswith("broken ") for line in read_lines(output))
+        replay = ReplayReader(self._topology, self._plans, schedule, output, with_causes).read(read_lines(schedule), read_lines(output))
         if replay.refused_plan is not None:
             self._refused(replay.refused_plan, replay.refused_text, output)
         return replay
 
 
-def _stepped(lines: TextIO, progress: Progress) -> Iterator[str]:
-    for line in lines:
+def _stepped(name: str, progress: Progress) -> Iterator[str]:
+    for line in read_lines(name):
         progress.step()
         yield line
-

@@ -2,12 +2,18 @@
 
 from __future__ import annotations
 
+import json
+import pathlib
+import re
+from functools import cache
 from html import escape
-from typing import Iterable, List, Union
+from string import Template
+from typing import Dict, Iterable, List, Union
 
 Value = Union[str, int, float, bool, None]
 # A picture shrinks so far on a narrow page, and then its region scrolls.
 LEAST_ZOOM = 0.7
+HERE = pathlib.Path(__file__).resolve().parent
 EMPTY = frozenset(("meta", "br", "input", "link", "hr"))
 
 
@@ -43,8 +49,19 @@ def _inner(part: Union[str, Iterable[str]]) -> str:
     if isinstance(part, Raw):
         return part
     if isinstance(part, str):
-        return escape(part, quote=False)
+        return escape(part)
     return "".join(_inner(piece) for piece in part)
+
+
+def filled(template: str, **values: Union[str, Iterable[str]]) -> Raw:
+    """A part of the page, by its template of templates.html."""
+    return Raw(_templates()[template].substitute({key: _inner(value) for key, value in values.items()}))
+
+
+@cache
+def _templates() -> Dict[str, Template]:
+    parts = re.split("^<!-- (.*) -->\n", (HERE / "templates.html").read_text(encoding="utf-8"), flags=re.MULTILINE)[1:]
+    return {name: Template(text.strip()) for name, text in zip(parts[::2], parts[1::2])}
 
 
 def title(text: str) -> Raw:
@@ -53,9 +70,9 @@ def title(text: str) -> Raw:
 
 
 def drawing(
-    name: str, label: str, width: float, height: float, zoom: float, *content: Union[str, Iterable[str]], **more: Value
+    name: str, label: str, width: float, height: float, zoom: float, *content: Union[str, Iterable[str]], role: str = "img", side: float = 0
 ) -> Raw:
-    """An svg of this size. It stands in a `region`, which scrolls where the page is narrow."""
+    """An svg of this size, whose squares have this side. It is in a `region`, which scrolls where the page is narrow."""
     return element(
         "svg",
         *content,
@@ -63,10 +80,9 @@ def drawing(
         viewBox=f"0 0 {width:.0f} {height:.0f}",
         width=round(width * zoom),
         height=round(height * zoom),
-        style=f"min-width:{width * LEAST_ZOOM:.0f}px",
-        role="img",
+        style=f"min-width:{width * LEAST_ZOOM:.0f}px" + (f";--side:{side:.0f}px" if side else ""),
+        role=role,
         aria_label=label,
-        **more,
     )
 
 
@@ -77,6 +93,11 @@ def region(label: str, *content: Union[str, Iterable[str]], class_: str = "") ->
 
 def folded(caption: str, *content: Union[str, Iterable[str]], is_open: bool = False, **more: Value) -> Raw:
     return element("details", element("summary", caption), *content, open=is_open, **more)
+
+
+def as_json(value: object) -> Raw:
+    """Data for the script, which ends no element."""
+    return Raw(json.dumps(value, separators=(",", ":")).replace("<", "\\u003c"))
 
 
 def joined(parts: Iterable[str]) -> Raw:

@@ -3,15 +3,12 @@
 from __future__ import annotations
 
 import hashlib
-import pathlib
 from typing import List, NamedTuple, Sequence, Tuple
 
 from sundial_tools.inputs import shown
-from sundial_tools.report.markup import Raw, element, folded
+from sundial_tools.report.markup import HERE, Raw, element, filled, folded
 from sundial_tools.report.tables import Cell, table
-from sundial_tools.report.tree_picture import definitions
 
-HERE = pathlib.Path(__file__).resolve().parent
 CHUNK = 1 << 20
 
 
@@ -46,22 +43,6 @@ def contents(links: Sequence[Tuple[str, str]]) -> Raw:
     return element("nav", element("ul", items), aria_label="Contents")
 
 
-def page(heading: str, opening: Sequence[Raw], sections: Sequence[Raw]) -> str:
-    style = (HERE / "style.css").read_text(encoding="utf-8")
-    script = (HERE / "script.js").read_text(encoding="utf-8")
-    head = element(
-        "head",
-        element("meta", charset="utf-8"),
-        element("meta", name="viewport", content="width=device-width, initial-scale=1"),
-        element("meta", name="color-scheme", content="light dark"),
-        element("title", heading),
-        element("style", Raw(style)),
-    )
-    body = element(
-        "body",
-        definitions(),
-        element("header", element("h1", heading), opening),
-        element("main", sections),
-        element("script", Raw(script)),
-    )
-    return "<!DOCTYPE html>\n" + element("html", head, body, lang="en") + "\n"
+def page(heading: str, word: str, opening: Sequence[Raw], sections: Sequence[Raw]) -> str:
+    style, script = (Raw((HERE / name).read_text(encoding="utf-8")) for name in ("style.css", "script.js"))
+    return filled("page", word=word, heading=heading, style=style, opening=opening, sections=sections, script=script) + "\n"

@@ -43,14 +43,14 @@ def panels(view: ReplayView) -> Raw:
     rows.append(axis(view, "bottom"))
     return element(
         "div", _bands(view), rows, element("div", class_="cursor", hidden=True), class_="panels",
-        role="region", aria_label="Panels over reference time. Plus and minus zoom, the arrows move, 0 shows all, and the arrows with Shift move a cursor", tabindex=0,
+        role="region", aria_label="Panels over the time from the first event. Plus and minus zoom, the arrows move, 0 shows all, and the arrows with Shift move a cursor", tabindex=0,
         data_first=view.first, data_last=view.last,
     )
 
 
 def axis(view: ReplayView, where: str) -> Raw:
     ticks = [element("span", text, style=f"--x:{share:.5f}", class_="end" if share > LAST_TICK else None) for share, text in view.ticks()]
-    return _row("axis " + where, element("span", "reference time"), element("div", ticks, class_="ticks"))
+    return _row("axis " + where, element("span", "from the first event"), element("div", ticks, class_="ticks"))
 
 
 def _row(kind: str, name: Raw, *strip: "str | Iterable[str]", **more: "str | int | None") -> Raw:
@@ -188,7 +188,7 @@ def _bar(view: ReplayView, span: Span, top: float, bottom: float) -> str:
 
 def spans_said(view: ReplayView, spans: Sequence[Span]) -> str:
     """The spans in words, for who does not see them."""
-    said = [f"{span.state} from {view.time(span.begin)} to {view.time(span.end)}" for span in spans[:MOST_SAID]]
+    said = [f"{span.state} from {clear(span.begin)} to {clear(span.end)}" for span in spans[:MOST_SAID]]
     more = len(spans) - MOST_SAID
     return ", ".join(said) + (f", and {count(more, 'span')} more" if more > 0 else "")
 
@@ -226,7 +226,7 @@ def _eps(view: ReplayView) -> Raw:
     pictures, names = [], []
     for kind in "linear", "log":
         scale = _Scale(kind, min(values), max(values), EPS)
-        label = f"eps of each device over reference time, up to {human(max(values))}. The table of percentiles has the numbers"
+        label = f"eps of each device over time, up to {human(max(values))}. The table of percentiles has the numbers"
         pictures.append(_picture(EPS, label, _eps_marks(view, scale), class_=f"scaled-{kind}"))
         names.append(element("span", _levels(scale), class_=f"levels scaled-{kind}"))
     return _row("plot eps", joined([element("b", "eps"), *names]), pictures)
@@ -249,7 +249,7 @@ def _eps_marks(view: ReplayView, scale: _Scale) -> List[Raw]:
     for place, devices in enumerate(view.lines):
         d = _line(view, view.replay.peaks.of[devices[0]], scale)
         said = title(f"{view.names(devices, 12)}{': their lines coincide' if len(devices) > 1 else ''}")
-        parts.append(element("path", said, class_=f"line c{place}", d=d, data_devices=" ".join(map(str, devices))))
+        parts.append(element("path", said, class_=f"line c{place}" + " dashed" * view.dashed[place], d=d, data_devices=" ".join(map(str, devices))))
     return parts + _dots(view, [(report, scale.y(report.eps)) for report in view.reports])
 
 

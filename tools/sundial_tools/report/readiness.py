@@ -13,7 +13,7 @@ from sundial_tools.topology import Topology
 KEYS: Dict[str, Tuple[type, ...]] = {
     "kind": (str,), "name": (str,), "takes_over": (bool,), "moving": (list,), "bound_ps": (int, type(None)),
     "bound_device": (str, type(None)), "without_bound": (int,), "cut_off": (list,), "planned_again": (bool,),
-    "refusal": (str, type(None)), "next_root": (str, type(None)), "next_backup_root": (str, type(None)),
+    "base_ps": (int,), "hold_ps": (int,), "refusal": (str, type(None)), "next_root": (str, type(None)), "next_backup_root": (str, type(None)),
 }
 # Keys that are there where the search was asked.
 SEARCHED: Dict[str, Tuple[type, ...]] = {"found_by_search": (bool,), "search_refusal": (str, type(None))}
@@ -44,9 +44,10 @@ class Outcome(NamedTuple):
 
 class Readiness(NamedTuple):
     """Each outcome with its losses, as `link a`. Those come first after which nothing is planned, then those that the search
-    plans alone, then the widest."""
+    plans alone, then the widest. `budget` is BASE and HOLD of all bounds."""
 
     outcomes: Tuple[Tuple[Outcome, Tuple[str, ...]], ...]
+    budget: Tuple[int, int]
 
     @property
     def losses(self) -> int:
@@ -68,15 +69,19 @@ def read_readiness(lines: Iterable[str], topology: Topology, source: str) -> Rea
         "listed": {domain.name for domain in topology.domains}, "device": set(topology.device_numbers),
         "link": set(topology.link_numbers),
     }
+    budget: Optional[Tuple[int, int]] = None
     for number, text in enumerate(lines, 1):
         said = _row(text, source, number)
         if said["name"] not in known.get(said["kind"], ()):
             raise ToolError(f"the topology has no {said['kind']} {said['name']}", source, number)
+        if budget not in (None, (said["base_ps"], said["hold_ps"])):
+            raise ToolError("the losses have several BASE or HOLD", source, number)
+        budget = said["base_ps"], said["hold_ps"]
         found.setdefault(_outcome(said), []).append(f"{said['kind']} {said['name']}")
-    if not found:
+    if budget is None:
         raise ToolError("there is no loss: it is no output of sundial-readiness --json", source)
     order = sorted(found, key=lambda it: (not it.refusal, it.found, -(it.bound or 0), -len(it.moving)))
-    return Readiness(tuple((outcome, tuple(found[outcome])) for outcome in order))
+    return Readiness(tuple((outcome, tuple(found[outcome])) for outcome in order), budget)
 
 
 def _row(text: str, source: str, number: int) -> Dict[str, Any]:

@@ -4,10 +4,10 @@ from __future__ import annotations
 
 from typing import List, Sequence
 
-from sundial_tools.report.markup import Raw, element, folded, joined
+from sundial_tools.report.markup import Raw, element, filled, folded, joined
 from sundial_tools.report.readiness import Outcome, Readiness
 from sundial_tools.report.tables import MOST_NAMES, Cell, table
-from sundial_tools.report.units import column, count
+from sundial_tools.report.units import clear, column, count
 
 OPEN_ROWS, MOST_LOSSES = 40, 3
 
@@ -17,14 +17,8 @@ def readiness_section(readiness: Readiness) -> Raw:
     facts = f"{readiness.planned_again} of {count(readiness.losses, 'loss', 'losses')} can be planned again."
     facts += f" After {lost} the rule of renew finds no plan: they come first." if lost else ""
     facts += f" After {readiness.found} of these the search finds one." if readiness.found else ""
-    return element(
-        "section",
-        element("h2", "Readiness: what each loss does", id="readiness"),
-        element("p", facts, class_="facts"),
-        _table(readiness),
-        element("p", "A device moves if it hears nothing for its wait. The eps is the greatest bound of the drill for this loss.", class_="note"),
-        class_="readiness",
-    )
+    base, hold = map(clear, readiness.budget)
+    return filled("readiness", facts=facts, table=_table(readiness), base=base, hold=hold)
 
 
 def _table(readiness: Readiness) -> Raw:

@@ -40,7 +40,7 @@ TRACK_OF = ("primary", "backup", "acting", "waiting")
 
 
 class Mark(NamedTuple):
-    """Something that happened at a line of the schedule."""
+    """Something that happened at a line of the schedule. `ref` is the time from the first event."""
 
     kind: str
     ref: int
@@ -51,7 +51,8 @@ class Mark(NamedTuple):
 
 @dataclass
 class Replay:
-    """`marks` and `mark_counts` are by lane; of very many marks in a lane the first ones are kept."""
+    """`marks` and `mark_counts` are by lane; of very many marks in a lane the first ones are kept. All times are from the first
+    event, which is at the reference `origin`; None where there is no event."""
 
     peaks: Peaks = field(default_factory=Peaks)
     reports: Reports = field(default_factory=Reports)
@@ -60,7 +61,7 @@ class Replay:
     marks: Dict[str, List[Mark]] = field(default_factory=lambda: {lane: [] for lane in LANES})
     mark_counts: Dict[str, int] = field(default_factory=lambda: dict.fromkeys(LANES, 0))
     events: int = 0
-    first: Optional[int] = None
+    origin: Optional[int] = None
     last: int = 0
     refusal: Optional[str] = None
     refused_plan: Optional[OutputLine] = None
@@ -134,14 +135,14 @@ class ReplayReader:
         if (device is not None and device >= len(self._names)) or event.thing is not None:
             self._known(number, event)
         replay = self._replay
-        if event.ref < replay.last:
+        if replay.origin is None:
+            replay.origin = event.ref
+        if self._since(event) < replay.last:
             raise self._not_accepted(number, event)
-        replay.events, replay.last = number, event.ref
-        if replay.first is None:
-            replay.first = event.ref
+        replay.events, replay.last = number, self._since(event)
         said = self._fleet.report(device, counter) if counter is not None and device is not None else None
         if event.word in RARE:
-            self._mark(event.word, number, event.ref, self._text(event), event.device if event.thing != "device" else event.number)
+            self._mark(event.word, number, self._since(event), self._text(event), event.device if event.thing != "device" else event.number)
         try:
             if self._watch is not None:
                 self._watch.before(event)
@@ -159,9 +160,12 @@ class ReplayReader:
         if happened in LANE_OF:
             closes = event.device is None or happened == "close"
             text = "the window closes" if closes else f"{happened} {self._names[event.device or 0]}"
-            self._mark(happened, number, event.ref, text, None if closes else event.device)
+            self._mark(happened, number, self._since(event), text, None if closes else event.device)
         if event.word == "ask" or (self._next is not None and self._next[1].fields.get("line") == number):
             self._told(number, event, said)
+
+    def _since(self, event: Event) -> int:
+        return event.ref - (self._replay.origin or 0)
 
     def _happen(self, event: Event) -> str:
         """What the event brings. (ticks, receipts and asks are nearly all events: they go to the fleet without its look-up)"""
@@ -195,7 +199,7 @@ class ReplayReader:
             after = self._fleet.report(event.device, event.counter)
         if after is not None:
             before = after if said is None or event.word in ("start", "join") else said
-            self._replay.peaks.add(event.device, event.ref, before[1], after[1])
+            self._replay.peaks.add(event.device, self._since(event), before[1], after[1])
 
     def _text(self, event: Event) -> str:
         if event.number is not None:
@@ -213,15 +217,15 @@ class ReplayReader:
 
     def _track(self, event: Event, happened: str) -> None:
         """Keeps the modes of devices over time."""
-        word, device, tracks = event.word, event.device, self._tracks
+        word, device, tracks, since = event.word, event.device, self._tracks, self._since(event)
         if happened == "accept" and device is not None:
-            tracks.heard(device, event.ref)
+            tracks.heard(device, since)
         elif happened in STATE_OF and device is not None:
-            tracks.set(device, STATE_OF[happened], event.ref)
+            tracks.set(device, STATE_OF[happened], since)
         elif word in ("start", "join", "commit") and device is not None:
-            tracks.set(device, TRACK_OF[self._fleet.devices[device].mode], event.ref)
+            tracks.set(device, TRACK_OF[self._fleet.devices[device].mode], since)
         elif word == "fail" and event.thing == "device" and event.number is not None:
-            tracks.set(event.number, "down", event.ref)
+            tracks.set(event.number, "down", since)
 
     def _explain(self, number: int, event: Event) -> None:
         """Who breaks a premise with this event, which comes next. The line that says so is the next of the output."""
@@ -229,7 +233,7 @@ class ReplayReader:
             return
         if self._next[1].kind == "broken":
             premise = self._next[1].fields["premise"]
-            mark = self._mark("broken", number, event.ref, f"broken {number} {premise}", event.device)
+            mark = self._mark("broken", number, self._since(event), f"broken {number} {premise}", event.device)
             self._replay.causes.append((mark, self._watch.explain(premise, event, number)))
             self._advance()
             self._explain(number, event)
@@ -247,12 +251,12 @@ class ReplayReader:
                 self._report(number, event, said, line)
                 reported = True
             elif line.kind == "broken":
-                self._mark("broken", number, event.ref, f"broken {number} {line.fields['premise']}")
+                self._mark("broken", number, self._since(event), f"broken {number} {line.fields['premise']}")
             elif line.kind.startswith("alarm"):
                 device = self._topology.device_numbers.get(line.fields["device"])
-                self._replay.alarms.append(self._mark("alarm", number, event.ref, _alarm(line), device))
+                self._replay.alarms.append(self._mark("alarm", number, self._since(event), _alarm(line), device))
             elif line.kind == "disorder":
-                self._mark("disorder", number, event.ref, f"disorder {number} {line.fields['begin']}")
+                self._mark("disorder", number, self._since(event), f"disorder {number} {line.fields['begin']}")
             self._advance()
         if event.word == "ask" and not reported:
             raise ToolError(
@@ -266,7 +270,7 @@ class ReplayReader:
         if said != (clock, eps):
             raise self._wrong(f"the report is not that of these plans and this schedule: {said} was expected")
         lineage = self._lineages.held(event.device, Reading(number, event.ref, event.counter or 0))
-        report = Report(number, event.device, event.ref, clock, eps, lineage)
+        report = Report(number, event.device, self._since(event), clock - event.ref + self._since(event), eps, lineage)
         if report.is_wrong and lineage is not None and self._replay.wrong < MOST_MARKS:
             self._replay.unsound[number] = Told(self._topology, lineage).unsound()
         self._replay.wrong += report.is_wrong

@@ -2,10 +2,9 @@
 
 from __future__ import annotations
 
-import json
 from typing import Dict, List
 
-from sundial_tools.report.markup import Raw, element, folded, joined
+from sundial_tools.report.markup import Raw, as_json, element, filled, folded
 from sundial_tools.report.panels import ALIKE, panels, tracks_alike
 from sundial_tools.report.replay import Replay
 from sundial_tools.report.replay_tables import marks_table, percentiles_table, reports_table, spans_table
@@ -14,17 +13,14 @@ from sundial_tools.report.tracks import MEANING, STATES
 from sundial_tools.report.units import clear, count, human
 from sundial_tools.topology import Topology
 
-CONTROLS = (("in", "+", "zoom in"), ("out", "\u2212", "zoom out"), ("left", "\u2190", "earlier"), ("right", "\u2192", "later"), ("all", "all", "show all"))
-
-
 def replay_section(topology: Topology, replay: Replay, calm: Dict[int, int]) -> Raw:
     view = ReplayView(topology, replay, calm)
-    parts: List[Raw] = [element("h2", "Replay: what happened over reference time", id="replay")]
+    parts: List[Raw] = [element("h2", "Replay: what happened over time", id="replay")]
     parts.append(element("p", _facts(view), class_="facts"))
     if replay.refusal is not None:
         parts.append(element("p", element("code", replay.refusal), " The replay ends before this line.", class_="refused"))
     if replay.events:
-        parts.append(element("div", *_scales(), _controls(), panels(view), class_="timed"))
+        parts.append(filled("timed", panels=panels(view)))
         parts += [_legend(view), _lines(view), _alike(view), _data(view)]
     parts += [marks_table(view), percentiles_table(view), reports_table(view), spans_table(view)]
     return element("section", parts, class_="replay")
@@ -32,7 +28,7 @@ def replay_section(topology: Topology, replay: Replay, calm: Dict[int, int]) -> 
 
 def _facts(view: ReplayView) -> str:
     replay = view.replay
-    text = f"{count(replay.events, 'event')} from {clear(view.first)} to {clear(replay.last)}, "
+    text = f"{count(replay.events, 'event')} over {clear(replay.last)}, the first at the reference {clear(replay.origin or 0)}, "
     text += f"{count(replay.reports.count, 'report')}."
     if replay.reports.count:
         text += f" Reports that were off by more than their eps: {replay.wrong}."
@@ -44,46 +40,17 @@ def _facts(view: ReplayView) -> str:
     return text
 
 
-def _scales() -> List[Raw]:
-    parts = []
-    for key, text in ("linear", "eps from 0"), ("log", "eps by logarithm"):
-        parts.append(element("input", type="radio", name="eps-scale", id=f"eps-{key}", class_=f"scale {key}", checked=key == "linear"))
-        parts.append(element("label", text, for_=f"eps-{key}"))
-    return parts
-
-
-def _controls() -> Raw:
-    """Buttons for pages with script. They are hidden until the script shows them."""
-    buttons = [element("button", sign, type="button", data_zoom=key, aria_label=label, title=label) for key, sign, label in CONTROLS]
-    return element(
-        "div", buttons, element("output", class_="shown"), class_="controls", role="group", aria_label="Zoom", hidden=True
-    )
-
-
 def _legend(view: ReplayView) -> Raw:
-    states = [
-        element("span", element("i", class_=f"key state {state}"), f"{state}: {MEANING[state]}", class_="item")
-        for state in STATES
-    ]
-    signs = (
-        "Signs: \u00d7 fails, + is mended, \u2191 joins, \u25b8 moves to its backup, \u25c6 takes over as root, ! alarm, \u25b2 broken premise; "
-        "\u258f stage, \u25a0 commit, \u2016 the window closes."
-    )
+    states = [filled("key", key=f"state {state}", text=f"{state}: {MEANING[state]}") for state in STATES]
     waits = view.replay.tracks.patience if view.replay.tracks is not None else 0
-    note = (
-        f"A line has the greatest and the last eps of a device in each {human(view.replay.peaks.step)}, computed from the schedule. "
-        f"The grey area is the greatest eps of all devices. A dot is a printed report. In the last panel it shows how far "
-        f"the report was off: inside the green band, by less than its eps. A device waits if it heard nothing for more "
-        f"than {human(waits)}. From the first broken premise on all panels are shaded: nothing is promised there."
-    )
-    return joined([element("p", states, class_="legend states"), element("p", signs, class_="note"), element("p", note, class_="note")])
+    return filled("legend", states=states, step=human(view.replay.peaks.step), waits=human(waits))
 
 
 def _lines(view: ReplayView) -> Raw:
     items: List[Raw] = []
     for place, devices in enumerate(view.lines):
         text = view.names(devices) + (" (one line)" if len(devices) > 1 else "")
-        key = element("i", class_=f"key line c{place}")
+        key = element("i", class_=f"key line c{place}" + " dashed" * view.dashed[place])
         items.append(element("span", key, text, class_="item device", data_devices=" ".join(map(str, devices))))
     more = len(view.replay.peaks.of) - view.alone
     if more > 0:
@@ -120,4 +87,4 @@ def _data(view: ReplayView) -> Raw:
             for devices in view.lines
         ],
     }
-    return element("script", Raw(json.dumps(said, separators=(",", ":")).replace("<", "\\u003c")), type="application/json", class_="lines-data")
+    return element("script", as_json(said), type="application/json", class_="lines-data")

@@ -85,7 +85,7 @@ def marks_table(view: ReplayView) -> Raw:
         rows.append(cells)
     caption = f"What happened: {total} marks" + (f", {len(rows)} of them" if len(rows) < total else "")
     return folded(
-        caption, table("marks", ("line", f"reference, {refs.unit}", "what", "text, and who broke it"), rows), is_open=total <= OPEN_ROWS or bool(bad)
+        caption, table("marks", ("line", f"from the first event, {refs.unit}", "what", "text, and who broke it"), rows), is_open=total <= OPEN_ROWS or bool(bad)
     )
 
 
@@ -106,7 +106,7 @@ def reports_table(view: ReplayView) -> Raw:
         for place, report in enumerate(worst)
     ]
     caption = f"Reports: {view.replay.reports.count}" + (f", {len(rows)} of them" if len(rows) < view.replay.reports.count else "")
-    head = ("line", f"reference, {refs.unit}", "device", f"clock, {clocks.unit}", f"eps, {eps.unit}", f"off, {off.unit}", "of its eps", "rests on")
+    head = ("line", f"from the first event, {refs.unit}", "device", f"clock, {clocks.unit}", f"eps, {eps.unit}", f"off, {off.unit}", "of its eps", "rests on")
     return folded(f"{caption}, the worst first", table("reports", head, rows))
 
 

@@ -7,13 +7,17 @@ from typing import Dict, Iterable, List, Optional, Tuple, cast
 
 from sundial_tools.report.replay import Replay
 from sundial_tools.report.series import Interval
-from sundial_tools.report.units import clear, round_steps, unit_of
+from sundial_tools.report.units import round_steps, unit_of
 from sundial_tools.topology import Topology
 
 LINES = 12
 # A panel is so wide in the units of its picture, whatever its width on the screen.
 WIDE = 1000.0
+# What is left free before the first event and after the last one: this part of the time between them.
+EDGE = 120
 MOST_TICKS = 8
+# A line is dashed where it lies on one of those before it for more than one in so many intervals.
+HIDDEN = 10
 # Lines that nowhere differ by more than this part of the greatest eps are drawn as one.
 LEAST_APART = 200
 
@@ -26,8 +30,11 @@ class ReplayView:
         # By device, what no report of it exceeds while nothing has failed, where that is known.
         self.calm = calm or {}
         self.reports = replay.reports.kept()
-        self.first = replay.first if replay.first is not None else 0
-        self.last = max(replay.last, self.first + 1)
+        # (marks and dots at the first and the last event are seen whole)
+        edge = max(1, replay.last // EDGE)
+        self.first, self.last = -edge, replay.last + edge
+        # (of the lines that are drawn, which are dashed, so that those under them are seen)
+        self.dashed: List[bool] = []
         self.lines: List[List[int]] = self._lines()
         self.colour: Dict[int, int] = {device: place for place, devices in enumerate(self.lines) for device in devices}
         self.alone = len(self.colour)
@@ -42,8 +49,10 @@ class ReplayView:
                 found.append((drawn, [device]))
             else:
                 same.append(device)
-        widest = sorted((devices for _, devices in found), key=lambda devices: (-self._peak(devices[0]), devices[0]))[:LINES]
-        return sorted(widest)
+        widest = sorted(found, key=lambda one: (-self._peak(one[1][0]), one[1][0]))[:LINES]
+        widest.sort(key=lambda one: one[1])
+        self.dashed = [any(drawn.hides(other, apart) for other, _ in widest[:place]) for place, (drawn, _) in enumerate(widest)]
+        return [devices for _, devices in widest]
 
     def _peak(self, device: int) -> int:
         return max((found.peak for found in self.replay.peaks.of[device] if found is not None), default=0)
@@ -57,7 +66,7 @@ class ReplayView:
         return ", ".join(known[:most]) + (f" and {more} more" if more > 0 else "")
 
     def share(self, ref: float) -> float:
-        """Where a reference lies between the first event and the last, from 0 to 1."""
+        """Where a time lies in the panels, from 0 to 1."""
         return min(1.0, max(0.0, (ref - self.first) / (self.last - self.first)))
 
     def x(self, ref: float) -> str:
@@ -68,10 +77,6 @@ class ReplayView:
         """The reference at which an interval of the lines is drawn."""
         begin = self.replay.peaks.first or 0
         return min(self.last, begin + (place + 0.5) * self.replay.peaks.step)
-
-    def time(self, ref: int) -> str:
-        """A reference as people read it, with its unit."""
-        return clear(ref)
 
     def ticks(self) -> List[Tuple[float, str]]:
         """Round times for an axis: where, and what stands there."""
@@ -93,6 +98,14 @@ class Drawn:
     def coincides(self, other: "Drawn", apart: float) -> bool:
         """Whether the two lines are nowhere further from each other than that."""
         return self._follows(other, apart) and other._follows(self, apart)
+
+    def hides(self, other: "Drawn", apart: float) -> bool:
+        """Whether it lies on the other line for a part of it that counts."""
+        met = sum(
+            bool(near and points) and min(near) - apart <= min(points) and max(points) <= max(near) + apart
+            for points, near in zip(self._points, other._near)
+        )
+        return met * HIDDEN > len(other._near)
 
     def _follows(self, other: "Drawn", apart: float) -> bool:
         if len(self._points) > len(other._near) + 1:

@@ -36,49 +36,93 @@
   });
 
   // A link to a place within what is folded opens it.
-  function openTarget() {
-    var target = location.hash.length > 1 && document.getElementById(decodeURIComponent(location.hash.slice(1)));
+  function openUp(target) {
     for (var at = target; at; at = at.parentElement) if (at.tagName === "DETAILS") at.open = true;
+    if (target && target.tagName === "LI" && target.firstChild.tagName === "DETAILS") target.firstChild.open = true;
     if (target) target.scrollIntoView({ block: "center" });
   }
+  function openTarget() { openUp(location.hash.length > 1 && document.getElementById(decodeURIComponent(location.hash.slice(1)))); }
   window.addEventListener("hashchange", openTarget);
   openTarget();
-  window.addEventListener("beforeprint", function () { all(document, "details.files,details.group").forEach(function (one) { one.open = true; }); });
+  window.addEventListener("beforeprint", function () { all(document, "details.files,details.alike").forEach(function (one) { one.open = true; }); });
 
-  // Trees: a domain is chosen, and its devices and edges are marked.
+  // Trees: a domain is chosen, and its devices and edges are marked; a device is found by a part of its name.
   var STATES = ["failed", "moves", "cut", "silent", "acts"], EDGES = ["failed", "taken", "left"];
+  function ranged(text) {
+    var found = new Set();
+    (text || "").split(" ").filter(Boolean).forEach(function (run) {
+      var ends = run.split("-").map(Number);
+      for (var number = ends[0]; number <= ends[ends.length - 1]; number++) found.add(number);
+    });
+    return found;
+  }
+  // The marks of a device: in the picture, and its row in the list.
+  var MARKS = "[data-device],.rows li[id]";
+  function deviceOf(mark) { return Number(mark.dataset.device || mark.id.split("-")[2]); }
+  function some(numbers, others) { return Array.from(numbers).some(function (number) { return others.has(number); }); }
   function show(section, said) {
-    var states = said ? said[1] : {}, links = said ? said[2] : [];
+    var states = {}, links = ranged(said && said[2]);
+    STATES.forEach(function (state) { states[state] = ranged(said && said[1][state]); });
     section.querySelector(".effect").textContent = said ? said[0] : "";
-    all(section, "g.device").forEach(function (group) {
-      var device = Number(group.dataset.device);
-      STATES.forEach(function (state) { group.classList.toggle(state, (states[state] || []).indexOf(device) >= 0); });
+    all(section, MARKS).forEach(function (mark) {
+      var device = deviceOf(mark);
+      STATES.forEach(function (state) { mark.classList.toggle(state, states[state].has(device)); });
     });
     all(section, "path.edge").forEach(function (edge) {
       EDGES.forEach(function (state) { edge.classList.remove(state); });
       if (!said) return;
-      var devices = numbers(edge.dataset.devices), moves = states.moves || [];
-      var moving = devices.filter(function (device) { return moves.indexOf(device) >= 0; });
-      var failed = numbers(edge.dataset.links).some(function (link) { return links.indexOf(link) >= 0; });
-      if (failed || (states.failed || []).indexOf(Number(edge.dataset.parent)) >= 0) edge.classList.add("failed");
-      if (moving.length && edge.classList.contains("backup")) edge.classList.add("taken");
-      else if (moving.length === devices.length) edge.classList.add("left");
+      var devices = Array.from(ranged(edge.dataset.devices));
+      var moving = devices.filter(function (device) { return states.moves.has(device); }).length;
+      if (some(ranged(edge.dataset.links), links) || some(ranged(edge.dataset.parents), states.failed)) edge.classList.add("failed");
+      if (moving && edge.classList.contains("backup")) edge.classList.add("taken");
+      else if (moving === devices.length) edge.classList.add("left");
     });
   }
   function dimOthers(section, device) {
     all(section, "path.edge").forEach(function (edge) {
-      var near = device === null || Number(edge.dataset.parent) === device || numbers(edge.dataset.devices).indexOf(device) >= 0;
+      var near = device === null || ranged(edge.dataset.parents).has(device) || ranged(edge.dataset.devices).has(device);
       edge.classList.toggle("dim", !near);
     });
   }
   all(document, "section.plan").forEach(function (section) {
     var effects = JSON.parse(section.querySelector("script.effects").textContent);
-    var choice = section.querySelector("select.domains");
+    var choice = section.querySelector("select.domains"), find = section.querySelector("input.find"), found = section.querySelector("output.found");
+    var rows = all(section, ".rows li[id]"), hits = [], at = -1;
+    function nameOf(row) { return row.querySelector("b").textContent; }
+    function rowOf(mark) { return document.getElementById(section.querySelector("h3").id + "-" + deviceOf(mark)); }
+    function seek(wanted) {
+      hits = wanted ? rows.filter(function (row) { return nameOf(row).toLowerCase().indexOf(wanted) >= 0; }) : [];
+      hits.sort(function (a, b) { return (nameOf(b).toLowerCase() === wanted) - (nameOf(a).toLowerCase() === wanted); });
+      at = -1;
+      var devices = new Set(hits.map(deviceOf));
+      all(section, MARKS).forEach(function (mark) { mark.classList.toggle("found", devices.has(deviceOf(mark))); });
+      found.textContent = wanted ? hits.length + (hits.length === 1 ? " device" : " devices") + (hits.length ? ": Enter goes to its row" : "") : "";
+    }
     section.querySelector(".chooser").hidden = false;
-    choice.addEventListener("change", function () { show(section, effects[choice.value]); });
-    all(section, "g.device").forEach(function (group) {
-      group.addEventListener("mouseenter", function () { dimOthers(section, Number(group.dataset.device)); });
-      group.addEventListener("mouseleave", function () { dimOthers(section, null); });
+    choice.addEventListener("change", function () { show(section, choice.value === "" ? null : effects[Number(choice.value)]); });
+    find.addEventListener("input", function () { seek(find.value.trim().toLowerCase()); });
+    find.addEventListener("keydown", function (event) {
+      if (event.key !== "Enter" || !hits.length) return;
+      at = (at + (event.shiftKey ? hits.length - 1 : 1)) % hits.length;
+      found.textContent = nameOf(hits[at]) + ", " + (at + 1) + " of " + hits.length;
+      openUp(hits[at]);
+    });
+    var picture = section.querySelector("svg.tree");
+    picture.addEventListener("mouseover", function (event) {
+      var mark = event.target.closest("[data-device]");
+      if (mark && mark.tagName === "rect" && !mark.firstChild) {
+        var title = document.createElementNS(picture.namespaceURI, "title"), row = rowOf(mark);
+        title.textContent = (row.querySelector("summary") || row).textContent;
+        mark.appendChild(title);
+      }
+      dimOthers(section, mark ? Number(mark.dataset.device) : null);
+    });
+    picture.addEventListener("mouseleave", function () { dimOthers(section, null); });
+    picture.addEventListener("click", function (event) {
+      var mark = event.target.closest("[data-device]");
+      if (!mark || mark.tagName !== "rect") return;
+      event.preventDefault();
+      openUp(rowOf(mark));
     });
   });
 
@@ -140,7 +184,7 @@
       return epsText(begin + (line.eps[behind] - begin) * (place - before) / (behind - before));
     }
     function say() {
-      var text = inUnit(first + from * span, timeUnit, 7) + " to " + inUnit(first + (from + 1 / zoom) * span, timeUnit, 7);
+      var text = inUnit(Math.max(0, first + from * span), timeUnit, 5) + " to " + inUnit(first + (from + 1 / zoom) * span, timeUnit, 5);
       if (at !== null) {
         var ref = first + at * span, place = Math.floor((ref - data.begin) / data.step);
         text = "at " + inUnit(ref, timeUnit, 9) + ": " + data.lines.map(function (line) {

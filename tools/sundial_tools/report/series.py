@@ -60,7 +60,8 @@ def _joined(first: Optional[Interval], second: Optional[Interval]) -> Optional[I
 
 
 class Report(NamedTuple):
-    """A printed report: the line and the reference of its ask, what the device said, in picoseconds, and on what it rests."""
+    """A printed report: the line and the time of its ask, what the device said, both in picoseconds from the first event, and
+    on what it rests."""
 
     line: int
     device: int

@@ -33,8 +33,8 @@ def _is_number(cell: Cell) -> bool:
     return isinstance(cell, tuple) or (not isinstance(cell, Raw) and NUMBER.fullmatch(cell) is not None)
 
 
-def names_of(topology: Topology, devices: Sequence[int]) -> str:
+def names_of(topology: Topology, devices: Sequence[int], most: int = MOST_NAMES) -> str:
     """The names of devices. Of many, the first ones and how many there are."""
-    names: List[str] = [topology.devices[device].name for device in devices[:MOST_NAMES]]
+    names: List[str] = [topology.devices[device].name for device in devices[:most]]
     more = len(devices) - len(names)
     return ", ".join(names) + (f" and {more} more" if more else "")

@@ -2,17 +2,16 @@
 
 from __future__ import annotations
 
-from typing import Dict, FrozenSet, List, Optional, Set, Tuple
+from typing import FrozenSet, Iterable, List, Optional, Set, Tuple
 
+from sundial_tools.effects import Effect
 from sundial_tools.plan import Plan
-from sundial_tools.report.boxes import HEAD, PADDING, SQUARE, Box, Drawing, Edge
-from sundial_tools.report.effects import Effect
+from sundial_tools.report.fold import PADDING, Box, Drawing, Edge, Point
 from sundial_tools.report.markup import Raw, drawing, element, title
 from sundial_tools.report.refusal import Refusal
 from sundial_tools.report.units import clear
 from sundial_tools.topology import Topology
 
-Point = Tuple[float, float]
 # A small tree is drawn larger, as long as it stays so wide.
 MOST_ZOOM, WIDE = 1.4, 760.0
 
@@ -23,31 +22,30 @@ def zoom_of(width: float) -> float:
 
 class TreePicture:
     """Draws one plan. `effect` is the domain under which it is shown, `refusal` what it is marked by, `changed` the hops
-    that the plan before did not have."""
+    that the plan before did not have, and `place` the number of the plan on the page."""
 
     def __init__(
         self, topology: Topology, plan: Plan, drawing: Drawing, effect: Optional[Effect], refusal: Optional[Refusal],
-        changed: FrozenSet[Tuple[str, int]] = frozenset(),
+        changed: FrozenSet[Tuple[str, int]] = frozenset(), place: int = 1,
     ) -> None:
-        self._topology, self._plan, self._drawing = topology, plan, drawing
+        self._topology, self._plan, self._drawing, self._place = topology, plan, drawing, place
         self._effect, self._refusal, self._changed = effect, refusal, changed
-        self._domains: Dict[int, List[str]] = {}
-        for domain in topology.domains:
-            for device in domain.devices:
-                self._domains.setdefault(device, []).append(domain.name)
+        self._states = effect.states if effect is not None else {}
         self._ring = ring_hops(plan, refusal)
         self._steps = {device: place for place, device in enumerate(refusal.steps, 1)} if refusal else {}
 
     def svg(self, label: str) -> Raw:
         width, height = self._drawing.width, self._drawing.height
-        zoom = zoom_of(width)
         drawn = [(edge, self._edge_states(edge), route) for edge, route in zip(self._drawing.edges, self._drawing.routes)]
         # What is refused is drawn last, over all others, at its full length.
         drawn.sort(key=lambda one: "breach" in one[1])
         edges = [self._edge(*one) for one in drawn]
         boxes = [self._box(box) for box in self._drawing.boxes]
-        states = "tree breached" if self._ring else "tree"
-        return drawing(states, label, width, height, zoom, edges, boxes, data_layout=self._drawing.laid_out_by)
+        is_folded = any(not box.is_single for box in self._drawing.boxes)
+        return drawing(
+            "tree breached" if self._ring else "tree", label, width, height, zoom_of(width), edges, boxes,
+            role="group" if is_folded else "img", side=self._drawing.boxes[0].square - 2,
+        )
 
     # Edges
 
@@ -58,19 +56,19 @@ class TreePicture:
             class_=" ".join(["edge", edge.kind] + states),
             d=_path(route),
             marker_start="url(#arrow)" if "breach" in states else None,
-            data_parent=edge.parent,
-            data_devices=" ".join(map(str, edge.devices)),
-            data_links=" ".join(map(str, edge.links)),
+            data_parents=ranges(edge.parents),
+            data_devices=ranges(edge.devices),
+            data_links=ranges(edge.links),
         )
 
     def _edge_title(self, edge: Edge) -> str:
-        parent = self._topology.devices[edge.parent].name
+        names = self._topology.devices
+        parents = names[edge.parents[0]].name + (f" and {len(edge.parents) - 1} more" if len(edge.parents) > 1 else "")
         if len(edge.devices) == 1:
             link = self._topology.links[edge.links[0]]
             bounds = link.towards(edge.devices[0])
-            device = self._topology.devices[edge.devices[0]].name
-            return f"{edge.kind} of {device}: {parent} over {link.name}, {clear(bounds.min)} to {clear(bounds.max)}"
-        return f"{edge.kind} of {len(edge.devices)} devices: {parent}"
+            return f"{edge.kind} of {names[edge.devices[0]].name}: {parents} over {link.name}, {clear(bounds.min)} to {clear(bounds.max)}"
+        return f"{edge.kind} of {len(edge.devices)} devices: {parents}"
 
     def _edge_states(self, edge: Edge) -> List[str]:
         states = []
@@ -81,8 +79,8 @@ class TreePicture:
             states.append("changed")
         effect = self._effect
         if effect is not None:
-            moving = {move.device for move in effect.moves if move.hop is not None}.intersection(edge.devices)
-            if effect.domain.links.intersection(edge.links) or edge.parent in effect.domain.devices:
+            moving = set(effect.moving).intersection(edge.devices)
+            if set(effect.domain.links).intersection(edge.links) or set(effect.domain.devices).intersection(edge.parents):
                 states.append("failed")
             if moving and edge.kind == "backup":
                 states.append("taken")
@@ -94,25 +92,27 @@ class TreePicture:
 
     def _box(self, box: Box) -> Raw:
         left, top = box.x - box.width / 2, box.y - box.height / 2
-        if not box.is_shared:
+        if box.is_single:
             return self._device(box.devices[0], left, top, box.width, box.height)
-        names = [self._topology.devices[device].name for device in box.devices]
+        total = f"{len(box.devices)} devices" if len(box.devices) > len(box.units) else f"{len(box.units)} alike"
         parts: List[Raw] = [
+            title(f"{box.label}: {total}. Their rows are in the list below"),
             element("rect", class_="shared", x=left, y=top, width=box.width, height=box.height, rx=7),
-            element("text", f"{len(names)} devices", class_="count", x=left + PADDING, y=top + 16),
+            element("text", box.label, class_="count", x=left + PADDING, y=top + 15),
         ]
-        for place, device in enumerate(box.devices):
-            row, column = divmod(place, box.columns)
-            parts.append(self._square(device, left + PADDING + column * SQUARE, top + PADDING + HEAD + row * SQUARE))
-        return element("g", parts, class_="box")
+        for device, place, (x, y) in box.places():
+            if box.has_blocks and place == 0:
+                parts.append(element("text", self._topology.devices[device].name, class_="unit", x=x, y=y - 3))
+            parts.append(self._square(device, x, y))
+        return element("a", parts, class_="box", href=f"#plan-{self._place}-{box.devices[0]}")
 
     def _square(self, device: int, left: float, top: float) -> Raw:
-        rect = element("rect", x=left + 1, y=top + 1, width=SQUARE - 2, height=SQUARE - 2, rx=2)
-        return element("g", title(self._device_title(device)), rect, class_=self._classes(device), data_device=device)
+        # (there are thousands of them: the style has their size, and the script their titles)
+        return Raw(f'<rect class="{self._classes(device)}" data-device="{device}" x="{left:.0f}" y="{top:.0f}"/>')
 
     def _device(self, device: int, left: float, top: float, width: float, height: float) -> Raw:
         parts = [
-            title(self._device_title(device)),
+            title(device_title(self._topology, self._plan, device)),
             element("rect", x=left, y=top, width=width, height=height, rx=5),
             element("text", self._topology.devices[device].name, x=left + width / 2, y=top + height / 2 + 4.5),
         ]
@@ -124,47 +124,26 @@ class TreePicture:
         return element("g", parts, class_=self._classes(device), data_device=device)
 
     def _classes(self, device: int) -> str:
-        return " ".join(["device"] + self._device_states(device))
-
-    def _device_states(self, device: int) -> List[str]:
-        states = []
+        states = ["device"]
         if device == self._plan.root:
             states.append("root")
         if device == self._plan.backup_root:
             states.append("backup-root")
-        if self._refusal is not None and device in self._refusal.steps:
+        if device in self._steps:
             states.append("breach")
-        if self._effect is not None:
-            states += [state for state, devices in effect_states(self._effect).items() if device in devices]
-        return states
-
-    def _device_title(self, device: int) -> str:
-        names, links = self._topology.devices, self._topology.links
-        parts = [names[device].name]
-        if device == self._plan.root:
-            parts.append("root")
-        if device == self._plan.backup_root:
-            parts.append("backup root")
-        row = self._plan.rows.get(device)
-        if row is not None:
-            parts.append(f"primary {names[row.primary.parent].name} over {links[row.primary.link].name}")
-            if row.backup is not None:
-                parts.append(f"backup {names[row.backup.parent].name} over {links[row.backup.link].name}")
-        domains = self._domains.get(device, ())
-        return ", ".join(parts) + (f" (domain {' '.join(domains)})" if domains else "")
+        return " ".join(states + [state for state, devices in self._states.items() if device in devices])
 
 
-def definitions() -> Raw:
-    """What the pictures of all plans share: the arrow of a refusal, and the hatching of what has failed."""
-    arrow = element(
-        "marker", element("path", d="M0 0L8 4L0 8Z"), id="arrow", viewBox="0 0 8 8", refX="7", refY="4",
-        markerWidth="9", markerHeight="9", orient="auto-start-reverse", markerUnits="userSpaceOnUse",
-    )
-    hatch = element(
-        "pattern", element("path", d="M-2 2L2 -2M0 8L8 0M6 10L10 6"), id="hatch", width="8", height="8",
-        patternUnits="userSpaceOnUse",
-    )
-    return element("svg", element("defs", arrow, hatch), width="0", height="0", class_="defs", aria_hidden="true")
+def device_title(topology: Topology, plan: Plan, device: int) -> str:
+    """A device with its hops."""
+    names, links = topology.devices, topology.links
+    parts = [names[device].name]
+    parts += ["root"] * (device == plan.root) + ["backup root"] * (device == plan.backup_root)
+    row = plan.rows.get(device)
+    for what, hop in (("primary", row.primary), ("backup", row.backup)) if row is not None else ():
+        parts += [f"{what} {names[hop.parent].name} over {links[hop.link].name}"] if hop is not None else []
+    domains = [domain.name for domain in topology.domains if device in domain.devices]
+    return ", ".join(parts) + (f" (domain {' '.join(domains)})" if domains else "")
 
 
 def ring_hops(plan: Plan, refusal: Optional[Refusal]) -> Set[Tuple[str, int]]:
@@ -186,15 +165,15 @@ def ring_hops(plan: Plan, refusal: Optional[Refusal]) -> Set[Tuple[str, int]]:
     return hops
 
 
-def effect_states(effect: Effect) -> Dict[str, Set[int]]:
-    """The classes that a domain gives to devices."""
-    return {
-        "failed": set(effect.domain.devices),
-        "moves": {move.device for move in effect.moves if move.hop is not None},
-        "cut": set(effect.cut),
-        "silent": set(effect.silent),
-        "acts": set() if effect.acts is None else {effect.acts},
-    }
+def ranges(numbers: Iterable[int]) -> str:
+    """Numbers in a short form, which the script reads: 3 7-12."""
+    runs: List[List[int]] = []
+    for number in sorted(numbers):
+        if runs and number == runs[-1][1] + 1:
+            runs[-1][1] = number
+        else:
+            runs.append([number, number])
+    return " ".join(f"{first}-{last}" if last > first else str(first) for first, last in runs)
 
 
 def _badge(text: str, kind: str, x: float, y: float) -> Raw:

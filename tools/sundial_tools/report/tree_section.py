@@ -2,82 +2,83 @@
 
 from __future__ import annotations
 
-import json
-from typing import Any, Dict, Iterator, List, Optional, Tuple
+from typing import Dict, List, Optional, Sequence
 
+from sundial_tools.effects import Effect, Effects
 from sundial_tools.errors import ToolError
 from sundial_tools.plan import Plan
-from sundial_tools.report.boxes import Drawing, depths_of, draw
 from sundial_tools.report.changes import changes
-from sundial_tools.report.effects import Effect, Effects, fault_domains
+from sundial_tools.report.fold import Drawing, Tree, draw
 from sundial_tools.report.layout import lay_out
-from sundial_tools.report.markup import Raw, element, folded, joined, region
+from sundial_tools.report.markup import Raw, as_json, element, filled, folded, region
 from sundial_tools.report.refusal import Refusal
-from sundial_tools.report.tables import names_of, table
-from sundial_tools.report.tree_picture import TreePicture, effect_states, zoom_of
+from sundial_tools.report.rows_list import RowsList
+from sundial_tools.report.tables import MOST_NAMES, names_of, table
+from sundial_tools.report.tree_picture import TreePicture, ranges, zoom_of
 from sundial_tools.report.units import count, human
+from sundial_tools.things import all_named
 from sundial_tools.topology import Topology
 
-LEGEND = (
-    ("hop", "primary"),
-    ("hop dashed", "backup"),
-    ("root", "R root, B backup root"),
-    ("failed", "failed with the chosen domain"),
-    ("moves", "moves to its backup"),
-    ("cut", "cut off, or never hears again"),
-)
+# In a larger plan, links that move just the device below them have no row of their own.
+MOST_MOVES, MOST_PARENTS, FEW_NAMES = 200, 8, 3
 
 
 class TreeSection:
     """One plan of the page, the `place`th of its command from 1. `before` is the plan before it."""
 
     def __init__(
-        self, topology: Topology, plan: Plan, place: int, refusal: Optional[Refusal], domain: Optional[str], use_dot: bool,
-        before: Optional[Plan] = None,
+        self, topology: Topology, plan: Plan, place: int, refusal: Optional[Refusal], domain: Optional[str], before: Optional[Plan] = None,
     ) -> None:
         self._topology, self._plan, self._place, self._refusal = topology, plan, place, refusal
         effects = Effects(topology, plan)
-        self._effects = [effects.of(domain) for domain in fault_domains(topology)]
+        all_effects = [effects.of(domain) for domain in all_named(topology)]
+        self._still = sum(effect.is_nothing for effect in all_effects)
+        self._moved = sum(bool(effect.moving) for effect in all_effects)
         if domain is None and refusal is not None and refusal.domain is not None:
             domain = " ".join(refusal.domain)
-        self._chosen = self._choose(domain)
+        self._chosen = self._choose(all_effects, domain)
+        shown = [effect for effect in all_effects if not effect.is_nothing]
+        own = len(shown) > MOST_MOVES
+        self._effects = [effect for effect in shown if self._is_choice(effect, own)]
+        self._own = len(shown) - len(self._effects)
+        # Those that can be chosen: all but links under which nobody moves.
+        self._choices = [it for it in all_effects if it is self._chosen or self._is_choice(it, own)]
         self._changed = changes(before, plan).hops if before is not None else frozenset()
-        self._drawing: Drawing = draw(topology, plan, frozenset(refusal.steps) if refusal is not None else frozenset())
-        lay_out(self._drawing, use_dot)
+        self._tree = Tree(topology, plan)
+        self._drawing: Drawing = draw(self._tree, frozenset(refusal.steps) if refusal is not None else frozenset())
+        lay_out(self._drawing)
 
     @property
     def width(self) -> float:
         """How wide its picture is, in pixels of the page."""
         return self._drawing.width * zoom_of(self._drawing.width)
 
-    def _choose(self, label: Optional[str]) -> Optional[Effect]:
-        if label is None:
-            return None
-        for effect in self._effects:
-            if effect.domain.label == label:
-                return effect
-        raise ToolError(f"there is no fault domain {label!r}: write listed, device or link and a name")
+    def _is_choice(self, effect: Effect, own: bool) -> bool:
+        if effect.is_nothing:
+            return effect.domain.kind != "link" and not own
+        return not (own and _is_own(self._plan, effect))
+
+    def _choose(self, effects: Sequence[Effect], label: Optional[str]) -> Optional[Effect]:
+        chosen = next((effect for effect in effects if effect.domain.text == label), None)
+        if label is not None and chosen is None:
+            raise ToolError(f"there is no fault domain {label!r}: write listed, device or link and a name")
+        return chosen
 
     def html(self) -> Raw:
-        picture = TreePicture(self._topology, self._plan, self._drawing, self._chosen, self._refusal, self._changed)
-        heading = f"Plan {self._place}"
-        label = (
-            f"The tree of plan {self._place}, {count(len(self._plan.rows) + 1, 'device')}. "
-            "The table of rows below says the same"
-        )
-        return element(
-            "section",
-            element("h3", heading, id=f"plan-{self._place}"),
-            self._refused(),
-            self._facts(),
-            self._chooser(),
-            region(f"Picture of plan {self._place}", picture.svg(label), class_="picture"),
-            self._legend(),
-            self._groups(),
-            self._moves(),
-            self._rows(),
-            class_="plan",
-            data_plan=self._place,
+        picture = TreePicture(self._topology, self._plan, self._drawing, self._chosen, self._refusal, self._changed, self._place)
+        members = count(len(self._tree.members), "device")
+        svg = picture.svg(f"The tree of plan {self._place}, {members}. The list of rows below says the same")
+        rows = RowsList(self._tree, self._place).html()
+        options = [element("option", it.domain.text, value=number, selected=it is self._chosen) for number, it in enumerate(self._choices)]
+        data = [[self._sentence(it), _states(it), ranges(it.domain.links)] for it in self._choices]
+        marked = [("hop breach", "where the plan is refused")] if self._refusal is not None else []
+        marked += [("hop changed", "not in the plan before")] if self._changed else []
+        return filled(
+            "plan", place=str(self._place), refused=self._refused(), facts=self._facts(), options=options,
+            effect=self._sentence(self._chosen) if self._chosen else "", data=as_json(data),
+            picture=region(f"Picture of plan {self._place}", svg, class_="picture"),
+            legend=[filled("key", key=key, text=text) for key, text in marked], moves=self._moves(),
+            rows=folded(f"The rows of {members}", rows, class_="rows-of", is_open=len(self._tree.members) > len(self._drawing.boxes)),
         )
 
     def _refused(self) -> Raw:
@@ -92,73 +93,24 @@ class TreeSection:
             class_="refused", data_condition=refusal.condition,
         )
 
-    def _facts(self) -> Raw:
+    def _facts(self) -> str:
         devices, plan = self._topology.devices, self._plan
-        members = plan.members(self._topology)
-        depth = max(depths_of(plan, members).values())
         absent = len(plan.absent_devices), len(plan.absent_links)
         text = (
-            f"{count(len(members), 'device')}, depth {depth}. Root {devices[plan.root].name}, backup root "
+            f"{count(len(self._tree.members), 'device')}, depth {max(self._tree.depths.values())}. Root {devices[plan.root].name}, backup root "
             f"{devices[plan.backup_root].name}. Waits: first {human(plan.wait_first)}, second "
             f"{human(plan.wait_second)}, others {human(plan.wait)}."
         )
         left_out = [count(number, thing) for number, thing in zip(absent, ("device", "link")) if number]
         if left_out:
             text += f" Left out: {', '.join(left_out)}."
-        return element("p", text, class_="facts")
-
-    def _chooser(self) -> Raw:
-        """A choice of domains, for pages with script. It is hidden until the script shows it."""
-        options = [element("option", "nothing fails", value="")]
-        for number, effect in self._choices():
-            options.append(element("option", effect.domain.label, value=number, selected=effect is self._chosen))
-        choice = element("label", "Show what fails with ", element("select", options, class_="domains"))
-        said = element("p", self._sentence(self._chosen) if self._chosen else "", class_="effect", aria_live="polite")
-        return Raw(
-            element("div", choice, class_="chooser", hidden=True)
-            + said
-            + element("script", Raw(self._data()), type="application/json", class_="effects")
-        )
-
-    def _groups(self) -> Raw:
-        """The devices of each shared box by name, those of one rack together."""
-        domain_of = {device: domain.name for domain in reversed(self._topology.domains) for device in domain.devices}
-        parts = []
-        for box in self._drawing.boxes:
-            if not box.is_shared:
-                continue
-            by_domain: Dict[str, List[str]] = {}
-            for device in box.devices:
-                by_domain.setdefault(domain_of.get(device, "in no listed domain"), []).append(self._topology.devices[device].name)
-            row = self._plan.rows[box.devices[0]]
-            parents = f"under {self._topology.devices[row.primary.parent].name}"
-            if row.backup is not None:
-                parents += f", with the backup {self._topology.devices[row.backup.parent].name}"
-            items = [element("li", element("b", domain), " ", ", ".join(names)) for domain, names in by_domain.items()]
-            parts.append(folded(f"The {len(box.devices)} devices {parents}", element("ul", items, class_="names"), class_="group"))
-        return joined(parts)
-
-    def _choices(self) -> Iterator[Tuple[int, Effect]]:
-        """The domains that can be chosen: all but links under which nobody moves."""
-        for number, effect in enumerate(self._effects):
-            if effect.domain.kind != "link" or not effect.is_nothing or effect is self._chosen:
-                yield number, effect
-
-    def _data(self) -> str:
-        """What the script needs of each domain that can be chosen, by its number."""
-        said: Dict[str, Any] = {}
-        for number, effect in self._choices():
-            states = {state: sorted(devices) for state, devices in effect_states(effect).items() if devices}
-            said[str(number)] = [self._sentence(effect), states, sorted(effect.domain.links)]
-        return json.dumps(said, separators=(",", ":")).replace("<", "\\u003c")
+        return text
 
     def _sentence(self, effect: Effect) -> str:
-        moving = [move.device for move in effect.moves if move.hop is not None]
-        waiting = [move.device for move in effect.moves if move.hop is None]
-        parts = [f"Under {effect.domain.label}:"]
-        parts.append(f"{len(moving)} of {count(len(self._plan.rows), 'device')} may move to their backups.")
-        if waiting:
-            parts.append(f"No backup: {self._names(waiting)}.")
+        parts = [f"Under {effect.domain.text}:"]
+        parts.append(f"{len(effect.moving)} of {count(len(self._plan.rows), 'device')} may move to their backups.")
+        if effect.without_backup:
+            parts.append(f"No backup: {self._names(effect.without_backup)}.")
         if effect.acts is None:
             parts.append("No root is left.")
         elif effect.acts == self._plan.backup_root:
@@ -169,58 +121,43 @@ class TreeSection:
             parts.append(f"Joined, and never hears again: {self._names(effect.silent)}.")
         return " ".join(parts)
 
-    def _names(self, devices: Any) -> str:
-        return names_of(self._topology, devices)
-
-    def _legend(self) -> Raw:
-        items = [element("span", element("i", class_=f"key {key}"), text, class_="item") for key, text in LEGEND]
-        if self._refusal is not None:
-            items.append(element("span", element("i", class_="key hop breach"), "where the plan is refused", class_="item"))
-        if self._changed:
-            items.append(element("span", element("i", class_="key hop changed"), "not in the plan before", class_="item"))
-        return element("p", items, class_="legend")
+    def _names(self, devices: Sequence[int]) -> str:
+        return names_of(self._topology, devices, MOST_NAMES if not self._own else FEW_NAMES)
 
     def _moves(self) -> Raw:
-        rows = []
-        for effect in self._effects:
-            if not effect.is_nothing:
-                rows.append(self._move_row(effect))
-        still = len(self._effects) - len(rows)
-        head = ("domain", "who moves", "where", "acts as root", "cut off", "never hears again")
+        nobody = len(self._effects) + self._own - self._moved
+        said = f"Under {count(self._moved, 'domain')} somebody moves."
+        if nobody:
+            said += f" Under {nobody} more nobody moves, and somebody hears nothing and has no backup."
+        said += f" Under the other {self._still} everybody goes on as before."
+        if self._own:
+            said += f" Left out here: {count(self._own, 'link')}, each that of one device which nobody follows. The list of rows has its backup."
+        head = ("domain", "who moves", "where", "no backup", "acts as root", "cut off", "never hears again")
         return folded(
-            f"Who moves where, under each of {len(rows)} domains",
-            element("p", f"Under {count(still, 'other domain')} nobody moves."),
-            table("moves", head, rows),
+            f"Who moves where, under each of {count(self._moved, 'domain')}",
+            element("p", said),
+            table("moves", head, [self._move_row(effect) for effect in self._effects]),
         )
 
     def _move_row(self, effect: Effect) -> List[str]:
         devices = self._topology.devices
         hops: Dict[str, List[int]] = {}
         for move in effect.moves:
-            hops.setdefault(devices[move.hop.parent].name if move.hop else "no backup", []).append(move.device)
-        where = "; ".join(f"{parent}: {self._names(moving)}" for parent, moving in hops.items())
+            if move.hop is not None:
+                hops.setdefault(devices[move.hop.parent].name, []).append(move.device)
+        parents = list(hops.items())
+        where = "; ".join(f"{parent}: {self._names(moving)}" for parent, moving in parents[:MOST_PARENTS])
+        where += f"; and to {count(len(parents) - MOST_PARENTS, 'other')}" if len(parents) > MOST_PARENTS else ""
         acts = devices[effect.acts].name if effect.acts is not None else "none"
-        return [
-            effect.domain.label,
-            str(len(effect.moves)),
-            where,
-            acts,
-            self._names(effect.cut),
-            self._names(effect.silent),
-        ]
+        silent = self._names(effect.silent)
+        return [effect.domain.text, str(len(effect.moving)), where, self._names(effect.without_backup), acts, self._names(effect.cut), silent]
 
-    def _rows(self) -> Raw:
-        devices, links, plan = self._topology.devices, self._topology.links, self._plan
-        members = plan.members(self._topology)
-        depths = depths_of(plan, members)
-        rows = []
-        for member in sorted(members, key=lambda member: (depths[member], member)):
-            row = plan.rows.get(member)
-            hops = ["", "", "", ""]
-            if row is not None:
-                hops[:2] = devices[row.primary.parent].name, links[row.primary.link].name
-                if row.backup is not None:
-                    hops[2:] = devices[row.backup.parent].name, links[row.backup.link].name
-            rows.append([devices[member].name, str(depths[member])] + hops)
-        head = ("device", "depth", "primary", "over", "backup", "over")
-        return folded(f"The rows of {len(rows)} devices", table("rows", head, rows))
+
+
+def _is_own(plan: Plan, effect: Effect) -> bool:
+    """A link that is the way of one device alone, which nobody follows."""
+    return effect.domain.kind == "link" and len(effect.moves) == 1 and not plan.below(effect.moves[0].device)
+
+
+def _states(effect: Effect) -> Dict[str, str]:
+    return {state: ranges(devices) for state, devices in effect.states.items() if devices}

@@ -4,7 +4,7 @@ from __future__ import annotations
 
 from typing import Dict, List, NamedTuple, Optional, Sequence, Tuple
 
-from sundial_tools.report.markup import Raw, element
+from sundial_tools.report.markup import Raw, element, filled
 from sundial_tools.report.refusal import Refusal
 from sundial_tools.report.replay import Mark, Replay
 from sundial_tools.report.units import clear, count, human, readable
@@ -45,23 +45,15 @@ class Verdict(NamedTuple):
     facts: Tuple[Fact, ...]
 
     def html(self) -> Raw:
-        items = [self._fact(fact) for fact in self.facts]
-        return element(
-            "section",
-            element("h2", element("span", WORDS[self.kind], class_="word"), id="verdict"),
-            element("p", self.says, class_="says"),
-            element("p", self.means, class_="means"),
-            element("ol", items, class_="facts-found") if items else Raw(""),
-            class_=f"verdict {self.kind}",
-            data_verdict=self.kind,
-            aria_labelledby="verdict",
-        )
+        items = [filled("fact", **fact._asdict()) for fact in self.facts]
+        facts = element("ol", items, class_="facts-found") if items else ""
+        return filled("verdict", kind=self.kind, word=WORDS[self.kind], says=self.says, means=self.means, facts=facts)
 
-    def _fact(self, fact: Fact) -> Raw:
-        return element(
-            "li", element("a", fact.where, href=f"#{fact.link}"), " ", element("code", fact.what), " ",
-            element("span", fact.text, class_="who") if fact.text else Raw(""), " ", fact.means,
-        )
+    def text(self) -> str:
+        """The same without a page."""
+        lines = [f"{WORDS[self.kind]}. {self.says}", self.means]
+        lines += [f"- {' '.join(filter(None, (f'{fact.where}: {fact.what}.', fact.text, fact.means)))}" for fact in self.facts]
+        return "\n".join(lines) + "\n"
 
 
 def verdict(refusals: Sequence[Refusal], replay: Optional[Replay], accepted: bool) -> Verdict:
@@ -84,7 +76,7 @@ def verdict(refusals: Sequence[Refusal], replay: Optional[Replay], accepted: boo
 
 
 def _size(replay: Replay) -> str:
-    return f"{count(replay.events, 'event')} over {human(replay.last - (replay.first or 0))}, {count(replay.reports.count, 'report')}"
+    return f"{count(replay.events, 'event')} over {human(replay.last)}, {count(replay.reports.count, 'report')}"
 
 
 def _inside(replay: Replay) -> str:
@@ -141,7 +133,7 @@ def _where(mark: Mark) -> str:
 
 def _broken(replay: Replay) -> Verdict:
     first = replay.causes[0][0]
-    says = f"{_premises(replay)}, the first at line {first.line}, {human(first.ref - (replay.first or 0))} after the first event. No alarm was raised."
+    says = f"{_premises(replay)}, the first at line {first.line}, {human(first.ref)} after the first event. No alarm was raised."
     means = "The promises hold up to that line. From there on nothing is promised: the fabric, or its recording, did what the topology excludes."
     return Verdict("broken", says, means, tuple(_facts(replay)))
 

@@ -27,6 +27,10 @@ class Hooks:
         """Whether a cut may be due soon behind this line. Else nothing is kept for an opening."""
         return True
 
+    def is_late(self, line: int) -> bool:
+        """Whether a cut is wished so much that a premise may be named anew behind it."""
+        return False
+
 
 class Watched(JudgedFleet):
     """A fleet whose events are told to the hooks. `line` is that of the next event, from 1."""
@@ -36,35 +40,33 @@ class Watched(JudgedFleet):
 
     def __init__(self, topology: Topology, plans: Sequence[Plan], hooks: Hooks) -> None:
         super().__init__(topology, plans)
-        self.hooks: Optional[Hooks] = hooks
-        self.cutter = Cutter(self.fleet, self.is_due)
+        self.hooks = hooks
+        self.cutter = Cutter(self.fleet, self.is_due, lambda line: hooks.is_late(line))
         self.line = 1
         self.latest: Optional[Event] = None
-        # The next event is the first of its part: it was looked at before the part began.
-        self.begins = False
 
     def is_due(self, line: int, ref: int) -> bool:
-        return self.hooks is not None and ref >= self._near_since + rounds_before(self._topology) and self.hooks.is_due(line, ref)
+        return ref >= self._near_since + rounds_before(self._topology) and self.hooks.is_due(line, ref)
 
     def happens(self, event: Event) -> None:
-        hooks = cast(Hooks, self.hooks)
+        hooks = self.hooks
         is_near = hooks.is_near(self.line)
         if is_near and not self._is_near:
             self.cutter.begin()
             self._near_since = event.ref
         self._is_near = is_near
-        opening = self.cutter.before(self.line, event) if is_near and not self.begins else None
+        opening = self.cutter.before(self.line, event) if is_near else None
         if opening is not None:
-            self.begins = True
+            # (as in a run that begins here)
+            self.cutter.begin()
             hooks.cut(opening)
-        self.begins = False
         hooks.coming(event)
         done = self.fleet.happen(event)
         self._passed(event, done)
 
     def is_lost(self, event: Event) -> None:
         """A message that was taken out of the book is told as lost. No log has it."""
-        cast(Hooks, self.hooks).found(event)
+        self.hooks.found(event)
         self._passed(event, "")
 
     def _passed(self, event: Event, done: str) -> None:
@@ -73,13 +75,11 @@ class Watched(JudgedFleet):
         else:
             self.cutter.marks.glance(event, done)
         self.line, self.latest = self.line + 1, event
-        cast(Hooks, self.hooks).happened(done)
+        self.hooks.happened(done)
 
 
 class Feed(Recorder):
     """A recorder whose schedule goes to hooks."""
-
-    KEPT = ("_bases", "_last", "_ended", "_given_origin", "origin", "events", "losses")
 
     def __init__(self, topology: Topology, plans: Sequence[Plan], origin: Optional[int], from_life: bool, hooks: Hooks) -> None:
         super().__init__(topology, plans, cast(Any, None), origin, from_life, True, lambda _: None)
@@ -110,16 +110,20 @@ class Feed(Recorder):
         self.events += 1
 
     def state(self) -> Dict[str, Any]:
-        """What has to be kept of it, with the fleet."""
-        return {name: getattr(self, name) for name in self.KEPT}
+        """What has to be kept of it at a cut, as data."""
+        fleet = self.fleet
+        return {
+            **fleet.state(), "marks": fleet.cutter.marks.state(), "line": fleet.line, "bases": self._bases, "last": self._last,
+            "origin": self.origin, "events": self.events, "losses": self.losses,
+        }
 
-    def resume(self, state: Dict[str, Any], fleet: Watched, plans: Sequence[Plan]) -> None:
-        """Takes up what was kept. `plans` may have further ones behind those that the fleet knew."""
-        for name, value in state.items():
-            setattr(self, name, value)
-        fleet.know(plans)
-        fleet.hooks = self.fleet.hooks
-        self.fleet = self._fleet = fleet
+    def resume(self, state: Dict[str, Any]) -> None:
+        """Takes up what was kept."""
+        self.fleet.resume(state)
+        self.fleet.cutter.marks.resume(state["marks"])
+        self._bases = {int(device): counter for device, counter in state["bases"].items()}
+        self.fleet.line, self._last, self.origin = state["line"], state["last"], state["origin"]
+        self.events, self.losses = state["events"], state["losses"]
 
     def _say(self, event: Event) -> None:
         if event is not self.fleet.latest:

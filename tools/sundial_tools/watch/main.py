@@ -4,6 +4,7 @@ from __future__ import annotations
 
 import argparse
 import subprocess
+import sys
 import time
 from typing import Dict, List
 
@@ -12,6 +13,7 @@ from sundial_tools.errors import ToolError
 from sundial_tools.inputs import as_files
 from sundial_tools.outputs import read_output
 from sundial_tools.plan import read_plan
+from sundial_tools.record.logs import allow_files
 from sundial_tools.schedule import MOST_NUMBER
 from sundial_tools.times import picoseconds
 from sundial_tools.topology import Topology, read_topology, search_program, sundial_program
@@ -40,9 +42,10 @@ def _watch(words: List[str]) -> int:
 def _watched(said: argparse.Namespace, program: str) -> int:
     topology = read_topology(said.topology)
     plans = [read_plan(path, topology) for path in said.plan]
+    allow_files(len(said.logs))
     options = Options(
         said.topology, said.plan, said.logs, said.output, [program, "replay"], said.origin, said.counters == "life", said.horizon,
-        said.ask, said.every, said.keep, _print if said.follow else lambda text: None,
+        said.jump, said.ask, said.every, said.keep, _print if said.follow else lambda text: None, _say,
     )
     shown = Shown(said.prometheus, said.listen)
     watch = Watch(topology, plans, options)
@@ -62,6 +65,7 @@ def _watched(said: argparse.Namespace, program: str) -> int:
 
 def _run(watch: Watch, shown: Shown, is_once: bool) -> int:
     while True:
+        began = time.monotonic()
         came = watch.step()
         is_over = watch.ended or (is_once and not came)
         if is_over and not watch.ended:
@@ -74,7 +78,7 @@ def _run(watch: Watch, shown: Shown, is_once: bool) -> int:
             shown.show(watch.metrics_text())
             return status
         if not came:
-            time.sleep(WAIT)
+            time.sleep(max(WAIT, time.monotonic() - began))
 
 
 def bounds(program: str, topology: str, plan: str, base: int, hold: int) -> Dict[str, int]:
@@ -98,6 +102,10 @@ def _lines_of(program: str, command: str, topology: str, plan: str, base: int, h
     if done.returncode != 0:
         raise ToolError(f"{program} {command} ended with status {done.returncode}: {done.stdout[:200].strip()}")
     return done.stdout.splitlines(keepends=True)
+
+
+def _say(text: str) -> None:
+    print(f"sundial-watch: {text}", file=sys.stderr, flush=True)
 
 
 def _print(text: str) -> None:
@@ -140,6 +148,7 @@ def _parser() -> argparse.ArgumentParser:
     parser.add_argument("--bound", nargs=2, type=_time, metavar=("BASE", "HOLD"), help="also report the bounds of this drill of the last plan; with sundialctl there, also what a healthy fabric stays below")
     parser.add_argument("--ask", type=_time, metavar="TIME", help="ask each device at its first tick after this time, so that it reports")
     parser.add_argument("--horizon", type=_time, default=SECOND, metavar="TIME", help="how long to wait for a log that is silent (default: 1s)")
+    parser.add_argument("--jump", type=_time, default=60 * SECOND, metavar="TIME", help="pass over a line that is further ahead of all other logs (default: 60s)")
     parser.add_argument("--every", type=_count, default=30_000_000, metavar="N", help="cut at the first right place after N events of a part (default: 30000000)")
     parser.add_argument("--keep", type=_count, default=3, metavar="N", help="how many parts to keep (default: 3)")
     parser.add_argument("--origin", type=_time, help="the time that is 0 in the schedule (default: a whole second before the first reference)")

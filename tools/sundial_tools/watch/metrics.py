@@ -2,16 +2,15 @@
 
 from __future__ import annotations
 
-import os
 from collections import Counter
 from typing import Any, Dict, Iterator, Optional
 
-from sundial_tools.errors import ToolError
 from sundial_tools.outputs import PREMISES
 from sundial_tools.topology import Topology
 
 SECOND = 10**12
 ALARMS = ("loop", "roots", "interval")
+COUNTED = ("broken", "alarms", "passed_over", "eps", "greatest", "reported", "done")
 
 
 class Metrics:
@@ -31,6 +30,15 @@ class Metrics:
         self.done: Counter[str] = Counter()
         self.bounds: Dict[str, int] = {}
         self.calm: Dict[str, int] = {}
+
+    def state(self) -> Dict[str, Any]:
+        """What was counted, as data."""
+        return {name: getattr(self, name) for name in COUNTED}
+
+    def resume(self, state: Dict[str, Any]) -> None:
+        """Takes up what was counted."""
+        for name in COUNTED:
+            getattr(self, name).update(state[name])
 
     def tell(self, row: Dict[str, Any]) -> None:
         """Counts a line that was told."""
@@ -108,14 +116,3 @@ def _seconds(values: Dict[str, int]) -> Dict[str, str]:
 
 def _escaped(value: str) -> str:
     return value.replace("\\", "\\\\").replace('"', '\\"').replace("\n", "\\n")
-
-
-def write_renamed(path: str, content: bytes) -> None:
-    """Puts a file into its place at once: a reader sees the old one or the new one."""
-    temporary = f"{path}.new"
-    try:
-        with open(temporary, "wb") as file:
-            file.write(content)
-        os.replace(temporary, path)
-    except OSError as fault:
-        raise ToolError(fault.strerror or "cannot be written", path) from None

@@ -7,6 +7,7 @@ import os
 from datetime import datetime, timedelta, timezone
 from typing import Callable, Iterator, List
 
+from sundial_tools.cut.parts import plans_of
 from sundial_tools.errors import ToolError
 from sundial_tools.outputs import parse_line
 from sundial_tools.plan import read_plan
@@ -38,7 +39,7 @@ def main(words: List[str]) -> int:
     plans = [read_plan(path, topology) for path in folder.plans]
     since, until = (None if it is None else it(kept.origin) for it in (said.since, said.until))
     window = Window(kept, topology, plans, since, until, folder.file("schedule.txt"))
-    files = [folder.topology, *folder.plans[window.epoch - 1:]]
+    files = [folder.topology, *plans_of(folder.plans, window.epoch, window.copies)]
     status = replay(program, [*files, folder.file("schedule.txt")], folder.file("lines.txt"))
     report_main([*files, "--replay", folder.file("schedule.txt"), folder.file("lines.txt"), "-o", folder.file("page.html")])
     lines = list(_lines(window, folder.file("lines.txt"), Why(files[0], [*files[1:], folder.file("schedule.txt")], None), said.reports))

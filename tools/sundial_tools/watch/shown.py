@@ -9,7 +9,7 @@ from http.server import BaseHTTPRequestHandler, ThreadingHTTPServer
 from typing import Optional
 
 from sundial_tools.errors import ToolError
-from sundial_tools.watch.metrics import write_renamed
+from sundial_tools.watch.state import write_renamed
 
 # How old the text may get, and how soon news are in it.
 USUAL_SECONDS, NEWS_SECONDS = 1.0, 0.1

@@ -1,25 +1,29 @@
-"""Logs that grow: files that others append to, and FIFOs, which are kept in a file of the state first."""
+"""Logs that grow: files that others append to and rotate, and FIFOs, which are kept in a file of the state first."""
 
 from __future__ import annotations
 
+import contextlib
 import errno
 import os
+import re
 import stat
 from collections import deque
-from typing import Any, Deque, List, NamedTuple, Optional, Tuple
+from typing import Any, Callable, Deque, Iterator, List, NamedTuple, Optional, Tuple
 
 from sundial_tools.errors import ToolError
 from sundial_tools.record.events import LogEvent
 from sundial_tools.record.logs import Log
 from sundial_tools.topology import Topology
-from sundial_tools.watch.journal import Place
+from sundial_tools.watch.journal import CHECKED, Place, check_of
 
 # (Linux and Python 3.10 have them; a checker of types may not know)
 SPLICE: Any = getattr(os, "splice", None)
 NONBLOCK: int = getattr(os, "SPLICE_F_NONBLOCK", 0)
-MOST_BYTES = 1 << 20
+MOST_SPLICED = 1 << 20
 MOST_LINE = 1 << 16
-MOST_WAITING = 1 << 16
+MOST_WAITING = 1 << 12
+# What a log is called when it was rotated, behind its name: .1, or -20261201.
+ROTATED = re.compile(r"[.-]\d[\d.:TZ_-]*")
 
 
 class Bad(NamedTuple):
@@ -37,52 +41,70 @@ class Waiting(NamedTuple):
     bad: List[Bad]
 
 
-class Tail(Log):
-    """The events of one log that are not told yet. `last` is the latest reference that was read."""
+class Bounds(NamedTuple):
+    """Between which references an event of a log may come: none is late before `floor`, and none is ahead up to `limit`.
 
-    def __init__(self, path: str, topology: Topology, spool: str, place: Place) -> None:
+    An event that is ahead is held until it `is_judged`: all other logs were read as far as they go.
+    """
+
+    floor: Optional[int] = None
+    limit: Optional[int] = None
+    is_judged: bool = True
+
+
+class Said(NamedTuple):
+    """Who is told what is said of a log, and with which inode it begins."""
+
+    say: Callable[[str], None]
+    begins: Callable[[int], None]
+
+
+class Tail(Log):
+    """The events of one log that are not told yet. `last` is the latest reference that was read.
+
+    A log is followed by its inode: after a rotation the old file is read to its end, and then the file that came after it.
+    """
+
+    def __init__(self, path: str, topology: Topology, spool: str, most_bytes: int, hooks: Said) -> None:
         super().__init__(path, topology)
-        self.path, self._file, self._spool = path, -1, spool
-        self._fifo = -1
-        self._read, self.done = place, place
-        self._rest = b""
+        self.path, self._spool, self._most_bytes, self._hooks = path, spool, most_bytes, hooks
+        self._file = self._fifo = -1
+        # How far lines were looked at, and how far they were told or passed over.
+        self._read = self.done = Place()
+        # Behind what was read; the bytes before that; the lines of it that were not looked at; and what is no whole line yet.
+        self._end, self._seen, self._lines, self._rest = 0, b"", deque(), b""  # type: int, bytes, Deque[bytes], bytes
+        self._status: Optional[Tuple[int, int, int]] = None
+        self._is_missing = False
         self.last: Optional[int] = None
         self.told: Optional[int] = None
-        # It was read as far as it goes now.
-        self.at_end = False
+        # The reference of a line that is held, since it is ahead of all other logs.
+        self.held: Optional[int] = None
+        # It has nothing more now; all that it had when it was read was looked at.
+        self.at_end = self.is_caught_up = False
         self.waiting: Deque[Waiting] = deque()
 
-    def more(self, floor: Optional[int]) -> Tuple[List[Bad], bool]:
-        """Reads on. Answers the lines to pass over behind which nothing waits, and whether anything was read.
+    @property
+    def front(self) -> Optional[int]:
+        """The latest reference that is known of it."""
+        return self.last if self.held is None else self.held
 
-        An event whose reference is below `floor` comes too late.
-        """
+    def more(self, bounds: Bounds) -> Tuple[List[Bad], bool]:
+        """Reads on. Answers the lines to pass over behind which nothing waits, and whether anything was done."""
         self.at_end = False
-        if len(self.waiting) > MOST_WAITING:
-            return [], False
-        if self._file < 0 and not self._open_file():
-            self.at_end = True
-            return [], False
-        if self._fifo >= 0:
-            self._drain()
-        data = os.read(self._file, MOST_BYTES)
-        if not data:
-            self._judge_length()
-            self.at_end = True
-            return [], False
-        lines = (self._rest + data).split(b"\n")
-        self._rest = lines.pop()
-        if len(self._rest) > MOST_LINE:
-            raise ToolError(f"line {self._read.line + 1} is longer than {MOST_LINE} bytes", self.path)
         bad: List[Bad] = []
-        for line in lines:
-            self._read = Place(self._read.offset + len(line) + 1, self._read.line + 1)
-            self._line(line, floor, bad)
-        return bad, True
+        if not self._lines:
+            if len(self.waiting) > MOST_WAITING:
+                return bad, False
+            self.at_end = self.is_caught_up = not self._more_lines()
+        before, held = len(self._lines), self.held
+        while self._lines and self._line(self._lines[0], bounds, bad):
+            self._lines.popleft()
+        return bad, len(self._lines) < before or self.held != held
 
     def move_to(self, place: Place, ref: Optional[int]) -> None:
         """An earlier run told the log up to there. `ref` is the latest reference."""
         self._read = self.done = place
+        self._end = place.offset
         if ref is not None:
             self.last = self.told = ref
 
@@ -99,23 +121,55 @@ class Tail(Log):
                 os.close(file)
         self._file = self._fifo = -1
 
-    def _line(self, line: bytes, floor: Optional[int], bad: List[Bad]) -> None:
+    # Lines
+
+    def _line(self, line: bytes, bounds: Bounds, bad: List[Bad]) -> bool:
+        """Looks at a line. Answers whether that is done: not of one that is held."""
+        read, self._read = self._read, self._behind(line)
         try:
-            text = line.decode("utf-8")
-            if not text or text.isspace():
-                return
-            event = self._event(text, self._read.line)
+            event = self._event_of(line, self._read.line)
+            if event is None:
+                return True
             if self.last is not None and event.ref < self.last:
                 raise event.refuse(f"out of order: its reference is {self.last - event.ref} ps before that of the line before")
-            if floor is not None and event.ref < floor:
-                raise event.refuse(f"late: its reference is {floor - event.ref} ps behind what was told; a greater --horizon waits longer")
-        except UnicodeDecodeError:
-            self._pass_over("no UTF-8", bad)
+            if bounds.floor is not None and event.ref < bounds.floor:
+                raise event.refuse(f"late: its reference is {bounds.floor - event.ref} ps before what was told; a greater --horizon waits longer")
+            if bounds.limit is not None and event.ref > bounds.limit:
+                if not self._is_wrong(event, bounds):
+                    self._read, self.held = read, event.ref
+                    return False
+                raise event.refuse("ahead: its reference is further ahead of all other logs than --jump allows")
         except ToolError as fault:
             self._pass_over(fault.reason, bad)
         else:
             self.last = event.ref
             self.waiting.append(Waiting(event, self._read, []))
+        self.held = None
+        return True
+
+    def _event_of(self, line: bytes, number: int) -> Optional[LogEvent]:
+        """The event of a line, and None of an empty one."""
+        try:
+            text = line.decode("utf-8")
+        except UnicodeDecodeError:
+            raise ToolError("no UTF-8") from None
+        return None if not text or text.isspace() else self._event(text[:-1] if text[-1] == "\n" else text, number)
+
+    def _is_wrong(self, event: LogEvent, bounds: Bounds) -> bool:
+        """Whether an event that is ahead is wrong, and is waited for no longer: the next line says so, or the other logs do."""
+        if bounds.limit is None or bounds.limit < 0:
+            return False
+        if self.held is not None and bounds.is_judged:
+            return True
+        try:
+            following = self._event_of(self._lines[1], 0) if len(self._lines) > 1 else None
+        except ToolError:
+            following = None
+        return following is not None and following.ref < event.ref and (self.last is None or following.ref >= self.last)
+
+    def _behind(self, line: bytes) -> Place:
+        file, offset, number, _ = self._read
+        return Place(file, offset + len(line), number + 1, check_of(line))
 
     def _pass_over(self, reason: str, bad: List[Bad]) -> None:
         said = Bad(self._read, reason)
@@ -125,11 +179,97 @@ class Tail(Log):
             self.done = said.place
             bad.append(said)
 
-    def _open_file(self) -> bool:
-        """Opens the log where it is there. A FIFO stays open, and what it brings goes to the spool."""
+    # Files
+
+    def _more_lines(self) -> bool:
+        """Reads some bytes. Answers whether there were any, or a last line that has no end."""
+        if self._file < 0 and not self._has_opened():
+            return False
+        if self._fifo >= 0:
+            self._drain()
+        elif not self._has_changed():
+            return False
+        self._judge_same()
+        data = self._bytes()
+        following = "" if data or self._fifo >= 0 else self._following()
+        if following and self._rest:
+            self._lines.append(self._rest)
+            self._rest = b""
+            return True
+        if following:
+            os.close(self._file)
+            self._begin(os.open(following, os.O_RDONLY))
+            data = self._bytes()
+        self.is_caught_up = len(data) < self._most_bytes
+        if not self.is_caught_up:
+            self._status = None
+        self._keep(data)
+        return bool(data)
+
+    def _bytes(self) -> bytes:
+        return os.pread(self._file, self._most_bytes, self._end)
+
+    def _keep(self, data: bytes) -> None:
+        self._end += len(data)
+        self._seen = (self._seen + data)[-CHECKED:]
+        *lines, self._rest = (self._rest + data).split(b"\n")
+        self._lines.extend(line + b"\n" for line in lines)
+        if len(self._rest) > MOST_LINE:
+            raise ToolError(f"line {self._read.line + len(lines) + 1} is longer than {MOST_LINE} bytes", self.path)
+
+    def _begin(self, file: int) -> None:
+        """From here on this file is read, from its beginning."""
+        self._file, self._status = file, None
+        self._read, self._end, self._seen, self._rest = Place(os.fstat(file).st_ino), 0, b"", b""
+
+    def _has_changed(self) -> bool:
+        """Whether the file of this name may have something that was not read."""
         try:
-            opened = os.dup(0) if self.path == "-" else os.open(self.path, os.O_RDONLY | os.O_NONBLOCK)
+            now = os.stat(self.path)
         except FileNotFoundError:
+            return True
+        before, self._status = self._status, (now.st_ino, now.st_size, now.st_mtime_ns)
+        return before != self._status or now.st_ino != self._read.file
+
+    def _judge_same(self) -> None:
+        """Begins anew where the file is not the one that was read so far: it was cut short, and may have grown again."""
+        size, count = os.fstat(self._file).st_size, len(self._seen)
+        if size < self._end or os.pread(self._file, count, self._end - count) != self._seen:
+            self._begin_anew()
+
+    def _begin_anew(self) -> None:
+        self._hooks.say("it was written anew and is read from its beginning: what it had before and was not read is lost")
+        self._begin(self._file)
+
+    def _following(self) -> str:
+        """The file that came after this one under the name of the log, where there is one and it has something."""
+        mine = os.fstat(self._file)
+        later = [
+            (status.st_mtime_ns, path) for path, status in self._files()
+            if status.st_ino != mine.st_ino and status.st_size and (status.st_mtime_ns >= mine.st_mtime_ns or not mine.st_nlink)
+        ]
+        # (who writes there now wrote to this one up to then)
+        return min(later)[1] if later and os.fstat(self._file).st_size == self._end else ""
+
+    def _files(self) -> Iterator[Tuple[str, os.stat_result]]:
+        """The files of a log of whose name another file is now, or none: that one, and those that were rotated."""
+        folder, name = os.path.split(self.path)
+        with contextlib.suppress(FileNotFoundError):
+            if os.stat(self.path).st_ino == self._read.file:
+                return
+        with contextlib.suppress(FileNotFoundError):
+            for one in os.listdir(folder or "."):
+                if one == name or (one.startswith(name) and ROTATED.fullmatch(one, len(name))):
+                    with contextlib.suppress(FileNotFoundError):
+                        yield os.path.join(folder, one), os.stat(os.path.join(folder, one))
+
+    def _has_opened(self) -> bool:
+        """Opens the log where it is there. A FIFO stays open, and what it brings goes to the spool."""
+        opened = self._opened()
+        if opened is None:
+            if not self._is_missing:
+                self._hooks.say("it is not there, and is waited for")
+            self._is_missing = True
             return False
         if stat.S_ISREG(os.fstat(opened).st_mode):
             self._file = opened
@@ -137,15 +277,40 @@ class Tail(Log):
             self._fifo = opened
             os.set_blocking(self._fifo, False)
             self._file = os.open(self._spool, os.O_RDWR | os.O_CREAT, 0o600)
-        os.lseek(self._file, self._read.offset, os.SEEK_SET)
+        self._take_up(os.fstat(opened).st_ino if self._fifo < 0 else 0)
         return True
+
+    def _opened(self) -> Optional[int]:
+        """The file that an earlier run read, wherever it is now, and else that of the name of the log."""
+        if self.path == "-":
+            return os.dup(0)
+        before = [path for path, status in self._files() if status.st_ino == self._read.file] if self._read.file else []
+        try:
+            return os.open(before[0] if before else self.path, os.O_RDONLY | os.O_NONBLOCK)
+        except FileNotFoundError:
+            return None
+
+    def _take_up(self, file: int) -> None:
+        """Goes on in the file behind what an earlier run read, where that is there."""
+        place = self._read
+        if place == Place():
+            self._hooks.begins(file)
+        elif place.file != file:
+            self._hooks.say("the file that was read before is gone: what it had and was not read is lost")
+        if place.file != file:
+            self._read, self._end = Place(file), 0
+            return
+        start = max(0, place.offset - CHECKED)
+        self._seen = os.pread(self._file, place.offset - start, start)
+        if place.offset and check_of(self._seen) != place.check:
+            self._begin_anew()
 
     def _drain(self) -> None:
         """Moves what the FIFO has to the spool, in the kernel: a kill in between loses nothing."""
         end = os.stat(self._spool).st_size
         try:
             while True:
-                moved = SPLICE(self._fifo, self._file, MOST_BYTES, offset_dst=end, flags=NONBLOCK)
+                moved = SPLICE(self._fifo, self._file, MOST_SPLICED, offset_dst=end, flags=NONBLOCK)
                 if not moved:
                     return
                 end += moved
@@ -155,7 +320,3 @@ class Tail(Log):
             if fault.errno != errno.EINVAL:
                 raise
             raise ToolError("neither a file nor a FIFO", self.path) from None
-
-    def _judge_length(self) -> None:
-        if os.fstat(self._file).st_size < self._read.offset:
-            raise ToolError("the log has become shorter: it was written anew", self.path)

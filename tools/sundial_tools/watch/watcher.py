@@ -4,18 +4,18 @@ from __future__ import annotations
 
 import contextlib
 import fcntl
+import heapq
 import itertools
 import json
 import os
-import pickle
-import re
 import threading
 import time
-from typing import Any, Callable, Dict, Iterator, List, NamedTuple, Optional, Sequence, Tuple
+from functools import partial
+from typing import Any, Callable, Dict, Iterator, List, NamedTuple, Optional, Sequence
 
 from sundial_tools.cut.cutter import lines_before
-from sundial_tools.cut.opening import Opening
-from sundial_tools.cut.parts import Translation
+from sundial_tools.cut.opening import Opening, opening_of_state
+from sundial_tools.cut.parts import plans_of
 from sundial_tools.errors import ToolError
 from sundial_tools.fleet.device import ACTING
 from sundial_tools.outputs import parse_line
@@ -28,13 +28,16 @@ from sundial_tools.schedule import Event, event_line, parse_event
 from sundial_tools.topology import Topology
 from sundial_tools.watch.feed import Feed, Hooks
 from sundial_tools.watch.journal import OWN, Place, prefix_of, read_prefix
-from sundial_tools.watch.metrics import Metrics, write_renamed
+from sundial_tools.watch.metrics import SECOND, Metrics
 from sundial_tools.watch.replaying import Replaying
-from sundial_tools.watch.tail import Bad, Tail
+from sundial_tools.watch.state import PART, SETTINGS, judged, read_state, write_state
+from sundial_tools.watch.tail import Bad, Bounds, Said, Tail
 
-MOST_REFS = 1 << 18
+MOST_REFS = 1 << 16
 SECONDS_OF_A_START = 5.0
-PART = re.compile(r"part-(\d{4,})\.(start|journal|txt|told)")
+# So much is read of all logs in a step, and so much of each at least.
+BYTES_OF_A_STEP, BYTES_OF_A_LOG = 1 << 20, 1 << 12
+
 
 class Options(NamedTuple):
     """`replay` is the program with its word. Times are picoseconds of the references."""
@@ -47,10 +50,12 @@ class Options(NamedTuple):
     origin: Optional[int]
     from_life: bool
     horizon: int
+    jump: int
     ask: Optional[int]
     every: int
     keep: int
     follow: Callable[[str], None]
+    say: Callable[[str], None]
 
 
 class Watch(Hooks):
@@ -60,7 +65,7 @@ class Watch(Hooks):
         self._topology, self._plans, self._options = topology, plans, options
         self.metrics = Metrics(topology)
         # Something other than a report was told since it was last looked at.
-        self.has_news = False
+        self.has_news = self._has_begun = False
         self._lock = threading.Lock()
         self._lines_before = lines_before(topology)
         self._feed = Feed(topology, plans, options.origin, options.from_life, self)
@@ -71,7 +76,6 @@ class Watch(Hooks):
         self._prefix, self._restoring = OWN, False
         self._part, self._first_line, self._opening = 1, 1, None  # type: int, int, Optional[Opening]
         self._opening_lines = self._skip = self._passed = self._told_line = 0
-        self._translation: Optional[Translation] = None
         self._greatest: Optional[int] = None
         self._files: List[int] = []
         self._tails: List[Tail] = []
@@ -87,15 +91,29 @@ class Watch(Hooks):
         """Takes up what earlier runs left."""
         options, topology = self._options, self._topology
         self._hold()
-        places = self._resume()
+        most = max(BYTES_OF_A_LOG, BYTES_OF_A_STEP // len(options.logs))
         self._tails = [
-            Tail(path, topology, self._file(f"spool-{number}"), Place()) for number, path in enumerate(options.logs)
+            Tail(path, topology, self._file(f"spool-{number}"), most, Said(partial(self._say_of, path), partial(self._log_begins, number)))
+            for number, path in enumerate(options.logs)
         ]
-        for tail, (place, ref) in zip(self._tails, places):
-            tail.move_to(place, ref)
+        for number, file in self._settings["files"].items():
+            self._tails[int(number)].move_to(Place(file), None)
+        with judged(options.state):
+            self._resume()
         self._begin()
-        self._restore()
+        # When something came last; and whether all logs were read then as far as they went.
+        self._fresh, self._is_judged = time.monotonic() - max(0.0, time.time() - os.fstat(self._files[0]).st_mtime), False
+        with judged(options.state):
+            self._restore()
         self._greatest = max((tail.told for tail in self._tails if tail.told is not None), default=None)
+
+    def _log_begins(self, number: int, file: int) -> None:
+        """A log is read for the first time. Where it is rotated before anything of it is told, its inode says where it began."""
+        self._settings["files"][str(number)] = file
+        self._has_begun = True
+
+    def _say_of(self, path: str, words: str) -> None:
+        self._options.say(f"{path}: {words}")
 
     # One step
 
@@ -107,22 +125,40 @@ class Watch(Hooks):
         self._replaying.judge()
         # (what was written before the latest line that was known is read now)
         known, came = self._greatest or 0, False
+        fronts = heapq.nlargest(2, (tail.front for tail in self._tails if tail.front is not None))
         for number, tail in enumerate(self._tails):
-            bad, some = tail.more(self._feed.last)
+            bad, some = tail.more(Bounds(self._feed.last, self._limit(tail, fronts), self._is_judged))
             came = came or some
             for one in bad:
                 self._pass_over(number, one)
+        if self._has_begun:
+            self._write_settings()
+            self._has_begun = False
+        self._is_judged = all(tail.is_caught_up or tail.held is not None for tail in self._tails)
         lasts = [tail.last for tail in self._tails if tail.last is not None]
         if lasts:
-            self._greatest = max(lasts) if self._greatest is None else max(self._greatest, *lasts)
+            if max(lasts) > known:
+                self._fresh = time.monotonic()
+            self._greatest = max(known, *lasts)
             least = min(self._complete(tail, known) for tail in self._tails)
             self._tell_below(self._greatest + 1 if is_last else least)
         self._flush()
         return came
 
+    def _limit(self, tail: Tail, fronts: Sequence[int]) -> Optional[int]:
+        """Up to which reference an event of this log is not ahead: the latest of all other logs, and what has passed since."""
+        if len(self._tails) == 1:
+            return None
+        front = fronts[0] if fronts and fronts[0] != tail.front else fronts[1] if len(fronts) > 1 else None
+        if front is None:
+            return None if self._is_judged else -1
+        return max(front, tail.last or 0) + self._options.jump + int((time.monotonic() - self._fresh) * SECOND)
+
     def _complete(self, tail: Tail, known: int) -> int:
         """Below which reference the log brings nothing more. One that is silent is waited for up to the horizon."""
         last = -1 if tail.last is None else tail.last
+        if tail.held is not None and not self._is_judged:
+            return tail.held
         return max(last, known - self._options.horizon) if tail.at_end else last
 
     @property
@@ -213,6 +249,9 @@ class Watch(Hooks):
     def is_due(self, line: int, ref: int) -> bool:
         return not self._restoring and line - self._first_line >= self._options.every
 
+    def is_late(self, line: int) -> bool:
+        return line - self._first_line >= min(2 * self._options.every, MOST_EVENTS // 4 * 3)
+
     def is_near(self, line: int) -> bool:
         return line - self._first_line >= self._options.every - self._lines_before
 
@@ -225,7 +264,7 @@ class Watch(Hooks):
         text = event_line(event)
         if not self._restoring:
             self._journal.append(f"{self._prefix} {text}")
-        said = event if self._translation is None else self._translation.of(event)
+        said = event if self._opening is None else self._opening.of(event)
         self._fed.append(text if said is event else event_line(said))
         self._refs[line] = event.ref
         if len(self._refs) > MOST_REFS:
@@ -287,60 +326,55 @@ class Watch(Hooks):
             with open(path, encoding="utf-8") as file:
                 said[key] = file.read()
         self._settings, before = said, {}
-        with contextlib.suppress(FileNotFoundError), open(self._file("settings.json"), encoding="utf-8") as file:
-            before = json.load(file)
+        with contextlib.suppress(FileNotFoundError):
+            before = read_state(self._file(SETTINGS))
         for key, value in said.items():
             # (plans that came since then are new ones behind those that were there)
             if before and before.get(key, value) != value:
                 raise ToolError(f"{key} was another one when this state was begun", self._options.state)
-        if any(key not in said for key in before if key != "origin"):
+        if any(key not in said for key in before if key not in ("origin", "files")):
             raise ToolError("a plan is missing with which this state was begun", self._options.state)
         if "origin" in before:
             self._feed.origin = said["origin"] = before["origin"]
+        said["files"] = before.get("files", {})
         self._write_settings()
 
     def _write_settings(self) -> None:
-        write_renamed(self._file("settings.json"), (json.dumps(self._settings, indent=1) + "\n").encode())
+        write_state(self._file(SETTINGS), self._settings)
 
     def _save(self) -> None:
-        feed = self._feed
-        hooks, feed.fleet.hooks = feed.fleet.hooks, None
-        kept = (
-            feed.fleet, feed.state(), self.metrics, self._asked, self._first_line, self._opening, [(it.done, it.told) for it in self._tails]
-        )
-        try:
-            data = pickle.dumps(kept)
-        finally:
-            feed.fleet.hooks = hooks
-        write_renamed(self._part_file("start"), data)
+        assert self._opening is not None
+        write_state(self._part_file("start"), {
+            "feed": self._feed.state(), "metrics": self.metrics.state(), "asked": self._asked, "first_line": self._first_line,
+            "opening": self._opening.state(), "logs": [[it.done, it.told] for it in self._tails],
+        })
 
-    def _resume(self) -> List[Tuple[Place, Optional[int]]]:
-        """Takes up the part that was begun last. Answers how far the logs were read when it began."""
+    def _resume(self) -> None:
+        """Takes up the part that was begun last."""
         found = [int(it[1]) for it in map(PART.fullmatch, os.listdir(self._options.state)) if it and it[2] == "start"]
         if not found:
-            return []
+            return
         self._part = max(found)
-        with open(self._part_file("start"), "rb") as file:
-            fleet, state, self.metrics, self._asked, self._first_line, self._opening, places = pickle.load(file)
-        self._feed.resume(state, fleet, self._plans)
-        return list(places)
+        kept = read_state(self._part_file("start"))
+        self._feed.resume(kept["feed"])
+        self.metrics.resume(kept["metrics"])
+        self._asked = {int(device): ref for device, ref in kept["asked"].items()}
+        self._first_line, self._opening = kept["first_line"], opening_of_state(kept["opening"])
+        for tail, (place, ref) in zip(self._tails, kept["logs"]):
+            tail.move_to(Place(*place), ref)
 
     def _begin(self) -> None:
         """Begins the replay of the part, and opens its files."""
-        opening = self._opening
-        first_plan = opening.epoch if opening else 1
+        opening, options = self._opening, self._options
+        plans = plans_of(options.plans, opening.epoch, opening.copies) if opening else options.plans
         self._files = [
             os.open(self._part_file(kind), os.O_RDWR | os.O_CREAT | os.O_APPEND, 0o666) for kind in ("journal", "told")
         ]
         self._files.append(os.open(self._part_file("txt"), os.O_WRONLY | os.O_CREAT | os.O_TRUNC, 0o666))
-        self._translation = Translation(self._feed.fleet.fleet, opening, None) if opening else None
-        events = opening.events() if opening else []
+        events = opening.events if opening else []
         self._opening_lines = len(events)
         self._heard = 0
-        options = self._options
-        self._replaying = Replaying(
-            [*options.replay, options.topology, *options.plans[first_plan - 1:], "/dev/stdin"], self._heard_line
-        )
+        self._replaying = Replaying([*options.replay, options.topology, *plans, "/dev/stdin"], self._heard_line)
         if events:
             self._feed_replay("".join(map(event_line, events)))
 
@@ -354,7 +388,6 @@ class Watch(Hooks):
             self.metrics.tell(row)
             self._told_line = row["line"] if row["kind"] == "report" else self._told_line
         passed = 0
-        self._feed.fleet.begins = self._opening is not None
         for text in _whole_lines(self._files[0]):
             prefix, _, said = text.partition(" ")
             number, place, raw = read_prefix(prefix)
@@ -406,6 +439,8 @@ class Watch(Hooks):
             return
         number = line.fields["line"]
         in_opening = number <= self._opening_lines
+        if in_opening and line.kind == "report":
+            return  # (it was asked for there anew)
         whole = self._first_line + (0 if in_opening else number - self._opening_lines - 1)
         if whole >= self._feed.fleet.line:
             return  # (of an `end` that no log has)

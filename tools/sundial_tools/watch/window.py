@@ -2,12 +2,10 @@
 
 from __future__ import annotations
 
-import json
 import os
-import pickle
 from typing import Any, Dict, Iterator, List, NamedTuple, Optional, Sequence, Tuple
 
-from sundial_tools.cut.opening import Opening
+from sundial_tools.cut.opening import Opening, opening_of_state
 from sundial_tools.cut.parts import Part, Row
 from sundial_tools.errors import ToolError
 from sundial_tools.plan import Plan
@@ -15,7 +13,7 @@ from sundial_tools.schedule import Event, event_line, parse_event
 from sundial_tools.topology import Topology
 from sundial_tools.watch.feed import Feed, Hooks
 from sundial_tools.watch.journal import read_prefix
-from sundial_tools.watch.watcher import PART
+from sundial_tools.watch.state import PART, SETTINGS, read_state
 
 
 class PassedOver(NamedTuple):
@@ -32,8 +30,7 @@ class Kept:
     def __init__(self, folder: str) -> None:
         self.folder = folder
         try:
-            with open(os.path.join(folder, "settings.json"), encoding="utf-8") as file:
-                self.settings: Dict[str, Any] = json.load(file)
+            self.settings = read_state(os.path.join(folder, SETTINGS))
         except FileNotFoundError:
             raise ToolError("this is no state of sundial-watch", folder) from None
         if "origin" not in self.settings:
@@ -53,12 +50,9 @@ class Kept:
             kinds.setdefault(int(found[1]), set()).add(found[2])
         return sorted(number for number, has in kinds.items() if "journal" in has and ("start" in has or number == 1))
 
-    def start(self, part: int) -> Optional[Tuple[Any, ...]]:
+    def start(self, part: int) -> Optional[Dict[str, Any]]:
         """The state in which a part began, and None for the first one."""
-        if part == 1:
-            return None
-        with open(os.path.join(self.folder, f"part-{part:04}.start"), "rb") as file:
-            return tuple(pickle.load(file))
+        return None if part == 1 else read_state(os.path.join(self.folder, f"part-{part:04}.start"))
 
     def journal(self, part: int) -> Iterator[str]:
         """The whole lines of a journal, which may still grow."""
@@ -88,7 +82,7 @@ class Window(Hooks):
         self._since, self._until, self._path = since, until, path
         self.passed_over: List[PassedOver] = []
         self.first_ref = self.last_ref = 0
-        self.epoch = 1
+        self.epoch, self.copies = 1, 0
         self._ended = False
         self.row = self._written()
 
@@ -111,15 +105,14 @@ class Window(Hooks):
         self._feed = Feed(self._topology, self._plans, self._kept.origin, False, self)
         kept = self._kept.start(part)
         if kept is not None:
-            fleet, state, _, _, _, opening, _ = kept
-            self._feed.resume(state, fleet, self._plans)
-        self._feed.fleet.begins = opening is not None
+            self._feed.resume(kept["feed"])
+            opening = opening_of_state(kept["opening"])
         self._start(opening)
 
     def _start(self, opening: Optional[Opening]) -> None:
         fleet = self._feed.fleet
-        self.epoch = opening.epoch if opening else 1
-        self._part = Part(fleet.fleet, self._path, fleet.line, opening, False)
+        self.epoch, self.copies = (opening.epoch, opening.copies) if opening else (1, 0)
+        self._part = Part(self._path, fleet.line, opening, False)
 
     def _events(self, parts: Sequence[int]) -> Iterator[Tuple[Event, Optional[int]]]:
         """The events up to the end of the window. Then `_end` is where the schedule ends."""

@@ -12,15 +12,16 @@ from typing import Iterator, List, NamedTuple, Optional, Tuple
 from sundial_tools.errors import ToolError
 from sundial_tools.inputs import as_files
 from sundial_tools.outputs import PREMISES
-from sundial_tools.plan import Plan, read_plan
+from sundial_tools.plan import Plan, default_hold, read_plan
 from sundial_tools.report.main import main as report_main
 from sundial_tools.safe_write import Progress, whole_output
+from sundial_tools.times import time_of
 from sundial_tools.topology import Topology, read_topology, sundial_program
 from sundial_tools.whatif import program as asked
 from sundial_tools.whatif import wishes as wished
 from sundial_tools.whatif.scenario import Scenario, Settings
 from sundial_tools.whatif.summary import Summary
-from sundial_tools.whatif.wishes import Renewal, Wishes, time_of, us
+from sundial_tools.whatif.wishes import Renewal, Wishes, us
 
 # The parts of the default HOLD beside the waits of the backup root: as many ticks.
 TICKS = 3
@@ -135,7 +136,7 @@ def _wishes(topology: Topology, options: argparse.Namespace) -> Wishes:
 
 
 def _settings(topology: Topology, plan: Plan, options: argparse.Namespace) -> Settings:
-    hold = plan.wait_first + plan.wait_second + TICKS * topology.tick if options.hold is None else time_of(options.hold)
+    hold = default_hold(topology, plan) if options.hold is None else time_of(options.hold)
     return Settings(
         time_of(options.until), time_of(options.ask), options.seed, options.delays, options.clocks, time_of(options.base), hold,
         not options.no_fixes, time_of(options.over), options.lossy,

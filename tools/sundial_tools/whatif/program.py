@@ -8,9 +8,10 @@ from typing import Dict, Iterator, List, NamedTuple, Optional, Sequence
 from sundial_tools.errors import ToolError
 from sundial_tools.fleet.fleet import Fleet
 from sundial_tools.fleet.who import Watch
+from sundial_tools.inputs import read_lines
 from sundial_tools.outputs import OutputLine, parse_line, read_output
 from sundial_tools.plan import Plan
-from sundial_tools.schedule import open_schedule, read_schedule
+from sundial_tools.schedule import read_schedule
 from sundial_tools.topology import Topology
 from sundial_tools.whatif.scenario import Report
 
@@ -45,14 +46,13 @@ def judge(
     said = {report.line: report for report in reports}
     broken: Dict[int, List[OutputLine]] = {}
     differs: Optional[int] = None
-    with open(output, encoding="utf-8") as lines:
-        for line in read_output(lines, output):
-            if line.kind == "report":
-                mine = said.get(line.fields["line"])
-                if mine is None or (mine.clock, mine.eps) != (line.fields["clock"], line.fields["eps"]):
-                    differs = differs or line.fields["line"]
-            elif line.kind == "broken" or line.kind.startswith("alarm"):
-                broken.setdefault(line.fields["line"], []).append(line)
+    for line in read_output(read_lines(output), output):
+        if line.kind == "report":
+            mine = said.get(line.fields["line"])
+            if mine is None or (mine.clock, mine.eps) != (line.fields["clock"], line.fields["eps"]):
+                differs = differs or line.fields["line"]
+        elif line.kind == "broken" or line.kind.startswith("alarm"):
+            broken.setdefault(line.fields["line"], []).append(line)
     return Replayed(status, list(_in_words(broken, topology, plans, schedule)) if broken else [], differs)
 
 
@@ -60,17 +60,16 @@ def _in_words(broken: Dict[int, List[OutputLine]], topology: Topology, plans: Se
     """Each broken premise with its cause, and each alarm, by the line of the schedule."""
     fleet = Fleet(topology, plans)
     watch = Watch(fleet)
-    with open_schedule(schedule) as lines:
-        for number, event in read_schedule(lines, schedule):
-            watch.before(event)
-            for line in broken.get(number, ()):
-                if line.kind == "broken":
-                    premise = line.fields["premise"]
-                    yield f"line {number}: the premise {premise} broke: {watch.explain(premise, event, number).text}"
-                else:
-                    names = [str(line.fields[it]) for it in ("device", "other") if it in line.fields]
-                    yield f"line {number}: {line.kind}: {' and '.join(names)}"
-            watch.after(event, number, fleet.happen(event))
+    for number, event in read_schedule(read_lines(schedule), schedule):
+        watch.before(event)
+        for line in broken.get(number, ()):
+            if line.kind == "broken":
+                premise = line.fields["premise"]
+                yield f"line {number}: the premise {premise} broke: {watch.explain(premise, event, number).text}"
+            else:
+                names = [str(line.fields[it]) for it in ("device", "other") if it in line.fields]
+                yield f"line {number}: {line.kind}: {' and '.join(names)}"
+        watch.after(event, number, fleet.happen(event))
 
 
 def drill(program: str, topology: Topology, words: Sequence[str], domain: Optional[str]) -> Bounds:

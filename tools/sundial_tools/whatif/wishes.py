@@ -7,7 +7,7 @@ from typing import Dict, List, NamedTuple, Optional, Sequence, Tuple
 
 from sundial_tools.errors import ToolError
 from sundial_tools.things import Named, find_named, nearest
-from sundial_tools.times import picoseconds
+from sundial_tools.times import time_of
 from sundial_tools.topology import Topology
 
 PPM = re.compile(r"[+-]?[0-9]{1,6}")
@@ -85,16 +85,6 @@ def us(time: int) -> str:
 
 def _span_text(span: Span) -> str:
     return f"from {us(span.since)} to {us(span.until)}" if span.until is not None else f"once, at {us(span.since)}"
-
-
-def time_of(word: str) -> int:
-    """A time with a unit, or 0."""
-    value = picoseconds(word)
-    if value is None or value > 2**50:
-        raise ToolError(f"{word!r} is no time, as 5ms")
-    if word.isdigit() and value != 0:
-        raise ToolError(f"{word!r} has no unit: write {word}us or {word}ms")
-    return value
 
 
 def failure(topology: Topology, word: str) -> Failure:

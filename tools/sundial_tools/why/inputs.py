@@ -4,6 +4,7 @@ from __future__ import annotations
 
 from typing import Any, Iterator, List, Optional, Sequence, Tuple, Union
 
+from sundial_tools.plan import is_of
 from sundial_tools.topology import Topology
 from sundial_tools.why.texts import JsonText, Text, TomlText, near
 
@@ -80,6 +81,8 @@ def plan_reason(words: Sequence[str], said: JsonText, topology: Optional[Topolog
     else:
         key, entry = rest[0], int(rest[1])
         names: List[str] = []
+        if name == "UnknownName" and topology is not None and not is_of(said.tree, topology):
+            yield f"{text.path} is a plan of another topology: most of its devices are not in this one."
         if topology is not None:
             is_link = key.endswith("link") or key.endswith("links")
             names = list(topology.link_numbers if is_link else topology.device_numbers)

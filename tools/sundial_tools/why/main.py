@@ -3,20 +3,20 @@
 from __future__ import annotations
 
 import argparse
-import contextlib
-import sys
-from typing import Dict, Iterator, List, Optional, Sequence, Tuple
+from typing import Any, Dict, Iterator, List, Optional, Sequence, Tuple
 
 from sundial_tools.errors import ToolError
-from sundial_tools.inputs import as_files
+from sundial_tools.inputs import as_files, read_lines
 from sundial_tools.outputs import OutputLine, parse_line
 from sundial_tools.plan import Plan, parse_plan
+from sundial_tools.plan_table import plan_lines
 from sundial_tools.safe_write import FOLLOW, output_of
 from sundial_tools.topology import Topology, parse_topology
 from sundial_tools.why.broken import Replayed
 from sundial_tools.why.course import Course
 from sundial_tools.why.inputs import plan_reason, topology_reason
 from sundial_tools.why.logs import RefusedEntry
+from sundial_tools.why.planned import planned
 from sundial_tools.why.refused import Refused
 from sundial_tools.why.resumed import Resumed
 from sundial_tools.why.said import domain_of, failing, time
@@ -70,7 +70,32 @@ class Why:
                 break
         return found
 
-    def say(self, line: OutputLine) -> Iterator[str]:
+    def say_plan(self, line: str) -> List[str]:
+        """The table of a plan that `plan`, `renew` or a search printed, or nothing where the line is none."""
+        found = plan_lines(line, self.topology) if self.topology and line.startswith("{") else None
+        return found or []
+
+    def say(self, line: OutputLine) -> List[str]:
+        """What a line means. Raises ToolError where it is cut short, or is not of these files."""
+        stranger = self._stranger(line.fields) if self.topology else None
+        if stranger:
+            raise ToolError(f"The topology has no {stranger}: it is not the topology of this output.")
+        try:
+            return list(self._say(line))
+        except (IndexError, KeyError, ValueError):
+            raise ToolError("The line is cut short, or is of another version of sundial: its fault has more words.") from None
+
+    def _stranger(self, fields: Dict[str, Any]) -> Optional[str]:
+        """A thing that a line names, and that the topology does not have."""
+        assert self.topology
+        known = {"device": self.topology.device_numbers, "link": self.topology.link_numbers, "listed": {it.name for it in self.topology.domains}}
+        named = [("device", fields[key]) for key in ("device", "other") if key in fields]
+        named += [("device", name) for key in ("cycle", "chain") for name in fields.get(key, ())]
+        named += [(fields[key]["kind"], fields[key]["name"]) for key in ("domain", "at") if key in fields]
+        named += [("link", fields["link"])] if "link" in fields else []
+        return next((f"{'domain' if kind == 'listed' else kind} {name}" for kind, name in named if name not in known[kind]), None)
+
+    def _say(self, line: OutputLine) -> Iterator[str]:
         first = line.kind.split(" ")[0]
         if first == "input":
             yield from self._input(line)
@@ -111,19 +136,23 @@ class Why:
         if self.topology is None:
             yield "The plan is refused. The topology cannot be read here, so nothing more can be said."
             return
-        plan = self.plans[number - 1] if 1 <= number <= len(self.plans) else None
-        try:
-            yield from Refused(self.topology, plan).say(line)
-        except KeyError:
-            yield "The line names a thing that the topology does not have: it is not the topology of this output."
+        plan, is_made = self._plan_of(number)
+        yield from Refused(self.topology, plan, is_made).say(line)
+
+    def _plan_of(self, number: int) -> Tuple[Optional[Plan], bool]:
+        """The plan that was refused, and whether a command made it: `renew`, whose absent text is there, or `plan`, of no plan."""
+        assert self.topology
+        if self.absent is not None and self.plans:
+            devices, links = self.absent.numbers("absent_devices", self.topology.device_numbers), self.absent.numbers("absent_links", self.topology.link_numbers)
+            before = self.plans[0]
+            return planned(self.topology, before.backup_root if before.root in devices else before.root, devices, links), True
+        if not self.plan_texts:
+            return planned(self.topology, self.topology.roots[0], (), ()), True
+        return (self.plans[number - 1] if 1 <= number <= len(self.plans) else None), False
 
     def _bound(self, line: OutputLine) -> Iterator[str]:
         assert self.topology
-        try:
-            domain = failing(self.topology, domain_of(line)).text
-        except KeyError:
-            yield "The line names a domain that the topology does not have: it is not the topology of this output."
-            return
+        domain = failing(self.topology, domain_of(line)).text
         name = line.fields["device"]
         if "calm" in line.fields:
             yield f"While nothing has failed, no report of {name} is off by more than {time(line.fields['calm'])}."
@@ -165,21 +194,27 @@ def main(words: List[str]) -> int:
 
 def _explain(options: argparse.Namespace) -> int:
     why = Why(options.topology, options.others, options.absent)
-    with contextlib.ExitStack() as stack:
-        source = sys.stdin if options.lines == "-" else stack.enter_context(open(options.lines, encoding="utf-8", newline="\n"))
-        text = stack.enter_context(output_of(options.output, options.follow))
-        unknown = 0
-        for line in source:
+    number = unclear = 0
+    with output_of(options.output, options.follow) as text:
+        for number, line in enumerate(read_lines(options.lines), 1):
             bare = line.rstrip("\n")
-            parsed = parse_line(bare)
             text.write(bare + "\n")
-            if parsed is None:
-                unknown += bool(bare)
-                text.write("    (no line that sundial prints)\n")
-                continue
-            for said in why.say(parsed):
-                text.write(f"    {said}\n")
-    return 1 if unknown else 0
+            try:
+                said = why.say_plan(bare) or (why.say(_parsed(bare)) if bare else [])
+            except ToolError as fault:
+                said, unclear = [fault.reason], unclear + 1
+            for it in said:
+                text.write(f"    {it}\n")
+    if not number:
+        raise ToolError("there is no line: pipe what sundial printed into it, or name its file by --lines")
+    return 1 if unclear else 0
+
+
+def _parsed(text: str) -> OutputLine:
+    parsed = parse_line(text)
+    if parsed is None:
+        raise ToolError("(no line that sundial prints)")
+    return parsed
 
 
 def _parser() -> argparse.ArgumentParser:
@@ -187,7 +222,7 @@ def _parser() -> argparse.ArgumentParser:
         prog="sundial-why",
         description="Says in words what lines of sundial mean over its files: which names, which line of a text, and what to change.",
         epilog="Pipe what sundial printed into it: sundial check t.toml p.json | sundial-why t.toml p.json. "
-        "A file that begins with a brace, or whose name ends in .json, is a plan. docs/TROUBLESHOOTING.md has each kind of line.",
+        "A plan that is piped into it is shown as a table. A file that begins with a brace, or whose name ends in .json, is a plan. docs/TROUBLESHOOTING.md has each kind of line.",
     )
     parser.add_argument("topology", metavar="TOPOLOGY")
     parser.add_argument("others", metavar="FILE", nargs="*", help="the plans of the command in their order, and its schedule or exchanges; of resume with / and what is behind it")

@@ -22,10 +22,10 @@ PURPOSE = {
 
 
 class Refused:
-    """Says what a refusal means. `plan` is the refused plan, where it is there."""
+    """Says what a refusal means. `plan` is the refused plan, where it is known. A command made it, or it was written."""
 
-    def __init__(self, topology: Topology, plan: Optional[Plan]) -> None:
-        self.topology, self.plan, self.names = topology, plan, Names(topology)
+    def __init__(self, topology: Topology, plan: Optional[Plan], is_made: bool = False) -> None:
+        self.topology, self.plan, self.is_made, self.names = topology, plan, is_made, Names(topology)
 
     def say(self, line: OutputLine) -> Iterator[str]:
         condition = line.kind.split(" ")[1]
@@ -48,7 +48,7 @@ class Refused:
         yield "Change: name another backup root. Where `plan` made the plan, name more devices in `roots`."
 
     def _row(self, device: int, name: str) -> Iterator[str]:
-        if self.plan is None:
+        if self.plan is None or (self.is_made and device not in self.plan.rows):
             yield f"No way leads from the root to {name}, so the planner made no row for it."
             yield f"Change: add a link to {name}, or list it in `absent_devices`."
         elif device in self.plan.rows:

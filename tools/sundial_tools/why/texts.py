@@ -6,7 +6,7 @@ import difflib
 import json
 import re
 import tomllib
-from typing import Any, List, Optional, Sequence, Tuple
+from typing import Any, Dict, List, Optional, Sequence, Tuple
 
 from sundial_tools.topology import open_bytes
 
@@ -64,7 +64,7 @@ class TomlText:
 
     def __init__(self, text: Text) -> None:
         self.text = text
-        self.tree: dict[str, Any] = {}
+        self.tree: Dict[str, Any] = {}
         self.fault: Optional[str] = None
         try:
             self.tree = tomllib.loads(text.text.removeprefix("\ufeff"))
@@ -130,6 +130,11 @@ class JsonText:
             return None
         row = found[entry - 1]
         return row.get(inner) if inner and isinstance(row, dict) else row
+
+    def numbers(self, key: str, known: Dict[str, int]) -> List[int]:
+        """The numbers of the names of an array."""
+        names = self.value(key, 0)
+        return [known[name] for name in names if isinstance(name, str) and name in known] if isinstance(names, list) else []
 
     def place(self, key: str, entry: int) -> str:
         """Where a key stands: its line and column in the text."""

@@ -1,6 +1,6 @@
 -- Entries in the order in which their flights were sent, and which of these wait.
 use Rattle.std.proofs.Common.{◌≡◌, ℕ, zero, suc, ◌+◌, ◌<◌, ◌≤◌, Bool, true, false, ◌&&◌, cond, List, [], ◌∷◌, ◌++◌, length, get_or, drop, set, Option, Some, None, nat_eq, ◌⊎◌, inl, inr, refl, sym, ◌∙◌, ap, subst, arith}
-use Rattle.std.specs.List.{All}
+use Rattle.std.specs.List.{All, filter}
 use Rattle.std.specs.Option.{is_some}
 use Rattle.std.specs.List.Sorted.{IsNonDecreasingBy}
 use Rattle.std.proofs.lemmas.Bool.{cases_eq, cases_lt, eq-eqb, ne_eqb}
@@ -28,6 +28,20 @@ rises es h i j d order within = by (cases_eq i j)
     by : (i ≡ j) ⊎ (i ≡ j → ⊥) → number_at es i d ≤ number_at es j d
     by (inl same) = subst (λ k. number_at es i d ≤ number_at es k d) same (omega arith)
     by (inr other) = let apart = h i j d (omega (arith, other)) within in omega (arith, apart.0)
+
+-- those that were received are not there without them either
+pub received_out : (n : ℕ) (es : List Entry) → waits_at (filter (λ e. e.waits) es) n ≡ waits_at es n
+received_out n [] = refl
+received_out n (e ∷ es) = by e.waits refl (received_out n es)
+  where
+    passes : (a b : Bool) (o : Option WaitingFlight) → b ≡ false → cond (a && b) (Some e.flight) o ≡ o
+    passes true b o received = rw received refl
+    passes false b o received = refl
+
+    by : (b : Bool) → e.waits ≡ b → waits_at (filter (λ x. x.waits) es) n ≡ waits_at es n
+        → waits_at (cond b (e ∷ filter (λ x. x.waits) es) (filter (λ x. x.waits) es)) n ≡ waits_at (e ∷ es) n
+    by true waits rest = ap (λ o. cond (nat_eq e.flight.number n && e.waits) (Some e.flight) o) rest
+    by false received rest = rest ∙ sym (passes (nat_eq e.flight.number n) e.waits (waits_at es n) received)
 
 -- A flight after all others
 

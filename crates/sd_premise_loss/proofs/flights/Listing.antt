@@ -1,14 +1,16 @@
 -- Waiting flights and the entries of their dues.
 use Rattle.std.proofs.Common.{◌≡◌, ℕ, ◌<◌, ◌≤◌, true, cond, ◌&&◌, List, [], ◌∷◌, Option, Some, None, nat_eq, ◌⊎◌, inl, inr, refl, sym, ◌∙◌, ap, subst, arith}
-use Rattle.std.specs.List.{list_any, All}
+use Rattle.std.specs.List.{list_any, filter, All}
 use Rattle.std.specs.Option.{is_some, IfNone}
 use Rattle.std.specs.List.Sorted.{IsPermutation}
-use Rattle.std.proofs.lemmas.List.Sorted.{list_any-IsPermutation}
+use Rattle.std.proofs.lemmas.List.Sorted.{list_any-IsPermutation, All-permutation}
+use Rattle.std.proofs.lemmas.Map.Views.{any-filter_same}
+use Rattle.std.proofs.lemmas.List.Elements.{filter_passes}
 use Rattle.std.proofs.lemmas.Option.{same_Some, none-some}
 use Rattle.std.proofs.lemmas.List.Elements.{All-head, All-tail}
 use Rattle.std.proofs.lemmas.Bool.{cases_eq, eq-eqb, ne_eqb, eqb-true, or_left, or_right, or_cases, and_parts, and_from}
 use Rattle.sd_premise_loss.specs.declared.flights.WaitingFlight.{WaitingFlight}
-use Rattle.sd_premise_loss.specs.flights.UnorderedKept.{Entry, entry, is_entry_of, AreListed}
+use Rattle.sd_premise_loss.specs.flights.UnorderedKept.{Entry, entry, is_entry_of, is_waiting, AreListed}
 
 own_entry : (f : WaitingFlight) → is_entry_of f (entry f.due f.number) ≡ true
 own_entry f = and_from (nat_eq f.due f.due) (nat_eq f.number f.number) (eq-eqb f.due f.due refl) (eq-eqb f.number f.number refl)
@@ -95,3 +97,30 @@ late_entry reference f (e ∷ xs) in_it each =
 pub none_overdue : (flights : ℕ → Option WaitingFlight) (xs : List Entry) (reference : ℕ) → AreListed flights xs → All (λ e. reference ≤ e.0.0) xs
     → (n : ℕ) (f : WaitingFlight) → flights n ≡ Some f → reference ≤ f.due
 none_overdue flights xs reference h each n f at = late_entry reference f xs (h.listed n f at) each
+
+-- The entries of flights that wait
+
+-- an entry of a flight that waits is among them
+own_waits : (flights : ℕ → Option WaitingFlight) (n : ℕ) (f : WaitingFlight) → flights n ≡ Some f → f.number ≡ n → (e : Entry) → is_entry_of f e ≡ true
+    → is_waiting flights e ≡ true
+own_waits flights n f at numbered e its =
+    let parts = and_parts (nat_eq e.0.0 f.due) (nat_eq e.0.1 f.number) its in
+    let here : flights e.0.1 ≡ Some f = ap flights (eqb-true e.0.1 f.number parts.1 ∙ numbered) ∙ at in
+    rw here (eq-eqb f.due e.0.0 (sym (eqb-true e.0.0 f.due parts.0)))
+
+pub listed_waiting : (flights : ℕ → Option WaitingFlight) (xs ys : List Entry) → AreListed flights xs → IsPermutation (filter (is_waiting flights) xs) ys
+    → AreListed flights ys
+listed_waiting flights xs ys h same =
+    record {
+      numbered = h.numbered;
+      listed =
+          λ n f at.
+          sym (list_any-IsPermutation (is_entry_of f) (filter (is_waiting flights) xs) ys same)
+          ∙ any-filter_same (is_entry_of f) (is_waiting flights) true (own_waits flights n f at (h.numbered n f at)) xs
+          ∙ h.listed n f at;
+    }
+
+pub all_waiting : (flights : ℕ → Option WaitingFlight) (xs ys : List Entry) → IsPermutation (filter (is_waiting flights) xs) ys
+    → All (λ e. is_waiting flights e ≡ true) ys
+all_waiting flights xs ys same =
+    All-permutation (λ (e : Entry). is_waiting flights e ≡ true) (filter (is_waiting flights) xs) ys same (filter_passes (is_waiting flights) xs)

@@ -1,14 +1,14 @@
 -- What holds of events that come in order.
-use Rattle.std.proofs.Common.{◌≡◌, ℕ, zero, suc, ◌+◌, ◌<◌, ◌≤◌, max, Bool, true, false, ◌||◌, not, List, [], ◌∷◌, ◌++◌, map, Option, Some, None, nat_eq, nat_le, nat_lt, ◌⊎◌, inl, inr, refl, ap, arith}
+use Rattle.std.proofs.Common.{◌≡◌, ℕ, zero, suc, ◌+◌, ◌<◌, ◌≤◌, max, true, false, List, [], ◌∷◌, ◌++◌, map, Option, Some, None, nat_eq, nat_le, nat_lt, ◌⊎◌, inl, inr, refl, ap, arith}
 use Rattle.std.specs.List.{Contains, list_any}
-use Rattle.std.proofs.lemmas.Bool.{or_parts, or_cases, or_from, not-true, and_parts, ltb-false, le-ltb, leb-true, eqb-true, eq-eqb, ne_eqb}
+use Rattle.std.proofs.lemmas.Bool.{or_cases, or_from, and_parts, le-ltb, leb-true, eqb-true, eq-eqb, ne_eqb}
 use Rattle.std.proofs.lemmas.List.Folds.{list_any_at}
 use Rattle.sd_num.specs.Lists.{map_or, ascends}
 use Rattle.sd_msg.specs.declared.Flight.{Flight}
 use Rattle.sd_sched.specs.declared.Event.{Event}
 use Rattle.sd_sched.specs.Events.{reference_of}
 use Rattle.sd_history.specs.World.{Setting, Seen, latest_reference}
-use Rattle.sd_history.specs.Refusals.{unknown_device, unknown_link, time_falls}
+use Rattle.sd_history.specs.Refusals.{unknown_device, unknown_link}
 use Rattle.sd_history.specs.Open.{may_be_seen}
 use Rattle.sd_history.specs.Premises.{reaching_flights, is_overdue, was_received}
 use Rattle.sd_history.proofs.Shared.{seen_parts, time_rises}

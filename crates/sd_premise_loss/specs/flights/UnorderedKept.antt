@@ -1,5 +1,5 @@
 -- What is kept of flights that wait in no order.
-use Rattle.std.specs.Prelude.{◌≡◌, ℕ, Bool, ◌&&◌, true, List, Option, Some, nat_eq}
+use Rattle.std.specs.Prelude.{◌≡◌, ℕ, Bool, ◌&&◌, true, false, List, Option, Some, nat_eq}
 use Rattle.std.specs.List.{list_any}
 use Rattle.std.specs.HashMap.{HashMap, get}
 use Rattle.std.specs.declared.hash.FoldHasher.{FoldHasher}
@@ -8,6 +8,7 @@ use Rattle.std.specs.Ordering.{nat_cmp, ordering_then}
 use Rattle.std.specs.declared.cmp.Ordering.{Ordering}
 use Rattle.std.specs.declared.cmp.Reverse.{Reverse}
 use Rattle.std.proofs.Props.{props}
+use Rattle.sd_num.specs.Lists.{map_or}
 use Rattle.sd_premise_loss.specs.declared.flights.WaitingFlight.{WaitingFlight}
 
 -- flights by number
@@ -33,6 +34,10 @@ by_due x y = ordering_then (nat_cmp y.0.0 x.0.0) (nat_cmp y.0.1 x.0.1)
 -- the entry is that of the flight
 abbrev pub is_entry_of : WaitingFlight → Entry → Bool
 is_entry_of f e = nat_eq e.0.0 f.due && nat_eq e.0.1 f.number
+
+-- the entry is that of a flight that waits
+abbrev pub is_waiting : (ℕ → Option WaitingFlight) → Entry → Bool
+is_waiting flights e = map_or (flights e.0.1) false (λ f. nat_eq f.due e.0.0)
 
 -- each flight stands under its own number, and its due is among the entries
 pub record AreListed (flights : ℕ → Option WaitingFlight) (entries : List Entry) : Type 0 where

@@ -1,5 +1,5 @@
 //! Flights that wait for their receipt in the order in which they were sent.
-ghost use Rattle.std.specs.Prelude.{◌≡◌, ◌≤◌, ◌<◌, ◌+◌, ◌-◌, ◌^◌, ℕ, All, None, Some, is_some, OnOk, IfNone, IfSome, IsTrue, ◌↔◌, nat_eq, length, slice_index_or, false, true, if◌then◌else◌};
+ghost use Rattle.std.specs.Prelude.{◌≡◌, ◌≤◌, ◌<◌, ◌+◌, ◌-◌, ◌*◌, ◌^◌, ℕ, All, filter, max, None, Some, is_some, OnOk, IfNone, IfSome, IsTrue, ◌↔◌, nat_eq, length, slice_index_or, false, true, if◌then◌else◌};
 ghost use Rattle.std.specs.VecDeque.{deque_len, deque_capacity};
 ghost use Rattle.sd_num.specs.Lists.{map_or};
 ghost use Rattle.sd_premise_loss.specs.flights.OrderlyKept.{waits_at, AreInOrder, AreInOrder-prop};
@@ -18,7 +18,9 @@ pub(crate) struct Entry {
 }
 
 /// Flights with ascending numbers, whose dues do not fall: so the first is due first, and a number
-/// is found by its place. Each flight costs one push and one pop, and nothing is hashed.
+/// is found by its place. Each flight costs one push and one pop, and nothing is hashed. Where there
+/// is no more room, all that were received are dropped, so that there is memory for at most twice as
+/// many as ever waited at once, and as many as room was asked for.
 #[derive(Drop)]
 pub(crate) struct Orderly {
     entries: VecDeque<Entry>,
@@ -26,7 +28,7 @@ pub(crate) struct Orderly {
 }
 
 impl Orderly {
-    ghost use Rattle.sd_premise_loss.specs.flights.OrderlyView.{orderly_at, orderly_count, orderly_room, AreBefore};
+    ghost use Rattle.sd_premise_loss.specs.flights.OrderlyView.{orderly_at, orderly_count, orderly_places, orderly_room, AllWait, AreBefore};
 
     /// No flights.
     pub fn new(alloc: Global) -> Orderly
@@ -38,14 +40,23 @@ impl Orderly {
         }
     }
 
-    /// Makes room for so many more flights.
+    /// Makes room for so many more flights. Where it has too little, it keeps only those that wait.
     pub fn ready(&mut self, count: usize) -> Result<(), NoMemory>
         ensures room { OnOk result (count ≤ orderly_room self.new) }
         ensures grows { orderly_room self.old ≤ orderly_room self.new }
         ensures flights { (n : ℕ) → orderly_at self.new n ≡ orderly_at self.old n }
-        ensures count { orderly_count self.new ≡ orderly_count self.old }
+        ensures count { orderly_count self.new ≤ orderly_count self.old }
+        ensures places { orderly_places self.new
+            ≤ max (orderly_places self.old) (2 * orderly_count self.new + count) }
+        ensures kept { orderly_room self.old < count → AllWait self.new }
     {
-        match self.entries.reserve(count) {
+        if count <= self.entries.capacity().saturating_sub(self.entries.len()) {
+            return Ok(());
+        }
+        drop_all_received(&mut self.entries);
+        // for as many again as wait, so that they are gone over only now and then
+        let more = count.saturating_add(self.entries.len());
+        match self.entries.reserve_exact(more) {
             Ok(()) => Ok(()),
             Err(_) => Err(NoMemory),
         }
@@ -154,14 +165,17 @@ fn place_from(entries: &VecDeque<Entry>, number: u64) -> usize
     entries.partition_point(|entry| entry.flight.number < number)
 }
 
-/// The place of the entry with a number while each number after the first has its place.
+/// The place of the entry with a number while each number after it has its place.
 fn place_guessed(entries: &VecDeque<Entry>, number: u64) -> Option<usize>
     ensures place { IfSome result (λ i. i < length entries.now.items) }
     ensures number { IfSome result (λ i. (d : Entry)
         → (slice_index_or entries.now.items i d).flight.number ≡ number) }
 {
-    let first = entries.front()?;
-    let place = usize::try_from(number.checked_sub(first.flight.number)?).ok()?;
+    let after = entries.back()?.flight.number.checked_sub(number)?;
+    let place = entries
+        .len()
+        .checked_sub(usize::try_from(after).ok()?)?
+        .checked_sub(1)?;
     match entries.get(place) {
         Some(entry) if entry.flight.number == number => Some(place),
         _ => None,
@@ -222,4 +236,16 @@ fn drop_received(entries: &mut VecDeque<Entry>)
         }
         let _received = entries.pop_front();
     }
+}
+
+/// Drops all that was received.
+fn drop_all_received(entries: &mut VecDeque<Entry>)
+    ensures items { entries.new.items ≡ filter (λ e. e.waits) entries.old.items }
+    ensures flights { (n : ℕ) → waits_at entries.new.items n ≡ waits_at entries.old.items n }
+    ensures waiting { All (λ e. e.waits ≡ true) entries.new.items }
+    ensures order { AreInOrder entries.old.items → AreInOrder entries.new.items }
+    ensures bound { deque_len entries.new ≤ deque_len entries.old }
+    ensures capacity { deque_capacity entries.new ≡ deque_capacity entries.old }
+{
+    entries.retain(|entry| entry.waits);
 }

@@ -1,10 +1,10 @@
 //! Flights that wait for their receipt in no order, of which the next overdue one is found at once.
-ghost use Rattle.std.specs.Prelude.{◌≡◌, ◌≤◌, ◌<◌, ◌+◌, ◌-◌, ◌^◌, ℕ, ◌∷◌, ◌&&◌, All, None, Some, is_some, OnOk, IfNone, IfSome, nat_eq, false, true, if◌then◌else◌};
+ghost use Rattle.std.specs.Prelude.{◌≡◌, ◌≤◌, ◌<◌, ◌+◌, ◌-◌, ◌*◌, ◌^◌, ℕ, ◌∷◌, max, ◌&&◌, All, None, Some, is_some, OnOk, IfNone, IfSome, nat_eq, false, true, if◌then◌else◌};
 ghost use Rattle.std.specs.HashMap.{spare, hash_map_len};
 ghost use Rattle.std.specs.BinaryHeap.{heap_items, heap_len, heap_capacity, IsHeap, IsHeap-prop};
 ghost use Rattle.std.specs.List.Sorted.{IsPermutation};
 ghost use Rattle.sd_num.specs.Lists.{map_or};
-ghost use Rattle.sd_premise_loss.specs.flights.UnorderedKept.{flight_in, entry, by_due, AreListed, AreListed-prop};
+ghost use Rattle.sd_premise_loss.specs.flights.UnorderedKept.{flight_in, entry, by_due, is_waiting, AreListed, AreListed-prop};
 
 use crate::flights::WaitingFlight;
 use sd_num::NoMemory;
@@ -13,7 +13,8 @@ use std::cmp::Reverse;
 use std::collections::{BinaryHeap, HashMap};
 
 /// Flights by number, with their dues in a heap. A flight leaves by its number alone, and its due
-/// stays in the heap until it is the least: so each flight costs one push and one pop.
+/// stays in the heap until it is the least, or until there is no more room: so each flight costs one
+/// push and one pop.
 #[derive(Drop)]
 pub(crate) struct Unordered {
     flights: HashMap<u64, WaitingFlight>,
@@ -24,7 +25,7 @@ pub(crate) struct Unordered {
 }
 
 impl Unordered {
-    ghost use Rattle.sd_premise_loss.specs.flights.UnorderedView.{unordered_at, unordered_count, unordered_room};
+    ghost use Rattle.sd_premise_loss.specs.flights.UnorderedView.{unordered_at, unordered_count, unordered_room, due_places, due_count, AllDue};
 
     /// No flights.
     pub fn new(alloc: Global) -> Unordered
@@ -37,17 +38,27 @@ impl Unordered {
         }
     }
 
-    /// Makes room for so many more flights.
+    /// Makes room for so many more flights. Where it has too little for their dues, it keeps only
+    /// those of flights that wait.
     pub fn ready(&mut self, count: usize) -> Result<(), NoMemory>
         ensures room { OnOk result (count ≤ unordered_room self.new) }
         ensures grows { unordered_room self.old ≤ unordered_room self.new }
         ensures flights { (n : ℕ) → unordered_at self.new n ≡ unordered_at self.old n }
         ensures count { unordered_count self.new ≡ unordered_count self.old }
+        ensures places { due_places self.new
+            ≤ max (due_places self.old) (2 * due_count self.new + count) }
+        ensures kept { due_places self.old - due_count self.old < count → OnOk result (AllDue self.new) }
     {
         if self.flights.reserve(count).is_err() {
             return Err(NoMemory);
         }
-        match self.dues.reserve(count) {
+        if count <= self.dues.capacity().saturating_sub(self.dues.len()) {
+            return Ok(());
+        }
+        keep_waiting(&mut self.dues, &self.flights);
+        // for as many again as wait, so that they are gone over only now and then
+        let more = count.saturating_add(self.dues.len());
+        match self.dues.reserve_exact(more) {
             Ok(()) => Ok(()),
             Err(_) => Err(NoMemory),
         }
@@ -149,6 +160,28 @@ fn list(dues: &mut BinaryHeap<Reverse<(u64, u64)>>, due: u64, number: u64)
         Ok(()) => {}
         Err(_) => unreachable!(),
     }
+}
+
+/// Whether a flight waits that has this due and this number.
+fn waits(flights: &HashMap<u64, WaitingFlight>, due: u64, number: u64) -> bool
+    ensures { result ≡ is_waiting (flight_in flights.now) (entry due number) }
+{
+    match flights.get(&number) {
+        Some(flight) => flight.due == due,
+        None => false,
+    }
+}
+
+/// Leaves out the entries of flights that have left.
+fn keep_waiting(dues: &mut BinaryHeap<Reverse<(u64, u64)>>, flights: &HashMap<u64, WaitingFlight>)
+    ensures heap { IsHeap by_due (heap_items dues.new) }
+    ensures listed { AreListed (flight_in flights.now) (heap_items dues.old)
+        → AreListed (flight_in flights.now) (heap_items dues.new) }
+    ensures kept { All (λ e. is_waiting (flight_in flights.now) e ≡ true) (heap_items dues.new) }
+    ensures bound { heap_len dues.new ≤ heap_len dues.old }
+    ensures capacity { heap_capacity dues.new ≡ heap_capacity dues.old }
+{
+    dues.retain(|Reverse((due, number))| waits(flights, *due, *number));
 }
 
 /// Whether the least due of the heap lies before the reference.

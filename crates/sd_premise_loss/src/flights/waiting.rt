@@ -39,7 +39,7 @@ impl Waiting {
         ensures room { OnOk result (count ≤ room_for self.new) }
         ensures grows { room_for self.old ≤ room_for self.new }
         ensures flights { (n : ℕ) → waiting_at self.new n ≡ waiting_at self.old n }
-        ensures count { count_of self.new ≡ count_of self.old }
+        ensures count { count_of self.new ≤ count_of self.old }
     {
         self.orderly.ready(count)?;
         self.others.ready(count)

@@ -331,3 +331,29 @@ fn many_on_their_way_are_taken_in_about_their_order(rt: HostRuntime) -> Result<(
     drop(tried);
     Ok(())
 }
+
+/// How many are on their way for long, and how many are sent and taken meanwhile.
+const LONG_ON_THEIR_WAY: u64 = 3;
+
+const MEANWHILE: u64 = 100_000;
+
+/// Each is sent and taken at once, and then spent.
+fn assert_sent_and_taken(rt: &(impl AllocGlobal + Abort), tried: &mut Tried) {
+    for number in LONG_ON_THEIR_WAY + 1..=LONG_ON_THEIR_WAY + MEANWHILE {
+        assert_sent(rt, tried, number);
+        assert_taken(rt, tried, number);
+        assert_same(rt, tried.call(rt.alloc(), look(number)), SPENT);
+    }
+}
+
+#[test]
+fn a_few_that_are_long_on_their_way_are_taken_after_many_others(
+    rt: HostRuntime,
+) -> Result<(), NoMemory> {
+    let mut tried = Tried::new(rt.alloc())?;
+    assert_all_sent(&rt, &mut tried, LONG_ON_THEIR_WAY);
+    assert_sent_and_taken(&rt, &mut tried);
+    assert_taken_backwards(&rt, &mut tried, LONG_ON_THEIR_WAY);
+    drop(tried);
+    Ok(())
+}

@@ -1,5 +1,6 @@
-//! A fleet beside a plain slow program, on histories drawn by lot over four networks. At every other
-//! event a quick way is tried first.
+//! A fleet beside a plain slow program, on histories drawn by lot over four networks: of devices, and
+//! of nodes that seal themselves or fall back at a message. At every other event a quick way is tried
+//! first.
 ghost use Rattle.std.specs.Prelude.{◌≤◌, ◌<◌, ◌^◌, length, IsTrue};
 ghost use Rattle.sd_test_fleet_kit.specs.Sched.Spelled.{is_within};
 ghost use Rattle.sd_test_fleet_kit.specs.Topo.Topologies.{network};
@@ -15,10 +16,11 @@ use crate::same::assert_same_at;
 use causes::refusal;
 use drawn::{draw, line_of};
 use outcomes::{happen, look};
-use sd_test_fleet_kit::device::Device;
+use sd_test_fleet_kit::device::{Device, Node};
 use sd_test_fleet_kit::examples::{Example, FABRIC, PAIR, SQUARE, TRIANGLE, plans_of};
 use sd_test_fleet_kit::fleet::{ApplyFault, Fleet, Outcome};
-use sd_test_fleet_kit::plain::{Net, Numbers, Plain};
+use sd_test_fleet_kit::kinds::{FallingBack, SelfSealing};
+use sd_test_fleet_kit::plain::{Net, NodeKind, Numbers, Plain};
 use sd_test_fleet_kit::plan::Plan;
 use sd_test_fleet_kit::sched::{Event, read_line};
 use sd_test_fleet_kit::topo::Topology;
@@ -36,7 +38,7 @@ const LINES: u32 = 120;
 const HISTORIES: u64 = 12;
 
 /// Whether the fleet says of each device what the plain program says.
-fn is_as(fleet: &Fleet<Device>, plain: &Plain<'_>) -> bool {
+fn is_as<N: Node>(fleet: &Fleet<N>, plain: &Plain<'_>) -> bool {
     for d in 0..fleet.devices() {
         if fleet.is_up(d) != plain.is_up(d)
             || fleet.is_counted(d) != plain.is_counted(d)
@@ -50,7 +52,7 @@ fn is_as(fleet: &Fleet<Device>, plain: &Plain<'_>) -> bool {
 }
 
 /// Whether the fleet finds what the plain program finds under each number of a message.
-fn finds_as(fleet: &Fleet<Device>, plain: &Plain<'_>) -> bool {
+fn finds_as<N: Node>(fleet: &Fleet<N>, plain: &Plain<'_>) -> bool {
     for number in 0..(plain.sent.len() as u64).saturating_add(2) {
         if fleet.flight(number) != look(plain, number) {
             return false;
@@ -61,8 +63,8 @@ fn finds_as(fleet: &Fleet<Device>, plain: &Plain<'_>) -> bool {
 
 /// What is compared.
 #[derive(Drop)]
-struct Trial<'a> {
-    fleet: Fleet<Device>,
+struct Trial<'a, N: Node> {
+    fleet: Fleet<N>,
     plain: Plain<'a>,
     /// Whether a quick way was tried at the latest event.
     is_quick: bool,
@@ -76,9 +78,9 @@ struct Line<'a> {
 }
 
 /// The event happens in the fleet, at every other event by a quick way where there is one.
-fn apply(
+fn apply<N: Node>(
     alloc: Global,
-    trial: &mut Trial<'_>,
+    trial: &mut Trial<'_, N>,
     tally: &mut Tally,
     event: &Event,
 ) -> Result<Result<Outcome, ApplyFault>, Fail>
@@ -114,9 +116,9 @@ fn accept(
 }
 
 /// A line that happens in both, each of which says the same of it.
-fn compare(
+fn compare<N: Node>(
     rt: &(impl AllocGlobal + Abort),
-    trial: &mut Trial<'_>,
+    trial: &mut Trial<'_, N>,
     tally: &mut Tally,
     line: Line<'_>,
 ) -> Result<(), Fail> {
@@ -136,7 +138,7 @@ fn compare(
 }
 
 /// After a line of a history the fleet says what the plain program says.
-fn assert_same(rt: &impl Abort, trial: &Trial<'_>, number: u64, line: &str) {
+fn assert_same<N: Node>(rt: &impl Abort, trial: &Trial<'_, N>, number: u64, line: &str) {
     assert!(rt;
         is_as(&trial.fleet, &trial.plain),
         "history {number}: {line}"
@@ -148,9 +150,9 @@ fn assert_same(rt: &impl Abort, trial: &Trial<'_>, number: u64, line: &str) {
 }
 
 /// The lines of one history.
-fn follow(
+fn follow<N: Node>(
     rt: &(impl AllocGlobal + Abort),
-    trial: &mut Trial<'_>,
+    trial: &mut Trial<'_, N>,
     tally: &mut Tally,
     number: u64,
 ) -> Result<(), Fail> {
@@ -169,10 +171,11 @@ fn follow(
 }
 
 /// One history over a network.
-fn run_history(
+fn run_history<N: Node>(
     rt: &(impl AllocGlobal + Abort),
     planned: (&Topology, &[Plan]),
     net: &Net<'_>,
+    kind: NodeKind,
     tally: &mut Tally,
     number: u64,
 ) -> Result<(), Fail>
@@ -180,10 +183,10 @@ fn run_history(
     requires count { length planned.1.now < 2 ^ 32 }
     requires sound { AreSound (network planned.0.now) planned.1.now }
 {
-    let fleet = Fleet::new(rt.alloc(), planned.0, planned.1)?;
+    let fleet = Fleet::<N>::new(rt.alloc(), planned.0, planned.1)?;
     let mut trial = Trial {
         fleet,
-        plain: Plain::new(rt.alloc(), net),
+        plain: Plain::of_kind(rt.alloc(), net, kind),
         is_quick: false,
     };
     let followed = follow(rt, &mut trial, tally, number);
@@ -192,10 +195,11 @@ fn run_history(
 }
 
 /// Some histories over a network.
-fn run_histories(
+fn run_histories<N: Node>(
     rt: &(impl AllocGlobal + Abort),
     topo: &Topology,
     plans: &[Plan],
+    kind: NodeKind,
     tally: &mut Tally,
 ) -> Result<(), Fail>
     requires some { 1 ≤ length plans.now }
@@ -204,20 +208,21 @@ fn run_histories(
 {
     let net = Net::of(rt.alloc(), topo, plans)?;
     for number in 0..HISTORIES {
-        run_history(rt, (topo, plans), &net, tally, number)?;
+        run_history::<N>(rt, (topo, plans), &net, kind, tally, number)?;
     }
     Ok(())
 }
 
 /// Some histories over a network with the plans of some texts.
-fn run_planned(
+fn run_planned<N: Node>(
     rt: &(impl AllocGlobal + Abort),
     topo: &Topology,
     texts: &[&str],
+    kind: NodeKind,
     tally: &mut Tally,
 ) -> Result<(), Fail> {
     let plans = plans_of(rt.alloc(), topo, texts)?;
-    let ran = run_histories(rt, topo, plans.as_slice(), tally);
+    let ran = run_histories::<N>(rt, topo, plans.as_slice(), kind, tally);
     drop(plans);
     ran
 }
@@ -228,23 +233,48 @@ fn network_of(alloc: Global, text: &str) -> Result<Topology, Fail> {
 }
 
 /// Some histories over an example.
-fn run_example(
+fn run_example<N: Node>(
     rt: &(impl AllocGlobal + Abort),
     example: &Example,
+    kind: NodeKind,
     tally: &mut Tally,
 ) -> Result<(), Fail> {
     let topo = network_of(rt.alloc(), example.topology)?;
-    let ran = run_planned(rt, &topo, example.plans, tally);
+    let ran = run_planned::<N>(rt, &topo, example.plans, kind, tally);
     drop(topo);
     ran
 }
 
-#[test]
-fn a_fleet_does_as_a_plain_program_that_keeps_all_events(rt: HostRuntime) -> Result<(), Fail> {
+/// Some histories over each example, with what came in them.
+fn run_examples<N: Node>(rt: &(impl AllocGlobal + Abort), kind: NodeKind) -> Result<Tally, Fail> {
     let mut tally = Tally::new();
     for example in [PAIR, TRIANGLE, SQUARE, FABRIC] {
-        run_example(&rt, &example, &mut tally)?;
+        run_example::<N>(rt, &example, kind, &mut tally)?;
     }
+    Ok(tally)
+}
+
+#[test]
+fn a_fleet_does_as_a_plain_program_that_keeps_all_events(rt: HostRuntime) -> Result<(), Fail> {
+    let tally = run_examples::<Device>(&rt, NodeKind::Device)?;
     assert!(rt; tally.is_ample(), "{tally:?}");
+    Ok(())
+}
+
+#[test]
+fn a_fleet_of_nodes_that_seal_themselves_at_a_message_does_as_the_plain_program(
+    rt: HostRuntime,
+) -> Result<(), Fail> {
+    let tally = run_examples::<SelfSealing>(&rt, NodeKind::SelfSealing)?;
+    assert!(rt; tally.has_sealed_itself(), "{tally:?}");
+    Ok(())
+}
+
+#[test]
+fn a_fleet_of_nodes_that_fall_back_at_a_message_does_as_the_plain_program(
+    rt: HostRuntime,
+) -> Result<(), Fail> {
+    let tally = run_examples::<FallingBack>(&rt, NodeKind::FallingBack)?;
+    assert!(rt; tally.has_fallen_back(), "{tally:?}");
     Ok(())
 }

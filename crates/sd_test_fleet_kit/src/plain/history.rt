@@ -1,7 +1,7 @@
 //! What is kept of a history, and what it says of devices and links.
 
 use crate::plain::net::Net;
-use crate::plain::things::{failed_by, mended_by};
+use crate::plain::things::{failed_by, mended_by, received_by};
 use sd_msg::{Flight, Stamp};
 use sd_sched::Event;
 use sd_topo::Thing;
@@ -19,10 +19,20 @@ pub enum Transition {
     Recommitted(u32),
     Accepted,
     Moved,
+    /// It went back to its primary parent, and accepted its message.
+    FellBack,
     TookOver,
     Emitted,
     Sealed,
     Nothing,
+}
+
+/// Of which kind the nodes are.
+#[derive(Clone, Copy, PartialEq)]
+pub enum NodeKind {
+    Device,
+    SelfSealing,
+    FallingBack,
 }
 
 /// An accepted event.
@@ -47,6 +57,7 @@ pub struct Sent {
 #[derive(Drop)]
 pub struct Plain<'a> {
     pub alloc: Global,
+    pub kind: NodeKind,
     pub net: &'a Net<'a>,
     pub steps: Vec<Step>,
     pub sent: Vec<Sent>,
@@ -61,6 +72,8 @@ pub enum Subject {
     Making,
     /// The counter that it read last.
     Reading,
+    /// That it heard a message.
+    Hearing,
     /// Which plan it follows.
     Plan,
     /// The duty that it was given and did not take up.
@@ -96,7 +109,10 @@ impl Transition {
 
     /// Whether the message that came was accepted.
     pub(crate) fn accepts(self) -> bool {
-        matches!(self, Transition::Accepted | Transition::Entered(_))
+        matches!(
+            self,
+            Transition::Accepted | Transition::FellBack | Transition::Entered(_)
+        )
     }
 
     /// The stamp that a device sends next, where it is not the one of a message.
@@ -127,7 +143,9 @@ impl Transition {
             Subject::Plan => self.plan().is_some(),
             Subject::Given => self.plan().is_some() || matches!(self, Transition::Given(_)),
             Subject::Sealed => self.plan().is_some() || self == Transition::Sealed,
-            Subject::Moved => self.plan().is_some() || self == Transition::Moved,
+            Subject::Moved => {
+                self.plan().is_some() || matches!(self, Transition::Moved | Transition::FellBack)
+            }
             Subject::Acting => self.plan().is_some() || self == Transition::TookOver,
             Subject::Silence => self.is_making() || self.accepts() || self == Transition::Moved,
             Subject::Period => {
@@ -138,7 +156,7 @@ impl Transition {
                     )
             }
             Subject::Estimate => self.is_making() || self.accepts(),
-            Subject::Life | Subject::Reading => false,
+            Subject::Life | Subject::Reading | Subject::Hearing => false,
         }
     }
 }
@@ -159,6 +177,7 @@ impl Step {
         match subject {
             Subject::Life => self.transition.is_making() || failed_by(&self.event).is_some(),
             Subject::Reading => self.event.counter().is_some(),
+            Subject::Hearing => received_by(&self.event).is_some(),
             Subject::Estimate if matches!(self.event, Event::Fix { .. }) => true,
             _ => self.transition.tells(subject),
         }
@@ -166,10 +185,16 @@ impl Step {
 }
 
 impl Plain<'_> {
-    /// Before any event.
+    /// Devices before any event.
     pub fn new<'a>(alloc: Global, net: &'a Net<'a>) -> Plain<'a> {
+        Plain::of_kind(alloc, net, NodeKind::Device)
+    }
+
+    /// Nodes of a kind before any event.
+    pub fn of_kind<'a>(alloc: Global, net: &'a Net<'a>, kind: NodeKind) -> Plain<'a> {
         Plain {
             alloc,
+            kind,
             net,
             steps: Vec::new(alloc),
             sent: Vec::new(alloc),

@@ -1,6 +1,6 @@
 //! What a history says of one device: all is looked up in the steps that name it.
 
-use crate::plain::history::{Plain, Subject, Transition};
+use crate::plain::history::{NodeKind, Plain, Subject, Transition};
 use crate::plain::things::received_by;
 use sd_clock::Report;
 use sd_msg::{Message, Stamp};
@@ -81,7 +81,20 @@ impl Plain<'_> {
     /// Whether the device may move to its backup, or take over.
     pub fn is_sealed(&self, d: u32) -> bool {
         let transition = self.latest_transition(d, Subject::Sealed);
-        transition.is_making() || transition == Transition::Sealed
+        transition.is_making() || transition == Transition::Sealed || self.has_sealed_itself(d)
+    }
+
+    /// Whether a device that seals itself has heard a message of the plan that it follows.
+    fn has_sealed_itself(&self, d: u32) -> bool {
+        match (
+            self.latest(d, Subject::Plan),
+            self.latest(d, Subject::Hearing),
+        ) {
+            (Some(plan), Some(heard)) => {
+                self.kind == NodeKind::SelfSealing && plan.place <= heard.place
+            }
+            _ => false,
+        }
     }
 
     fn has_moved(&self, d: u32) -> bool {
@@ -244,13 +257,22 @@ impl Plain<'_> {
         }
     }
 
-    /// Whether a message comes from the present parent, in the device's own plan, with news.
-    fn is_news(&self, d: u32, link: u32, message: &Message) -> bool {
+    /// Whether a message comes from a parent, in the device's own plan, with news.
+    fn is_news(&self, d: u32, parent: Option<Hop>, link: u32, message: &Message) -> bool {
         let seen = self.stamp(d);
         let newer = (message.stamp.term, message.stamp.round) > (seen.term, seen.round);
-        match self.hop(d) {
+        match parent {
             Some(hop) => hop.link == link && newer && message.epoch == self.epoch_of(d),
             None => false,
+        }
+    }
+
+    /// The parent to which a device goes back that moved.
+    fn parent_to_return_to(&self, d: u32) -> Option<Hop> {
+        if self.kind == NodeKind::FallingBack && self.has_moved(d) && !self.is_acting(d) {
+            self.net.primary(self.epoch_of(d), d)
+        } else {
+            None
         }
     }
 
@@ -258,7 +280,9 @@ impl Plain<'_> {
     pub(crate) fn receipt(&self, d: u32, link: u32, message: &Message) -> Transition {
         if self.enters(d, link, message) {
             Transition::Entered(message.epoch)
-        } else if self.is_news(d, link, message) {
+        } else if self.is_news(d, self.parent_to_return_to(d), link, message) {
+            Transition::FellBack
+        } else if self.is_news(d, self.hop(d), link, message) {
             Transition::Accepted
         } else {
             Transition::Nothing

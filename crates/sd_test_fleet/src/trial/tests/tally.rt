@@ -17,6 +17,10 @@ pub(super) struct Tally {
     accepted: [u32; 14],
     transitions: [u32; 12],
     closed: u32,
+    /// Events with which a device went back to its primary parent.
+    fell_back: u32,
+    /// Receipts with which a window closed.
+    closed_by_receipts: u32,
     swept: u32,
     /// Events with which a device entered the staged plan.
     activated: u32,
@@ -39,6 +43,8 @@ fn place_of_transition(transition: Transition) -> usize {
         Transition::Emitted => 9,
         Transition::Sealed => 10,
         Transition::Nothing => 11,
+        // no device does so
+        Transition::FellBack => 12,
     }
 }
 
@@ -76,6 +82,8 @@ impl Tally {
             accepted: [0; 14],
             transitions: [0; 12],
             closed: 0,
+            fell_back: 0,
+            closed_by_receipts: 0,
             swept: 0,
             activated: 0,
             quick: [0; 4],
@@ -91,6 +99,12 @@ impl Tally {
         count(&mut self.accepted, place_of_word(word));
         count(&mut self.transitions, place_of_transition(transition));
         self.closed = self.closed.saturating_add(u32::from(outcome.closed));
+        let falls_back = transition == Transition::FellBack;
+        self.fell_back = self.fell_back.saturating_add(u32::from(falls_back));
+        let closed_by_receipt = outcome.closed && outcome.taken.is_some();
+        self.closed_by_receipts = self
+            .closed_by_receipts
+            .saturating_add(u32::from(closed_by_receipt));
         let enters = outcome.activated.is_some();
         self.activated = self.activated.saturating_add(u32::from(enters));
     }
@@ -117,5 +131,18 @@ impl Tally {
             && are_ample(&self.transitions)
             && are_ample(&self.quick)
             && are_ample(&[self.closed, self.swept, self.activated])
+    }
+
+    /// Whether nodes that seal themselves closed a window by it a few times, and ticked by a quick
+    /// way. None of their receipts goes one.
+    pub(super) fn has_sealed_itself(&self) -> bool {
+        let [rested, sent, received, relayed] = self.quick;
+        are_ample(&[self.closed_by_receipts, rested, sent]) && received == 0 && relayed == 0
+    }
+
+    /// The same of nodes that fell back.
+    pub(super) fn has_fallen_back(&self) -> bool {
+        let [rested, sent, received, relayed] = self.quick;
+        are_ample(&[self.fell_back, rested, sent]) && received == 0 && relayed == 0
     }
 }

@@ -3,14 +3,14 @@ ghost use Rattle.std.specs.Prelude.{IsTrue};
 ghost use Rattle.sd_test_fleet_kit.specs.Sched.declared.Event.TheVariants as events_of;
 ghost use Rattle.sd_test_fleet_kit.specs.Sched.Spelled.{is_within};
 
-use sd_test_fleet_kit::device::Device;
+use sd_test_fleet_kit::device::Node;
 use sd_test_fleet_kit::fleet::{Fleet, Outcome};
 use sd_test_fleet_kit::sched::Event;
 use std::alloc::Global;
 use std::test::Fail;
 
 /// Whether an event names a device that acts as root.
-fn acts(fleet: &Fleet<Device>, event: &Event) -> bool {
+fn acts<N: Node>(fleet: &Fleet<N>, event: &Event) -> bool {
     match event.device() {
         Some(d) => d < fleet.devices() && fleet.acts(d),
         None => false,
@@ -18,9 +18,9 @@ fn acts(fleet: &Fleet<Device>, event: &Event) -> bool {
 }
 
 /// What a tick comes to that happens by a quick way, if it is one.
-fn tick(
+fn tick<N: Node>(
     alloc: Global,
-    fleet: &mut Fleet<Device>,
+    fleet: &mut Fleet<N>,
     reference: u64,
     device: u32,
     counter: u64,
@@ -43,9 +43,9 @@ fn tick(
 }
 
 /// What a receipt comes to that happens by a quick way, if it is one.
-fn receive(
+fn receive<N: Node>(
     alloc: Global,
-    fleet: &mut Fleet<Device>,
+    fleet: &mut Fleet<N>,
     reference: u64,
     device: u32,
     counter: u64,
@@ -67,9 +67,9 @@ fn receive(
 }
 
 /// What an event comes to that happens by a quick way, if it is one.
-pub(super) fn happen_quickly(
+pub(super) fn happen_quickly<N: Node>(
     alloc: Global,
-    fleet: &mut Fleet<Device>,
+    fleet: &mut Fleet<N>,
     event: &Event,
 ) -> Result<Option<Outcome>, Fail>
     requires { IsTrue (is_within event.now) }

@@ -25,18 +25,6 @@ invariant_of-self c = (kept c).sound
 pub returns-clause-given : goal.returns-clause-given
 returns-clause-given c = (kept c).given
 
-pub returns-clause-parent : goal.returns-clause-parent
-returns-clause-parent c = λ none. ((kept c).answers none).parent
-
-pub returns-clause-acts : goal.returns-clause-acts
-returns-clause-acts c = λ none. ((kept c).answers none).acts
-
-pub returns-clause-epoch : goal.returns-clause-epoch
-returns-clause-epoch c = λ none. ((kept c).answers none).epoch
-
-pub returns-clause-sealed : goal.returns-clause-sealed
-returns-clause-sealed c = λ none. ((kept c).answers none).sealed
-
 pub returns-clause-floor : goal.returns-clause-floor
 returns-clause-floor c = (kept c).floor
 

@@ -23,18 +23,6 @@ invariant_of-self c = (kept c).sound
 pub returns-clause-given : goal.returns-clause-given
 returns-clause-given c = (kept c).given
 
-pub returns-clause-parent : goal.returns-clause-parent
-returns-clause-parent c = λ acts. ((kept c).answers acts).parent
-
-pub returns-clause-acts : goal.returns-clause-acts
-returns-clause-acts c = λ acts. ((kept c).answers acts).acts
-
-pub returns-clause-epoch : goal.returns-clause-epoch
-returns-clause-epoch c = λ acts. ((kept c).answers acts).epoch
-
-pub returns-clause-sealed : goal.returns-clause-sealed
-returns-clause-sealed c = λ acts. ((kept c).answers acts).sealed
-
 pub returns-clause-floor : goal.returns-clause-floor
 returns-clause-floor c = (kept c).floor
 

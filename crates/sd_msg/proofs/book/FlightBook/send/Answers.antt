@@ -1,13 +1,16 @@
 use Rattle.std.proofs.Common.{◌≡◌, ◌+◌, true, refl, sym, ◌∙◌, ap, subst}
 use Rattle.sd_msg.specs.declared.Flight.{Flight}
 use Rattle.sd_msg.specs.Books.{Book, Size, with_sent, is_within}
-use Rattle.sd_msg.specs.Spent.{is_left, size_of}
+use Rattle.sd_msg.specs.Spent.{is_left, size_of, AreKept}
 use Rattle.sd_msg.proofs.Books.{inside, pushed, seen_numbered, seen_pushed}
 use Rattle.sd_msg.proofs.book.FlightBook.send.Goals as goal
 
 -- the flight with its number
 abbrev numbered : goal.After-push_back_reserved → Flight
 numbered c = record c.args.flight { number = c.self.inside.last + 1 }
+
+kept : (c : goal.After-push_back_reserved) → AreKept c.self.inside.last c.reopen.new.spent c.reopen.new.flights.items
+kept c = c.reopen.ensures.kept c.self.inside.last c.self.invariant
 
 within : (c : goal.After-push_back_reserved) → is_within (size_of c.reopen.new.spent) (numbered c) ≡ true
 within c =
@@ -17,7 +20,7 @@ within c =
 pub invariant_of-self : goal.invariant_of-self
 invariant_of-self c =
     rw c.push_back_reserved.ensures.items
-    (pushed c.self.inside.last c.reopen.new.spent c.reopen.new.flights.items (numbered c) c.reopen.ensures.kept refl (within c))
+    (pushed c.self.inside.last c.reopen.new.spent c.reopen.new.flights.items (numbered c) (kept c) refl (within c))
 
 pub returns-clause-given : goal.returns-clause-given
 returns-clause-given c =
@@ -27,6 +30,6 @@ pub returns-clause-flights : goal.returns-clause-flights
 returns-clause-flights c =
     let b = c.self.inside in
     rw c.push_back_reserved.ensures.items
-    (seen_pushed b.last b.spent c.reopen.new.spent b.flights.items c.reopen.new.flights.items (numbered c) c.reopen.ensures.kept refl
+    (seen_pushed b.last b.spent c.reopen.new.spent b.flights.items c.reopen.new.flights.items (numbered c) (kept c) refl
     c.reopen.ensures.reference c.reopen.ensures.left
     ∙ ap (λ (k : Book). with_sent k.flights (numbered c)) c.self.view_is)

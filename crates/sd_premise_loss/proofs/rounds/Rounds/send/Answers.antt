@@ -1,5 +1,5 @@
 -- One flight more is sent.
-use Rattle.std.proofs.Common.{◌≡◌, ◌+◌, ◌<◌, max, cond, false, length, get_or, drop, Some, nat_eq, sym, ◌∙◌, ap, arith}
+use Rattle.std.proofs.Common.{◌+◌, ◌<◌, max, cond, false, length, get_or, drop, Some, nat_eq, sym, ◌∙◌, ap, arith}
 use Rattle.std.proofs.lemmas.List.{get_or_default}
 use Rattle.sd_msg.specs.declared.Flight.{Flight}
 use Rattle.sd_premise_loss.specs.declared.flights.WaitingFlight.{WaitingFlight}

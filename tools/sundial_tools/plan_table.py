@@ -1,0 +1,52 @@
+"""A plan as a table for the eye: whom each device follows, whom it turns to, and when."""
+
+from __future__ import annotations
+
+from typing import Iterator, List, Optional, Sequence, Tuple
+
+from sundial_tools.errors import ToolError
+from sundial_tools.plan import Hop, Plan, parse_plan
+from sundial_tools.report.fold import Tree
+from sundial_tools.topology import Topology
+from sundial_tools.why.said import time
+
+HEADS = ("device", "role", "parent", "link", "backup", "link", "depth")
+ROOT, BACKUP_ROOT, ORDINARY = "root", "backup root", "-"
+
+
+def plan_lines(text: str, topology: Topology) -> Optional[List[str]]:
+    """The lines of the table of a plan's text, or None where it is none of this topology."""
+    try:
+        plan = parse_plan(text, topology)
+    except ToolError:
+        return None
+    return [*_aligned([HEADS, *_rows(plan, topology)]), *_words(plan, topology)]
+
+
+def _rows(plan: Plan, topology: Topology) -> Iterator[Tuple[str, ...]]:
+    depths = Tree(topology, plan).depths
+    for device in sorted(depths, key=lambda it: (depths[it], it)):
+        row = plan.rows.get(device)
+        role = ROOT if device == plan.root else BACKUP_ROOT if device == plan.backup_root else ORDINARY
+        hops = (row.primary, row.backup) if row else (None, None)
+        cells = [cell for hop in hops for cell in _cells(hop, topology)]
+        yield (topology.devices[device].name, role, *cells, str(depths[device]))
+
+
+def _cells(hop: Optional[Hop], topology: Topology) -> Tuple[str, str]:
+    return (topology.devices[hop.parent].name, topology.links[hop.link].name) if hop else ("-", "-")
+
+
+def _words(plan: Plan, topology: Topology) -> Iterator[str]:
+    yield (
+        f"{topology.devices[plan.backup_root].name} moves to its backup when it has heard nothing for {time(plan.wait_first)}, "
+        f"and takes over after {time(plan.wait_second)} more. All others move to their backups after {time(plan.wait)}."
+    )
+    absent = [topology.devices[it].name for it in plan.absent_devices] + [topology.links[it].name for it in plan.absent_links]
+    if absent:
+        yield f"The plan leaves out {', '.join(absent)}."
+
+
+def _aligned(rows: Sequence[Sequence[str]]) -> List[str]:
+    widths = [max(map(len, column)) for column in zip(*rows)]
+    return ["  ".join(cell.ljust(width) for cell, width in zip(row, widths)).rstrip() for row in rows]
