@@ -1,5 +1,5 @@
 #!/usr/bin/env bash
-# What clock.h, its examples and libsundial.so are held to, on Linux.
+# What sundial_clock.h, its examples and libsundial.so are held to, on Linux.
 #
 #     bindings/c/clock_checks.sh LIBRARY [quick]
 #
@@ -34,7 +34,7 @@ for sanitizer in thread address,undefined; do
         "$work/test" page > "$work/said" && "$work/run" threads 1 > "$work/said" || exit 1
         echo "checks: $(cat "$work/said"), under the sanitizer $sanitizer"
     else
-        echo "checks: left out, as ${compiler[0]} has no sanitizer $sanitizer: clock.h under it"
+        echo "checks: left out, as ${compiler[0]} has no sanitizer $sanitizer: sundial_clock.h under it"
     fi
 done
 

@@ -4,7 +4,7 @@
  *
  * It takes a stamp, waits until that has passed, and prints both. GREATEST_NS is the greatest eps that it takes,
  * a millisecond where none is given. */
-#include "clock.h" /* <sundial_clock.h>, where it is installed */
+#include "sundial_clock.h"
 
 #include <inttypes.h>
 #include <stdlib.h>

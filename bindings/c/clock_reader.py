@@ -1,7 +1,7 @@
 #!/usr/bin/env python3
 """A whole reader of a clock page in Python, without the library: clock_reader.py FILE
 
-It prints one interval. The head of clock.h has the layout of the page. On x86-64 the processor keeps the order of
+It prints one interval. The head of sundial_clock.h has the layout of the page. On x86-64 the processor keeps the order of
 loads, as a reader needs. In other languages take loads that acquire.
 """
 

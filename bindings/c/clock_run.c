@@ -1,4 +1,4 @@
-/* Runs clock.h: many readers beside a writer with a root of its own, whose reference time is CLOCK_MONOTONIC_RAW,
+/* Runs sundial_clock.h: many readers beside a writer with a root of its own, whose reference time is CLOCK_MONOTONIC_RAW,
  * and whose counter is 50 ppm fast.
  *
  *     clock_run threads SECONDS     one process: a writer and 8 threads that read
@@ -12,7 +12,7 @@
  * Each interval has to contain the reference time, no stamp may come twice or fall, and a stamp that
  * was waited for has to have passed. Where the clock is another, nothing is read. */
 #define _GNU_SOURCE
-#include "clock.h"
+#include "sundial_clock.h"
 
 #include <inttypes.h>
 #include <pthread.h>

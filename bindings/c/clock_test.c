@@ -1,4 +1,4 @@
-/* Tries clock.h: each answer, each number, and a writer that stops within a publication.
+/* Tries sundial_clock.h: each answer, each number, and a writer that stops within a publication.
  *
  *     clock_test page   each answer, the numbers of a slot, and the files
  *     clock_test step   a writer that is stopped after each instruction of a publication. What it left is
@@ -7,7 +7,7 @@
  *
  * clock_run.c has many readers beside a writer. */
 #define _GNU_SOURCE
-#include "clock.h"
+#include "sundial_clock.h"
 
 #include <inttypes.h>
 #include <stdlib.h>

@@ -5,7 +5,7 @@
  * EPS_US says how far CLOCK_TAI may be from TAI. Reference time is TAI since 2026. It ends after SECONDS or at
  * SIGTERM, and withdraws its interval then. At SIGUSR1, which a sleep hook would send, it tells readers of the
  * disruption and starts its device anew. */
-#include "clock.h" /* <sundial_clock.h>, where it is installed */
+#include "sundial_clock.h"
 
 #include <signal.h>
 #include <stdlib.h>

@@ -24,7 +24,7 @@ install -m 644 "$library" "$lib/libsd_device_c.a"
 ./shared.sh "$library" "$lib/libsundial.so.1"
 ln -sf libsundial.so.1 "$lib/libsundial.so"
 install -m 644 ../../include/sundial_device.h "$to/include"
-install -m 644 clock.h "$to/include/sundial_clock.h"
+install -m 644 sundial_clock.h "$to/include"
 install -m 644 recorder.c recorder.h "$to/share/sundial"
 
 describe() { # name library what

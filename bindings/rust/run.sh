@@ -29,7 +29,7 @@ fi
 export RUSTFLAGS='-D warnings' RUSTDOCFLAGS='-D warnings'
 export SUNDIAL_DEVICE_LIB=${library%/*} SUNDIAL_EXAMPLE=$work
 where=(--offline --all-features --manifest-path "$work/Cargo.toml" --target-dir "$work/target")
-# A writer in C, whose clock the tests read, where clock.h can be.
+# A writer in C, whose clock the tests read, where sundial_clock.h can be.
 if [ "$(uname -s)" = Linux ]; then
     "${CC:-cc}" -std=c11 -O2 -pthread -I ../../include -I ../c -o "$work/clock" ../c/clock_run.c "$library" || exit 1
     "$work/clock" write "$work/page" 600 &

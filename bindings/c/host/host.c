@@ -36,7 +36,7 @@
 #include <time.h>
 #include <unistd.h>
 
-#include "clock.h"
+#include "sundial_clock.h"
 #include "recorder.h"
 
 enum { MOST_NAMES = 512, MOST_LINKS = 64, MOST_PLANS = 8, MOST_CHILDREN = 64, MOST_HELD = 256, NAME_BYTES = 65 };

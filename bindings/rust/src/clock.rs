@@ -1,4 +1,4 @@
-//! A clock for the processes of one machine: `bindings/c/clock.h` in Rust, over the same page. One
+//! A clock for the processes of one machine: `bindings/c/sundial_clock.h` in Rust, over the same page. One
 //! process drives the device and publishes it ([`Writer`]). Any number of processes read the time
 //! ([`Reader`]), in any language, without a call of the system and without a lock.
 //!
@@ -40,7 +40,7 @@ const NEARLY: u64 = 60_000;
 const WITHDRAWN: u64 = 107;
 const DISRUPTED: u64 = 108;
 
-/// The page, whose head `clock.h` describes.
+/// The page, whose head `sundial_clock.h` describes.
 #[repr(C)]
 struct Page {
     magic: AtomicU64,
