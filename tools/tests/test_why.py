@@ -210,7 +210,7 @@ class Why(unittest.TestCase):
     )
 
     def opening(self, part, line, opening, count=16, more=""):
-        """The opening of docs/LONG-RUNS.md, or a changed one, for the front of the schedule of the triangle."""
+        """The opening of docs/WATCH.md, or a changed one, for the front of the schedule of the triangle."""
         lines = (TRIANGLE / "schedule.txt").read_text().splitlines()[:16]
         texts = ["".join(f"{it}\n" for it in text) for text in (lines[:count], [*opening, *lines[13:16]])]
         words = [TRIANGLE / "topology.toml", TRIANGLE / "plan.json", "before", "/", TRIANGLE / "plan.json", "opening"]

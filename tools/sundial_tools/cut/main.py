@@ -302,7 +302,7 @@ def _parser() -> argparse.ArgumentParser:
         prog="sundial-cut",
         description="Cuts a long schedule into parts that sundial replay takes one by one, at places where the later lines "
         "stay the same. Without --output and --run it says how many right cuts there are.",
-        epilog="docs/LONG-RUNS.md says where a cut is right and what is lost over it.",
+        epilog="docs/WATCH.md says where a cut is right and what is lost over it.",
     )
     parser.add_argument("topology", metavar="TOPOLOGY")
     parser.add_argument("plan", metavar="PLAN", nargs="+", help="the plans, in the order of the command replay")

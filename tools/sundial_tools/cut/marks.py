@@ -1,4 +1,4 @@
-"""What an opening has to bring back of the events before it: docs/LONG-RUNS.md."""
+"""What an opening has to bring back of the events before it: docs/WATCH.md."""
 
 from __future__ import annotations
 

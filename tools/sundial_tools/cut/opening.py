@@ -1,4 +1,4 @@
-"""Where a cut is right, and the opening of the part behind it: docs/LONG-RUNS.md."""
+"""Where a cut is right, and the opening of the part behind it: docs/WATCH.md."""
 
 from __future__ import annotations
 

@@ -59,7 +59,7 @@ def _parser() -> argparse.ArgumentParser:
     parser = argparse.ArgumentParser(
         prog="sundial-report",
         description="Makes one HTML page of a topology with its plans, a drill, a replay and readiness. It opens with a verdict.",
-        epilog="The page needs no network and no other file. See docs/REPORT.md.",
+        epilog="The page needs no network and no other file. See docs/REPLAY.md.",
     )
     parser.add_argument("topology", metavar="TOPOLOGY")
     parser.add_argument("plans", metavar="PLAN", nargs="+", help="the plans, in the order of the command")

@@ -1,4 +1,4 @@
-"""What `sundialctl resume` says of a schedule and an opening: docs/LONG-RUNS.md, Certify an opening."""
+"""What `sundialctl resume` says of a schedule and an opening: docs/WATCH.md, Certify an opening."""
 
 from __future__ import annotations
 
