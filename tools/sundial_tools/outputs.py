@@ -12,7 +12,7 @@ from sundial_tools.topology import NAME
 TEXT = re.compile(r"[ -~]+")
 PREMISES = ("start", "drift", "delay", "tick", "loss", "domain", "renew")
 VERDICTS = ("inside", "outside")
-# In what a schedule and an opening differ (docs/WATCH.md#long-recordings-in-parts), each with the kind of thing whose number stands behind it.
+# In what a schedule and an opening differ (man/sundialctl.1), each with the kind of thing whose number stands behind it.
 FACTS: Dict[str, str] = {
     "network": "", "window": "", "time": "", "plan": "", "end": "", "messages": "", "opening-sends": "", "message": "message",
     "up": "device", "device": "device", "link": "link", "counter": "device", "duty": "device", "given": "device",
