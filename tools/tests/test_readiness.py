@@ -151,7 +151,7 @@ class Program(unittest.TestCase):
     @unittest.skipUnless(SEARCH.is_file(), "the program sundialctl is not built (SUNDIALCTL names it)")
     def test_a_link_to_the_backup_root_is_planned_again_by_a_search(self):
         with mock.patch.dict(os.environ, {"SUNDIALCTL": str(SEARCH)}):
-            out = self.readiness(FABRIC, PLAN, "--search", "0")[1]
+            out = self.readiness(FABRIC, PLAN, "--search", "200")[1]
         self.assertEqual(out.splitlines()[-1], "38 of 46 losses can be planned again, and 8 more by a search; eps for BASE 1 us and HOLD 2.405 ms")
 
 

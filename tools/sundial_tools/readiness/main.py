@@ -101,7 +101,8 @@ def _parser() -> argparse.ArgumentParser:
         "--hold", metavar="TIME", help="HOLD of the drill (default: both waits of the backup root, and three ticks)"
     )
     parser.add_argument(
-        "--search", type=_steps, metavar="STEPS", help="where renew finds no plan, ask sundialctl renew, with at most so many moves"
+        "--search", type=_steps, metavar="STEPS",
+        help="where renew finds no plan, ask sundialctl renew, which tries at most this many drafts after the plan of renew",
     )
     parser.add_argument("--refused", action="store_true", help="only losses after which renew finds no plan")
     parser.add_argument("--json", action="store_true", help="JSON lines, one a loss, with all names; times in picoseconds")
@@ -111,5 +112,5 @@ def _parser() -> argparse.ArgumentParser:
 
 def _steps(word: str) -> int:
     if not (word.isascii() and word.isdigit()) or int(word) > MOST_STEPS:
-        raise argparse.ArgumentTypeError(f"{word!r} is no number of moves")
+        raise argparse.ArgumentTypeError(f"{word!r} is no number of steps")
     return int(word)
