@@ -79,6 +79,38 @@ class Promise(unittest.TestCase):
             self.assertEqual(status, 1)
             self.assertIn("a `use` that leads on in a way that this does not follow", said)
 
+    def test_a_name_that_the_tables_leave_out(self):
+        for name in ("IsWanted", "AlwaysSafe"):
+            with self.subTest(name=name), directory() as folder:
+                tree(folder, [self.CHECK, "docs/PROMISE.md"])
+                page = (folder / "docs/PROMISE.md").read_text(encoding="utf-8")
+                before, made, after = page.partition("<!-- made by .ci/promise -->")
+                (folder / "docs/PROMISE.md").write_text(before + made + after.replace(f"`{name}` ", "", 1), encoding="utf-8")
+                status, said = refusal([folder / self.CHECK])
+                self.assertEqual(status, 1)
+                self.assertIn("docs/PROMISE.md has other numbers or tables", said)
+
+    def test_a_lemma_that_is_not_there(self):
+        with directory() as folder:
+            tree(folder, [self.CHECK, "docs/PROVED.md"])
+            replace(folder / "docs/PROVED.md", "`lineage_orders`", "`lineage_reorders`")
+            status, said = refusal([folder / self.CHECK])
+            self.assertEqual(status, 1)
+            self.assertIn("docs/PROVED.md names lineage_reorders", said)
+
+
+class Facts(unittest.TestCase):
+    """`.ci/facts` over pages that name what is not there."""
+
+    def test_a_name_that_is_not_there(self):
+        for page, old, new in (("PROMISE", "`IsSafe`", "`IsSafer`"), ("ASSURANCE", "`sd_test_rows`", "`sd_test_columns`"), ("SAFETY", "`IsAdmitted`", "`IsAdmited it`")):
+            with self.subTest(page=page), directory() as folder:
+                tree(folder, [".ci/facts", f"docs/{page}.md"])
+                replace(folder / f"docs/{page}.md", old, new)
+                status, said = refusal([folder / ".ci/facts"])
+                self.assertEqual(status, 1)
+                self.assertIn(f"docs/{page}.md names {new.strip('`').split()[0]}", said)
+
 
 class Declarations(unittest.TestCase):
     """`bindings/declarations` over a struct whose fields may have another order."""
