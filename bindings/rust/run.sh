@@ -4,6 +4,8 @@
 #
 #     bindings/rust/run.sh LIBRARY [SEED]
 #
+# The store of examples/kv.rs has to keep the law of commit wait, and to break it where it does not wait.
+#
 # LIBRARY is libsd_device_c.a. It needs cargo, a C compiler (`cc` or what CC names) and no network.
 set -u
 library=$(realpath "$1") || exit 2
@@ -12,7 +14,7 @@ cd "$(dirname "$0")" || exit 2
 work=$(mktemp -d) || exit 2
 trap 'rm -rf "$work"' EXIT
 
-cp -r Cargo.toml build.rs src tests "$work" || exit 1
+cp -r Cargo.toml build.rs examples src tests "$work" || exit 1
 "${CC:-cc}" -std=c11 -O2 -I ../../include -o "$work/embed" ../c/embed.c ../c/recorder.c "$library" \
     || exit 1
 "$work/embed" "$seed" "$work/schedule" > "$work/told" || exit 1
@@ -44,3 +46,13 @@ else
     cat "$work/tested" >&2
     exit 1
 fi
+# (tests build the examples too)
+law() { timeout 60 "$work/target/debug/examples/kv" "$@" > "$work/history" && ../../integrations/postgres/trial/checker.py "$work/history"; }
+if [ "$(uname -s)" = Linux ] && command -v python3 > /dev/null; then
+    law || exit 1
+    for _ in 1 2 3 4 5; do
+        law unwaited
+        [ $? -eq 1 ] || { echo "rust: the checker did not find that kv did not wait" >&2; exit 1; }
+    done
+fi
+exit 0
