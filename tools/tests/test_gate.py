@@ -111,6 +111,14 @@ class Facts(unittest.TestCase):
                 self.assertEqual(status, 1)
                 self.assertIn(f"docs/{page}.md names {new.strip('`').split()[0]}", said)
 
+    def test_a_crate_of_the_kit_that_is_not_listed(self):
+        with directory() as folder:
+            tree(folder, [".ci/facts", "docs/ASSURANCE.md"])
+            replace(folder / "docs/ASSURANCE.md", "`memchr` ", "")
+            status, said = refusal([folder / ".ci/facts"])
+            self.assertEqual(status, 1)
+            self.assertIn("docs/ASSURANCE.md does not list memchr", said)
+
 
 class Declarations(unittest.TestCase):
     """`bindings/declarations` over a struct whose fields may have another order."""
