@@ -24,7 +24,7 @@
 #include "utils/xid8.h"
 
 #define SUNDIAL_NO_LIBRARY
-#include "clock.h"
+#include "sundial_clock.h"
 
 PG_MODULE_MAGIC;
 PG_FUNCTION_INFO_V1(clock_now);
