@@ -3,6 +3,7 @@
 The program is a stand-in by the model of the tools, and the one that SUNDIALCTL names or that is built.
 """
 
+import contextlib
 import json
 import os
 import subprocess
@@ -10,14 +11,14 @@ import sys
 import threading
 import unittest
 
-from support import DATA, EXAMPLES, LIMIT, SEARCH, TOOLS, directory, run
+from support import DATA, EXAMPLES, LIMIT, PROGRAM, SEARCH, TOOLS, directory, run
 
 import case
 import logs_of
-from histories import PLANS, TRIANGLE, History
 from test_follow import Fed
 from test_record import PLANS as CASE_PLANS
 from test_record import RENEWAL, made_case, record
+from worlds import KINDS, NoPlan, World, planned_by
 
 from sundial_tools.plan import read_plan
 from sundial_tools.record.main import main
@@ -32,6 +33,14 @@ MOST = 2**60
 def programs():
     """The stand-in, and the program where it is there. One that does not know the words fails the tests."""
     return [STAND_IN, SEARCH.resolve()] if SEARCH.is_file() else [STAND_IN]
+
+
+def world(number, path, **more):
+    """A history, and the programs that record it: `sundialctl` takes plans that the checker accepts."""
+    if PROGRAM.is_file() and SEARCH.is_file():
+        with contextlib.suppress(NoPlan):
+            return World(number, planner=planned_by(PROGRAM.resolve(), path), **more), programs()
+    return World(number, **more), [STAND_IN]
 
 
 def by_program(program, *words, text):
@@ -63,14 +72,14 @@ class Written(unittest.TestCase):
 class Recorded(Written):
     """Logs in the compact form, and the schedule that is made of them."""
 
-    def same(self, topology, plans, logs, *more):
+    def same(self, topology, plans, logs, *more, of=None):
         """Both ways give one schedule, which is answered."""
         status, schedule, err = record(topology, plans, logs, *more)
         self.assertEqual(status, 0, err)
         status, compact, err = record(topology, plans, logs, "--compact", *more)
         self.assertEqual(status, 0, err)
         self.assertIn(f"{len(compact.splitlines())} lines for a schedule of {len(schedule.splitlines())} events, ", err)
-        for program in programs():
+        for program in of or programs():
             self.assertEqual(by_program(program, "record", topology, *plans, text=compact), (0, schedule), program)
         return schedule, compact
 
@@ -83,14 +92,14 @@ class Recorded(Written):
 
     def test_random_histories(self):
         losses = 0
-        for number in range(12):
-            made = History(number, rounds=40)
-            text = "".join(made.lines)
+        for number in range(2 * len(KINDS)):
             with self.subTest(number), directory() as path:
-                schedule, compact = self.same(TRIANGLE, PLANS, self.written(TRIANGLE, PLANS, text, path))
+                made, of = world(number, path, rounds=14, bad=number >= len(KINDS))
+                network, text = made.files(path), "".join(made.lines)
+                schedule, compact = self.same(*network, self.written(*network, text, path), of=of)
                 self.assertEqual(len(compact.splitlines()), len(text.splitlines()))
-                files = self.written(TRIANGLE, PLANS, text, path, lambda said: said["event"] != "lose")
-                schedule, compact = self.same(TRIANGLE, PLANS, files)
+                files = self.written(*network, text, path, lambda said: said["event"] != "lose")
+                schedule, compact = self.same(*network, files, of=of)
                 losses += len(schedule.splitlines()) - len(compact.splitlines())
         self.assertGreater(losses, 10)
 
@@ -128,8 +137,8 @@ class Recorded(Written):
             (("--compact", "--no-losses"), "--no-losses is for schedules"), (("--feed", "--no-losses"), "--no-losses is for schedules"),
             (("--compact", "--feed"), "name one"), (("--horizon", "1s"), "--horizon needs --feed"),
         ):
-            self.assertIn(reason, record(TRIANGLE, PLANS, ["log"], *more)[2])
-        self.assertIn("say --plan", run("sundial-record", main, [TRIANGLE, "log"])[2])
+            self.assertIn(reason, record(LOGS / "topology.toml", [LOGS / "plan.json"], ["log"], *more)[2])
+        self.assertIn("say --plan", run("sundial-record", main, [LOGS / "topology.toml", "log"])[2])
 
 
 class Merged(Written):
@@ -160,24 +169,26 @@ class Merged(Written):
             self.assertEqual(by_program(program, *words, text=compact), (0, (LOGS / "schedule.txt").read_text()))
 
     def test_random_histories(self):
-        for number in range(12):
-            text = "".join(History(number, rounds=40).lines)
+        for number in range(2 * len(KINDS)):
+            made = World(number, rounds=14, bad=number >= len(KINDS))
             with self.subTest(number), directory() as path:
-                files = self.written(TRIANGLE, PLANS, text, path, lambda said: said["event"] != "end")
-                for feed, compact in (self.merged(TRIANGLE, files), self.merged(TRIANGLE, files[::-1])):
+                topology, plans = made.files(path)
+                files = self.written(topology, plans, "".join(made.lines), path, lambda said: said["event"] != "end")
+                for feed, compact in (self.merged(topology, files), self.merged(topology, files[::-1])):
                     self.assertEqual(feed.splitlines()[-1].split(" ")[:2], [str(len(files)), "end"])
-                    self.assertEqual(sorted(compact.splitlines()[:-1]), sorted(record(TRIANGLE, PLANS, files, "--compact")[1].splitlines()[:-1]))
+                    self.assertEqual(sorted(compact.splitlines()[:-1]), sorted(record(topology, plans, files, "--compact")[1].splitlines()[:-1]))
 
     def test_histories_without_equal_references(self):
         """There the order of the merge is the only one, so the schedule is that of the tool."""
-        for number in range(6):
-            made = History(number, rounds=40)
+        for number in range(len(KINDS)):
             with self.subTest(number), directory() as path:
-                files = self.written(TRIANGLE, PLANS, "".join(self.apart(made)), path)
-                compact = self.merged(TRIANGLE, files)[1]
-                schedule = record(TRIANGLE, PLANS, files)[1]
-                for program in programs():
-                    self.assertEqual(by_program(program, "record", TRIANGLE, *PLANS, text=compact), (0, schedule))
+                made, of = world(number, path, rounds=14)
+                topology, plans = made.files(path)
+                files = self.written(topology, plans, "".join(self.apart(made)), path)
+                compact = self.merged(topology, files)[1]
+                schedule = record(topology, plans, files)[1]
+                for program in of:
+                    self.assertEqual(by_program(program, "record", topology, *plans, text=compact), (0, schedule))
 
     def apart(self, made):
         """The lines of a history with each reference after the one before, where it was the same."""

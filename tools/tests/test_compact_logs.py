@@ -6,14 +6,14 @@ import random
 import unittest
 from unittest import mock
 
-from support import EXAMPLES, TOOLS, directory, run
+from support import DATA, EXAMPLES, TOOLS, directory, run
 
 import logs_of
-from histories import PLANS, TRIANGLE, History
 from test_compact import by_program, programs
 from test_follow import Fed
 from test_record import record
 from test_watch import PROGRAM, Fabric, Played
+from worlds import KINDS, World
 
 from sundial_tools.errors import ToolError
 from sundial_tools.record.logs import Log
@@ -23,7 +23,7 @@ from sundial_tools.watch import watcher
 from sundial_tools.watch.main import main as watch
 
 LOGS = EXAMPLES / "logs"
-TOPOLOGY = read_topology(str(TRIANGLE))
+TOPOLOGY = read_topology(str(DATA / "triangle.toml"))
 MOST = 2**60
 LINES = (
     "start 5 0 7 9 500", "tick 5 1 7", "recv 5 1 7 0 1 0 1", "lose 5 1 0 1 0 1", "fail 5 device 2", "fail 5 link 2", "fix 5 0 7 9 500",
@@ -32,10 +32,10 @@ LINES = (
 )
 
 
-def read(text):
+def read(text, topology=TOPOLOGY):
     """The event of one line, or why it is refused."""
     try:
-        return Log("log", TOPOLOGY)._event(text, 1)
+        return Log("log", topology)._event(text, 1)
     except ToolError as fault:
         return fault.reason
 
@@ -62,12 +62,14 @@ class Lines(unittest.TestCase):
             self.assertEqual((event.word, event.ref), (text.split(" ")[0], int(text.split(" ")[1])))
 
     def test_a_line_says_what_its_json_says(self):
-        for number in range(4):
-            made = History(number, rounds=20)
-            for _, said in logs_of.lines_of(TOPOLOGY, made.plans, enumerate(made.events, 1)):
-                text = logs_of.compact(TOPOLOGY, said)
-                self.assertEqual(read(text), read(json.dumps(said)), text)
-                self.assertEqual(read(text), read(" \t" + json.dumps(said) + "\r\n"), text)
+        for number in range(len(KINDS)):
+            made = World(number, rounds=12)
+            for _, said in logs_of.lines_of(made.topology, made.plans, enumerate(made.events, 1)):
+                text = logs_of.compact(made.topology, said)
+                event = read(text, made.topology)
+                self.assertNotIsInstance(event, str, text)
+                self.assertEqual(event, read(json.dumps(said), made.topology), text)
+                self.assertEqual(event, read(" \t" + json.dumps(said) + "\r\n", made.topology), text)
 
     def test_the_proved_reader_refuses_the_same_lines(self):
         """`merge` knows no topology, so it reads each line of the form."""
@@ -159,11 +161,13 @@ class Same(unittest.TestCase):
 
     def test_the_watch_passes_over_what_is_no_line(self):
         self.enterContext(mock.patch.object(watcher, "Replaying", Played))
-        fabric = Fabric(self.path, History(2, rounds=12))
-        lines = [(whose, logs_of.compact(TOPOLOGY, json.loads(text))) for whose, text in fabric.lines]
+        fabric = Fabric(self.path, World(2, rounds=8))
+        leaf = fabric.made.topology.device_numbers[fabric.leaf]
+        lines = [(whose, logs_of.compact(fabric.made.topology, json.loads(text))) for whose, text in fabric.lines]
         middle = len(lines) // 2
         fabric.write(lines[:middle])
-        fabric.write([("x", "tick 1 2 1\n"), ("x", "tick 5\n"), ("x", "tick 5 7 1\n"), ("x", "recv 1 2 3tick 4 2 3\n")])
+        for text in f"tick 1 {leaf} 1\n", "tick 5\n", "tick 5 7 1\n", f"recv 1 {leaf} 3tick 4 {leaf} 3\n":
+            fabric.write([(fabric.leaf, text)])
         fabric.write(lines[middle:])
         fabric.once()
         passed = [row["reason"].split(":")[0] for row in fabric.rows() if row["kind"] == "passed over"]
@@ -180,22 +184,23 @@ class Same(unittest.TestCase):
         self.assertEqual((status, "the reference is -999999999995 ps of the origin" in err), (1, True))
 
     def test_random_histories_in_both_forms_and_mixed(self):
-        for number in range(8):
+        for number in range(2 * len(KINDS)):
             draw = random.Random(number)
-            made = History(number, rounds=40)
-            logs = logs_of.logs_of(TOPOLOGY, made.plans, enumerate(made.events, 1))
+            made = World(number, rounds=14, bad=number >= len(KINDS), mute=0)
+            topology, plans = made.files(self.path)
+            logs = logs_of.logs_of(made.topology, made.plans, enumerate(made.events, 1))
             said = []
             for share in 0, 1, 0.5:
                 files = []
                 for name, lines in logs.items():
                     files.append(self.path / f"{name}.log")
                     files[-1].write_text("".join(
-                        logs_of.compact(TOPOLOGY, line) if draw.random() < share else json.dumps(line) + "\n" for line in lines
+                        logs_of.compact(made.topology, line) if draw.random() < share else json.dumps(line) + "\n" for line in lines
                     ))
-                status, schedule, err = record(TRIANGLE, PLANS, files)
+                status, schedule, err = record(topology, plans, files)
                 self.assertEqual((status, len(schedule.splitlines())), (0, len(made.lines)), err)
-                merged = sorted(self.feed(TRIANGLE, files).splitlines())
-                said.append((schedule, record(TRIANGLE, PLANS, files, "--compact")[1], [line for line in merged if " past " not in line]))
+                merged = sorted(self.feed(topology, files).splitlines())
+                said.append((schedule, record(topology, plans, files, "--compact")[1], [line for line in merged if " past " not in line]))
             self.assertEqual(said[0], said[1])
             self.assertEqual(said[0], said[2])
 

@@ -4,23 +4,19 @@ import os
 import unittest
 from unittest import mock
 
-from support import PROGRAM, SEARCH, TOOLS, directory, needs_sundial, run, sundial
+from support import DATA, PROGRAM, SEARCH, TOOLS, directory, needs_sundial, run, sundial
 
-import histories
-from histories import PLANS, TRIANGLE, History
 from test_follow import Fed
-from worlds import PERIOD, World
+from worlds import KINDS, PERIOD, World, planned_by
 
 from sundial_tools.cut import cutter
 from sundial_tools.cut.joined import joined
 from sundial_tools.cut.main import Cutting, Wish, main
 from sundial_tools.cut.parts import plans_of
 from sundial_tools.plain.lines import Replay
-from sundial_tools.topology import parse_topology
 
-
-# Receipts lie further apart than ticks may.
-SPREAD = TRIANGLE.read_text().replace("tick = 90000000", "tick = 2000000").replace("max = 1000000", "max = 9000000")
+# (that are looked for, and not read)
+FILES = [DATA / "triangle.toml", DATA / "triangle-1.json", DATA / "triangle-2.json"]
 
 
 def plain(topology, plans, lines):
@@ -41,11 +37,11 @@ class Cut(unittest.TestCase):
 
     def test_the_lines_of_the_parts_are_those_of_the_whole(self):
         cuts, ways, words = 0, set(), set()
-        for number in range(6):
-            made = History(number, rounds=50, bad=40 if number % 3 == 0 else None)
+        for number in range(len(KINDS)):
+            made = World(number, rounds=16, late=12 * PERIOD if number % 3 == 0 else None)
             whole = plain(made.topology, made.plans, made.lines)
             self.assertTrue(whole[-1].startswith("done "), whole[-1])
-            for wish in (Wish(every=1), Wish(at=(histories.STEP * 20, histories.STEP * 41)), Wish(every=90, moves=True)):
+            for wish in (Wish(every=1), Wish(at=(PERIOD * 6, PERIOD * 13)), Wish(every=90, moves=True)):
                 with self.subTest(number, wish=wish):
                     parts = self.parts(made, wish)
                     self.assertEqual(joined(parts)[1], whole)
@@ -54,7 +50,8 @@ class Cut(unittest.TestCase):
                     ways |= {row.way for row, _ in parts}
             words |= {line.split()[0] for line in whole}
         self.assertGreater(cuts, 60)
-        self.assertEqual((ways, words), ({"whole", "marks"}, {"report", "broken", "done"}))
+        self.assertEqual(ways, {"whole", "marks", "rounds"})
+        self.assertLessEqual({"report", "broken", "done"}, words)
 
     def test_far_from_a_cut_lines_are_skimmed_and_the_parts_are_the_same(self):
         near = mock.patch.object(Cutting, "_skim", lambda self, number, text: False)
@@ -66,10 +63,10 @@ class Cut(unittest.TestCase):
             skimmed[0] += done
             return done
 
-        for number, bad in (1, None), (3, 85):
-            made = History(number, rounds=90, bad=bad)
+        for number, late in (1, None), (3, 28 * PERIOD):
+            made = World(number, rounds=30, late=late)
             whole = plain(made.topology, made.plans, made.lines)
-            for wish in Wish(every=250), Wish(at=(histories.STEP * 40, histories.STEP * 70)):
+            for wish in Wish(every=250), Wish(at=(PERIOD * 14, PERIOD * 24)):
                 with mock.patch.object(cutter, "ROUNDS_BEFORE", 4), mock.patch.object(Cutting, "_skim", counted):
                     parts = self.parts(made, wish)
                 self.assertEqual(joined(parts)[1], whole)
@@ -81,19 +78,9 @@ class Cut(unittest.TestCase):
         self.assertGreater(cuts, 3)
         self.assertGreater(skimmed[0], 300)
 
-    def test_a_round_is_told_again_where_receipts_spread(self):
-        ways = set()
-        for number in 4, 6:
-            made = History(number, rounds=30, topology=parse_topology(SPREAD))
-            whole = plain(made.topology, made.plans, made.lines)
-            parts = self.parts(made, Wish(every=1))
-            self.assertEqual(joined(parts)[1], whole)
-            ways |= {row.way for row, _ in parts}
-        self.assertIn("rounds", ways)
-
     def test_late_times_are_moved(self):
-        made = History(4)
-        late = 2**60 - 100 * histories.STEP
+        made = World(4, rounds=16)
+        late = 2**60 - 100 * PERIOD
         made.events = [
             it._replace(ref=it.ref + late, clock=None if it.clock is None else it.clock + late, counter=None if it.counter is None else it.counter + late)
             for it in made.events
@@ -104,7 +91,7 @@ class Cut(unittest.TestCase):
         self.assertEqual(joined(parts)[1], whole)
 
     def test_status(self):
-        row = self.parts(History(1), Wish())[0][0]
+        row = self.parts(World(1, rounds=4), Wish())[0][0]
         for told, status in ((["report 1 r 1 1", "done 9 1"], 0), (["broken 2 tick", "done 9 0"], 7), (["input schedule 3 TimeFalls"], 3)):
             self.assertEqual(joined([(row, told)])[0], status)
         later = row._replace(first_line=101, opening=4)
@@ -151,6 +138,20 @@ class Networks(unittest.TestCase):
                     cuts += any(fail < row.first_line < fail + 3 * len(made.topology.devices) for row in rows[1:])
         self.assertGreater(cuts, 3)
 
+    def test_failures_at_each_boundary_of_a_renewal(self):
+        """Just before, with and just after its stage, its first gift, its commit and its first seal."""
+        cuts = 0
+        for number, thing in (7, ("device", -1)), (9, ("link", -1)):
+            stages = [3 * PERIOD]
+            first = {it.word: it.ref for it in reversed(World(number, rounds=8, fails=[], stages=stages).events)}
+            for word in "stage", "give", "commit", "seal":
+                for late in -1, 0, 1:
+                    with self.subTest(number, word=word, late=late):
+                        made = World(number, rounds=8, fails=[(first[word] + late, *thing)], stages=stages)
+                        self.assertEqual([it.ref for it in made.events if it.word == "fail"], [first[word] + late])
+                        cuts += len(self.judge(made, Wish(every=1))) - 1
+        self.assertGreater(cuts, 48)
+
     def test_a_run_of_lost_rounds_is_not_cut(self):
         """A device hears nothing over its backup link for one round more than *loss* allows: there is no cut between these."""
         for number in 3, 6:
@@ -164,7 +165,7 @@ class Networks(unittest.TestCase):
 
     def test_drift_over_a_cut(self):
         """An ask that keeps its rate with all readings but one, which is old: it was the slowest so far."""
-        for number, device in (16, 4), (35, 3):
+        for number, device in (14, 2), (26, 1):
             made = World(number, rounds=12, fails=[])
             rates = made.topology.devices[device]
             readings = [(at, it) for at, it in enumerate(made.events) if it.device == device and it.counter is not None]
@@ -181,23 +182,25 @@ class Networks(unittest.TestCase):
 
 class Words(unittest.TestCase):
     def test_where_no_cut_is_right_it_says_why(self):
-        made = History(2)
+        made = World(7, rounds=16)
         stops = next(place for place, it in enumerate(made.events) if it.word == "stage")
         with directory() as path:
+            topology, plans = made.files(path)
             (path / "schedule").write_text("".join(made.lines[stops - 8:stops]))
-            status, _, err = run("sundial-cut", main, [TRIANGLE, *PLANS, path / "schedule"])
+            status, _, err = run("sundial-cut", main, [topology, *plans, path / "schedule"])
             self.assertEqual(status, 1)
             self.assertIn("schedule:1: no replay of these plans accepts this line", err)
             (path / "schedule").write_text("".join(made.lines))
-            status, out, err = run("sundial-cut", main, [TRIANGLE, *PLANS, path / "schedule"])
+            status, out, err = run("sundial-cut", main, [topology, *plans, path / "schedule"])
             self.assertEqual((status, out), (0, ""))
             self.assertRegex(err, r"^sundial-cut: \d+ right cuts; what a cut keeps is tested, not proved\n")
             self.assertIn("emissions: a window is open\n", err)
 
     def test_parts_and_their_table(self):
-        made = History(2)
+        made = World(2, rounds=16)
         with directory() as path:
-            with Fed(TOOLS / "sundial-cut", TRIANGLE, *PLANS, "-", "--every", "100", "-o", path / "parts") as tool:
+            topology, plans = made.files(path)
+            with Fed(TOOLS / "sundial-cut", topology, *plans, "-", "--every", "100", "-o", path / "parts") as tool:
                 for line in made.lines:
                     tool.feed(line)
                 self.assertEqual(tool.end(), (0, ""))
@@ -209,18 +212,21 @@ class Words(unittest.TestCase):
 
     @needs_sundial
     def test_run_prints_the_lines_of_the_whole(self):
-        made = History(3, rounds=300, bad=280)
         with directory() as path, mock.patch.dict(os.environ, {"SUNDIAL": str(PROGRAM.resolve())}):
+            made = World(3, rounds=60, late=55 * PERIOD, planner=planned_by(PROGRAM, path))
+            topology, plans = made.files(path)
             (path / "schedule").write_text("".join(made.lines))
-            whole = sundial("replay", TRIANGLE, *PLANS, path / "schedule")
-            status, out, err = run("sundial-cut", main, [TRIANGLE, *PLANS, path / "schedule", "--every", "50", "--run"])
+            whole = sundial("replay", topology, *plans, path / "schedule")
+            status, out, err = run("sundial-cut", main, [topology, *plans, path / "schedule", "--every", "50", "--run"])
             self.assertEqual((status, out), whole)
             self.assertNotIn("left out", err)
 
     def test_run_tells_the_lines_of_a_part_before_the_next_ones_are_fed(self):
-        made = History(3, rounds=60)
+        made = World(3, rounds=8)
         whole = plain(made.topology, made.plans, made.lines)
-        words = [TRIANGLE, *PLANS, "-", "--every", "50", "--run", "--follow"]
+        path = self.enterContext(directory())
+        topology, plans = made.files(path)
+        words = [topology, *plans, "-", "--every", "50", "--run", "--follow"]
         with mock.patch.dict(os.environ, {"SUNDIAL": str(TOOLS / "tests" / "plain_sundial.py")}), Fed(TOOLS / "sundial-cut", *words) as tool:
             for line in made.lines[:-30]:
                 tool.feed(line)
@@ -230,30 +236,32 @@ class Words(unittest.TestCase):
             status, rest = tool.end()
         self.assertEqual((status, [first, *rest.splitlines()]), (0, whole))
 
+    @needs_sundial
     @unittest.skipUnless(SEARCH.is_file(), "the program sundialctl is not built (SUNDIALCTL names it)")
     def test_cuts_are_certified(self):
-        with directory() as path, mock.patch.dict(os.environ, {"SUNDIALCTL": str(SEARCH.resolve())}):
-            for number in range(4):
-                (path / "schedule").write_text("".join(History(number, rounds=60).lines))
-                words = [TRIANGLE, *PLANS, path / "schedule", "--every", "40", "--certify"]
-                status, out, err = run("sundial-cut", main, words)
-                self.assertEqual((status, out), (0, ""))
-                self.assertRegex(err, r"sundial-cut: (\d) of \1 cuts are certified\n")
-            made = History(4, rounds=30, topology=parse_topology(SPREAD))
-            (path / "topology").write_text(SPREAD)
-            (path / "schedule").write_text("".join(made.lines))
-            err = run("sundial-cut", main, [path / "topology", *PLANS, path / "schedule", "--every", "1", "--certify"])[2]
-            self.assertRegex(err, r"sundial-cut: the cut before line \d+ is not: differ opening-sends\n")
+        """All of a fabric that keeps its premises, but with a copy of a plan. Where one broke before the cut, an opening is another history."""
+        for number, bad in (2, False), (6, False), (9, False), (7, True), (3, False):
+            with directory() as path, mock.patch.dict(os.environ, {"SUNDIALCTL": str(SEARCH.resolve())}):
+                made = World(number, rounds=14, bad=bad, planner=planned_by(PROGRAM, path))
+                topology, plans = made.files(path)
+                (path / "schedule").write_text("".join(made.lines))
+                status, out, err = run("sundial-cut", main, [topology, *plans, path / "schedule", "--every", "1" if bad else "40", "--certify"])
+            self.assertEqual((status, out), (0, ""), err)
+            if bad or number == 3:
+                why = "differ broken" if bad else "its opening has a copy of a plan, and resume takes plans of the schedule alone"
+                self.assertRegex(err, rf"sundial-cut: the cut before line \d+ is not: {why}\n")
+            else:
+                self.assertRegex(err, r"sundial-cut: ([1-9]\d*) of \1 cuts are certified\n")
 
     def test_certify_needs_the_program_and_the_times(self):
-        err = run("sundial-cut", main, [TRIANGLE, *PLANS, "schedule", "--certify"])[2]
+        err = run("sundial-cut", main, [*FILES, "schedule", "--certify"])[2]
         self.assertIn("--certify needs sundialctl", err)
         with mock.patch.dict(os.environ, {"SUNDIALCTL": "sundialctl"}):
-            err = run("sundial-cut", main, [TRIANGLE, *PLANS, "schedule", "--certify", "--move"])[2]
+            err = run("sundial-cut", main, [*FILES, "schedule", "--certify", "--move"])[2]
         self.assertIn("--certify compares times", err)
 
     def test_run_needs_the_program(self):
-        err = run("sundial-cut", main, [TRIANGLE, *PLANS, "schedule", "--run"])[2]
+        err = run("sundial-cut", main, [*FILES, "schedule", "--run"])[2]
         self.assertIn("--run needs sundial", err)
 
 

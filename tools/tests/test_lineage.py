@@ -6,9 +6,9 @@ import unittest
 
 import case
 from examples import EXAMPLES, outputs
-from histories import PLANS, TRIANGLE, History
 from page_tree import parse
-from support import directory, run
+from support import DATA, directory, run
+from worlds import KINDS, PERIOD, World
 
 from sundial_tools.fleet.lineage import MILLION
 from sundial_tools.lines.main import main
@@ -116,9 +116,10 @@ class Lineages(unittest.TestCase):
 
     def test_random_histories(self):
         honest = 0
-        for number in range(6):
-            made = History(number, rounds=30, bad=15 if number % 3 == 0 else None)
-            rows = self.compare(TRIANGLE, PLANS, made.lines)
+        for number in range(2 * len(KINDS)):
+            made = World(number, rounds=10, late=6 * PERIOD if number % 3 == 0 else None)
+            with directory() as path:
+                rows = self.compare(*made.files(path), made.lines)
             honest += sum(row["lineage"]["honest"] for row in rows)
         self.assertGreater(honest, 20)
 
@@ -130,7 +131,7 @@ class Lineages(unittest.TestCase):
             "tick 110000000 0 110000000", "recv 110700000 1 110700000 1", "ask 120000000 1 120000000",
             "ask 120000000 2 129000000", "end 120000000",
         ]
-        of_b, of_x = self.compare(TRIANGLE, PLANS[:1], [f"{line}\n" for line in lines])
+        of_b, of_x = self.compare(DATA / "triangle.toml", [DATA / "triangle-1.json"], [f"{line}\n" for line in lines])
         self.assertEqual((of_b["lineage"]["devices"], of_b["lineage"]["links"], of_b["lineage"]["honest"]), (["r", "b"], ["rb"], True))
         self.assertEqual((of_x["lineage"]["devices"], of_x["lineage"]["honest"], of_x["inside"]), (["x"], False, False))
         self.assertIn("its counter 9,000,000 ps off, and its drift allows", of_x["lineage"]["text"])

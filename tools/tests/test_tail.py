@@ -10,11 +10,11 @@ import time
 import unittest
 from unittest import mock
 
-from support import TOOLS, directory, run
+from support import DATA, TOOLS, directory, run
 
-from histories import PLANS, STEP, TRIANGLE, History
 from test_cut import plain
 from test_watch import PROGRAM, SECOND, Fabric, Played, line_of
+from worlds import PERIOD, World
 
 from sundial_tools.errors import ToolError
 from sundial_tools.record.logs import allow_files
@@ -33,8 +33,8 @@ class Watched(unittest.TestCase):
         self.enterContext(mock.patch.object(watcher, "Replaying", Played))
         self.said = []
 
-    def fabric(self, number=2, rounds=12):
-        self.fabric_of = Fabric(self.path, History(number, rounds=rounds))
+    def fabric(self, number=2, rounds=8, **more):
+        self.fabric_of = Fabric(self.path, World(number, rounds=rounds, mute=0, **more))
         return self.fabric_of
 
     def watch(self, **more):
@@ -66,9 +66,10 @@ class Rotated(Watched):
     def rotate(self, is_dated=False):
         """As logrotate does: each log gets a new name, and an empty one has its place."""
         time.sleep(0.01)
+        before = len(list(self.path.glob("fabric.jsonl*")))
         for log in self.fabric_of.logs:
             if is_dated:
-                os.rename(log, f"{log}-2026120{len(os.listdir(self.path)) // 4}")
+                os.rename(log, f"{log}-2026120{before}")
             else:
                 for number in (2, 1):
                     if os.path.exists(f"{log}.{number}"):
@@ -163,7 +164,7 @@ class Rotated(Watched):
                 self.fabric_of.write(second)
                 self.finish(self.watch() if is_stopped else watch)
                 self.judge()
-                self.assertEqual(len(self.said), len(self.fabric_of.logs))
+                self.assertEqual(len(self.said), len({whose for whose, _ in first}))
                 self.assertIn("it was written anew and is read from its beginning", self.said[0])
 
     def test_a_file_that_is_gone(self):
@@ -185,7 +186,7 @@ class Rotated(Watched):
 
     def test_a_torn_last_line_of_a_rotated_file(self):
         first, second = self.pieces(2)
-        self.fabric_of.write([*first, ("x", '{"event": "tick"')])
+        self.fabric_of.write([*first, (self.fabric_of.leaf, '{"event": "tick"')])
         watch = self.watch()
         self.read(watch)
         self.rotate()
@@ -203,7 +204,7 @@ class Rotated(Watched):
         os.rename(self.path / "hidden", fabric.logs[0])
         self.finish(watch)
         self.judge()
-        words = [TRIANGLE, self.path / "mistyped", "--plan", PLANS[0], "--plan", PLANS[1], "-o", self.path / "s", "--once"]
+        words = [fabric.topology, self.path / "mistyped", "--plan", fabric.plans[0], "-o", self.path / "s", "--once"]
         with mock.patch.dict(os.environ, {"SUNDIAL": str(PROGRAM)}):
             self.assertIn(f"sundial-watch: {self.path / 'mistyped'}: it is not there", run("sundial-watch", main, words)[2])
 
@@ -216,13 +217,13 @@ class Ahead(Watched):
         return json.dumps({**said, "reference_ps": said["reference_ps"] + more}) + "\n"
 
     def test_one_wrong_reference_costs_one_line(self):
-        fabric = self.fabric(rounds=12)
-        mine = [at for at, (whose, text) in enumerate(fabric.lines) if whose == "x" and '"tick"' in text]
+        fabric = self.fabric(rounds=4, fails=[])
+        mine = [at for at, (whose, text) in enumerate(fabric.lines) if whose == fabric.leaf and '"tick"' in text]
         for place in mine[0], mine[4], mine[-1]:
             for step in 10**6, 7, 1:
                 with self.subTest(place, step=step), directory() as self.path:
-                    fabric = self.fabric(rounds=12)
-                    fabric.lines.insert(place, ("x", self.wrong(fabric.lines[place][1])))
+                    fabric = self.fabric(rounds=4, fails=[])
+                    fabric.lines.insert(place, (fabric.leaf, self.wrong(fabric.lines[place][1])))
                     watch = self.watch()
                     for first in range(0, len(fabric.lines), step):
                         fabric.write(fabric.lines[first:first + step])
@@ -232,47 +233,54 @@ class Ahead(Watched):
                     text = watch.metrics_text()
                     self.finish(watch)
                     rows = [row for row in fabric.rows() if row["kind"] != "passed over"]
-                    self.assertEqual([(row["log"], row["reason"].split(":")[0]) for row in self.passed()], [(fabric.logs[2], "ahead")])
+                    self.assertEqual([(row["log"], row["reason"].split(":")[0]) for row in self.passed()], [(fabric.leaf_log, "ahead")])
                     self.assertEqual(list(map(line_of, rows)), plain(fabric.made.topology, fabric.made.plans, fabric.made.lines)[:-1])
                     behind = [float(line.rsplit(" ", 1)[1]) for line in text.splitlines() if line.startswith("sundial_log_behind_seconds{")]
                     self.assertLess(max(behind), 1)
 
     def test_a_reference_that_stays_wrong(self):
-        fabric = self.fabric(rounds=20)
-        wrong = [at for at, (whose, _) in enumerate(fabric.lines) if whose == "x" and at > 100]
+        fabric = self.fabric(rounds=12, fails=[])
+        wrong = [at for at, (whose, _) in enumerate(fabric.lines) if whose == fabric.leaf and at > 100]
         for at in wrong:
-            fabric.lines[at] = "x", self.wrong(fabric.lines[at][1])
+            fabric.lines[at] = fabric.leaf, self.wrong(fabric.lines[at][1])
         fabric.write(fabric.lines[:-1])
-        watch = self.watch(horizon=STEP)
+        watch = self.watch(horizon=PERIOD)
         self.read(watch)
         values = dict(line.rsplit(" ", 1) for line in watch.metrics_text().splitlines() if not line.startswith("#"))
         self.finish(watch)
         ahead = [row["log"] for row in self.passed() if row["reason"].startswith("ahead: ")]
-        self.assertEqual((len(ahead), set(ahead)), (len(wrong), {fabric.logs[2]}))
-        behind = [float(values[f'sundial_log_behind_seconds{{log="{log}"}}']) for log in fabric.logs[:3]]
-        self.assertEqual(behind.index(max(behind)), 2)
-        self.assertLess(float(values["sundial_lag_seconds"]), 3 * STEP / SECOND)
+        self.assertEqual((len(ahead), set(ahead)), (len(wrong), {fabric.leaf_log}))
+        behind = [float(values[f'sundial_log_behind_seconds{{log="{log}"}}']) for log in fabric.logs[:-1]]
+        self.assertEqual(behind.index(max(behind)), fabric.logs.index(fabric.leaf_log))
+        self.assertLess(float(values["sundial_lag_seconds"]), 3 * PERIOD / SECOND)
 
     def test_a_pause_of_the_whole_fabric_is_none(self):
-        fabric = self.fabric(rounds=12)
-        at = 6 * STEP - 1000
+        fabric = self.fabric()
+        at = 6 * PERIOD - 1000
         fabric.write((whose, self.wrong(text, 7200 * SECOND) if json.loads(text)["reference_ps"] >= at else text) for whose, text in fabric.lines)
         self.finish(self.watch())
         self.assertEqual(self.passed(), [])
         self.assertIn("drift", {row["premise"] for row in fabric.rows() if row["kind"] == "broken"})
 
+    def test_the_first_line_of_a_sparse_log_may_be_far_ahead_of_the_first_lines_of_the_others(self):
+        fabric = self.fabric()
+        first = next(json.loads(text)["reference_ps"] for whose, text in fabric.lines if whose == "fabric")
+        fabric.write((whose, self.wrong(text, 7200 * SECOND) if json.loads(text)["reference_ps"] >= first else text) for whose, text in fabric.lines)
+        self.finish(self.watch())
+        self.assertEqual([row for row in self.passed() if row["reason"].startswith("ahead")], [])
+
     def test_a_sparse_log_may_be_far_ahead_of_what_was_read_of_the_others(self):
-        fabric = self.fabric(rounds=12)
+        fabric = self.fabric()
         fabric.write(fabric.lines)
         with mock.patch.object(watcher, "BYTES_OF_A_STEP", 1), mock.patch.object(watcher, "BYTES_OF_A_LOG", 300):
-            self.finish(self.watch(jump=STEP // 100, horizon=STEP // 100))
+            self.finish(self.watch(jump=PERIOD // 100, horizon=PERIOD // 100))
         self.assertEqual(self.passed(), [])
         self.judge()
 
 
 class States(Watched):
     def begun(self):
-        fabric = self.fabric(3, rounds=40)
+        fabric = self.fabric(3, rounds=16)
         fabric.write(fabric.lines)
         fabric.once(every=60, keep=100)
         return sorted(fabric.state.glob("part-*.start"))[-1]
@@ -304,7 +312,7 @@ class States(Watched):
 
     def test_a_state_that_is_taken_up_at_each_cut(self):
         """A run that begins with a part goes on as one that made it."""
-        fabric = self.fabric(5, rounds=60)
+        fabric = self.fabric(5, rounds=24)
         rest, draw = list(fabric.lines), random.Random(4)
         while rest:
             fabric.write(rest[:40])
@@ -322,7 +330,7 @@ class Many(unittest.TestCase):
             logs = [path / f"log{number}" for number in range(300)]
             for log in logs:
                 log.touch()
-            words = [TOOLS / "sundial-watch", TRIANGLE, *logs, "--plan", PLANS[0], "-o", path / "state", "--once"]
+            words = [TOOLS / "sundial-watch", DATA / "triangle.toml", *logs, "--plan", DATA / "triangle-1.json", "-o", path / "state", "--once"]
             done = subprocess.run(
                 words, env={**os.environ, "SUNDIAL": str(PROGRAM)}, stdout=subprocess.PIPE, stderr=subprocess.PIPE, text=True, check=False,
                 timeout=600, preexec_fn=lambda: resource.setrlimit(resource.RLIMIT_NOFILE, (256, 4096)),

@@ -7,9 +7,9 @@ from unittest import mock
 
 from support import directory, run
 
-from histories import STEP, History
 from test_cut import plain
-from test_watch import PROGRAM, Fabric, Played, line_of
+from test_watch import PROGRAM, Fabric, Played, line_of, planner
+from worlds import PERIOD, World
 
 from sundial_tools.watch import watcher
 from sundial_tools.watch.main import main
@@ -25,7 +25,7 @@ class Windows(unittest.TestCase):
         self.enterContext(mock.patch.object(watcher, "Replaying", Played))
 
     def watched(self, number, **more):
-        fabric = Fabric(self.path, History(number, rounds=60, **more))
+        fabric = Fabric(self.path, World(number, rounds=24, mute=0, **more))
         fabric.write(fabric.lines)
         fabric.once(every=60, keep=100)
         return fabric
@@ -43,13 +43,13 @@ class Windows(unittest.TestCase):
 
     def test_the_lines_of_a_window_are_those_that_were_told(self):
         draw, ways = random.Random(2), set()
-        for number in 2, 5, 9:
-            self.fabric = self.watched(number, bad=45 if number == 9 else None)
+        for number, late in (0, None), (1, None), (12, 16 * PERIOD), (9, None):
+            self.fabric = self.watched(number, late=late)
             rows = self.fabric.rows()
             self.assertGreater(len(list(self.fabric.state.glob("part-*.start"))), 1)
             for _ in range(8):
-                since = draw.choice((None, draw.randint(0, 50 * STEP)))
-                until = draw.choice((None, (since or 0) + draw.randint(0, 30 * STEP)))
+                since = draw.choice((None, draw.randint(0, 20 * PERIOD)))
+                until = draw.choice((None, (since or 0) + draw.randint(0, 12 * PERIOD)))
                 window = Window(Kept(str(self.fabric.state)), self.fabric.made.topology, self.fabric.made.plans, since, until, str(self.path / "window.txt"))
                 lines = list(self.shifted(window))
                 ways.add(window.row.way)
@@ -73,10 +73,10 @@ class Windows(unittest.TestCase):
         self.assertEqual((window.last_ref, list(self.shifted(window))[-1]), (row["ref"], line_of(row)))
 
     def test_a_page_and_words(self):
-        fabric = self.watched(9, bad=45)
+        fabric = self.watched(12, late=16 * PERIOD, planner=planner(self.path))
         broken = next(row for row in fabric.rows() if row["kind"] == "broken")
         folder = self.path / "incident"
-        words = ["report", fabric.state, "--from", f"{broken['ref'] - 3 * STEP}ps", "--to", f"{broken['ref'] + STEP}ps", "-o", folder]
+        words = ["report", fabric.state, "--from", f"{broken['ref'] - 2 * PERIOD}ps", "--to", f"{broken['ref'] + PERIOD}ps", "-o", folder]
         with mock.patch.dict(os.environ, {"SUNDIAL": str(PROGRAM)}):
             status, out, _ = run("sundial-watch", main, words)
             self.assertEqual(status, 7, out)
@@ -85,11 +85,11 @@ class Windows(unittest.TestCase):
             self.assertNotIn("report ", out.split("\n", 2)[2].split("\n    ")[0])
             self.assertEqual((folder / "why.txt").read_text(), out)
             self.assertIn("<h1>", (folder / "page.html").read_text())
-            files = {"topology.toml", "plan-1.json", "plan-2.json", "schedule.txt", "lines.txt", "page.html", "why.txt"}
+            files = {"topology.toml", *(plan.name for plan in fabric.plans), "schedule.txt", "lines.txt", "page.html", "why.txt"}
             self.assertEqual(set(os.listdir(folder)), files)
             with_reports = run("sundial-watch", main, [*words, "--reports"])[1]
             self.assertGreater(with_reports.count("\nreport "), 0)
-            quiet = [*words[:2], "--to", f"{3 * STEP}ps", "-o", folder]
+            quiet = [*words[:2], "--to", f"{3 * PERIOD}ps", "-o", folder]
             status, out, _ = run("sundial-watch", main, quiet)
             self.assertEqual((status, out.splitlines()[-1]), (0, "No premise broke, no alarm came, and no line was passed over."))
             self.assertIn("\nLine N of schedule.txt is line N + 0 of the whole.\n", out)
@@ -117,7 +117,7 @@ class Windows(unittest.TestCase):
 class Further(unittest.TestCase):
     def test_a_plan_that_is_added_after_a_cut(self):
         with directory() as path, mock.patch.object(watcher, "Replaying", Played):
-            fabric = Fabric(path, History(2, rounds=60))
+            fabric = Fabric(path, World(7, rounds=24))
             stage = next(at for at, (_, text) in enumerate(fabric.lines) if '"stage"' in text)
             fabric.write(fabric.lines[:stage])
             plans, made = fabric.options().plans, fabric.made

@@ -17,8 +17,8 @@ from unittest import mock
 
 from support import EXAMPLES, TOOLS, directory
 
-from histories import STEP, History
 from test_watch import Fabric, Played
+from worlds import PERIOD, World
 
 from sundial_tools.errors import ToolError
 from sundial_tools.topology import read_topology
@@ -122,10 +122,10 @@ class Names(unittest.TestCase):
     @classmethod
     def setUpClass(cls):
         with directory() as path, mock.patch.object(watcher, "Replaying", Played):
-            fabric = Fabric(path, History(9, rounds=30, bad=25))
+            fabric = Fabric(path, World(7, rounds=12, late=10 * PERIOD))
             fabric.write(fabric.lines)
-            watch = fabric.watch(ask=5 * STEP)
-            watch.metrics.fabric, watch.metrics.bounds, watch.metrics.calm = 'of "mine"\\', {"b": 10**6}, {"b": 10**5}
+            watch = fabric.watch(ask=PERIOD)
+            watch.metrics.fabric, watch.metrics.bounds, watch.metrics.calm = 'of "mine"\\', {fabric.leaf: 10**6}, {fabric.leaf: 10**5}
             while watch.step():
                 pass
             watch.step(is_last=True)

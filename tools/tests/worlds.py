@@ -3,18 +3,18 @@
 import heapq
 import json
 import random
+import subprocess
 
-from support import TOOLS
+from support import LIMIT
 
 from sundial_tools.fleet.device import ACTING
 from sundial_tools.fleet.fleet import Fleet
 from sundial_tools.plan import parse_plan
 from sundial_tools.schedule import Event, event_line
-from sundial_tools.topology import parse_topology
+from sundial_tools.topology import parse_topology, topology_text
 
-assert TOOLS.is_dir()
-PERIOD, LEAST, MOST = 100_000_000, 400_000, 1_000_000
-KINDS = ("ring", "mesh", "tiers", "star")
+PERIOD, LEAST, MOST, LATE = 100_000_000, 400_000, 1_000_000, 700_000
+KINDS = ("ring", "mesh", "tiers", "star", "pods")
 
 
 def pairs_of(kind, draw):
@@ -22,6 +22,9 @@ def pairs_of(kind, draw):
     if kind == "tiers":
         spines, leaves = draw.randint(2, 3), draw.randint(2, 4)
         return spines + leaves, [(spine, spines + leaf) for leaf in range(leaves) for spine in range(spines)]
+    if kind == "pods":
+        aggregates = [(core, 2 + at) for at in range(4) for core in (0, 1)]
+        return 8, aggregates + [(2 + 2 * pod + at, 6 + pod) for pod in (0, 1) for at in (0, 1)]
     count = draw.randint(4, 7)
     if kind == "star":
         return count, [(0, 1), *((hub, leaf) for leaf in range(2, count) for hub in (0, 1))]
@@ -38,7 +41,7 @@ def topology_of(kind, draw):
     text += "".join(f'[[device]]\nname = "d{at}"\n' for at in range(count))
     for at, (one, other) in enumerate(pairs):
         text += f'[[link]]\nname = "l{at}"\nends = ["d{one}", "d{other}"]\nmin = {LEAST}\nmax = {MOST}\n'
-    for device in range(2, count) if kind in ("tiers", "star") else ():
+    for device in range(2, count) if kind in ("tiers", "star", "pods") else ():
         links = ", ".join(f'"l{at}"' for at, pair in enumerate(pairs) if device in pair)
         text += f'[[domain]]\nname = "rack{device}"\ndevices = ["d{device}"]\nlinks = [{links}]\n'
     return parse_topology(text)
@@ -77,16 +80,43 @@ def plan_of(topology, root, devices, links):
     })
 
 
+class NoPlan(Exception):
+    """No plan of a network can be made."""
+
+
+def planned_by(program, path):
+    """A planner as `plan_of`, by the program: the first plan is that of `plan`, each later one that of `renew` after it."""
+    plans = []
+
+    def planner(topology, root, devices, links):
+        file, absent = path / "planned.toml", path / "absent.json"
+        file.write_text(topology_text(topology))
+        absent.write_text(json.dumps({
+            "absent_devices": [topology.devices[it].name for it in devices], "absent_links": [topology.links[it].name for it in links],
+        }))
+        words = ("renew", file, plans[-1], absent) if plans else ("plan", file)
+        done = subprocess.run((program, *words), stdout=subprocess.PIPE, text=True, check=False, timeout=LIMIT)
+        if done.returncode != 0 or (plans and parse_plan(done.stdout, topology).root != root):
+            return None
+        plans.append(path / f"planned-{len(plans)}.json")
+        plans[-1].write_text(done.stdout)
+        return done.stdout
+
+    return planner
+
+
 class World:
     """`lines` is the schedule, `texts` are its plans. In a `bad` one premises break.
 
-    `planner` makes the text of a plan, as `plan_of` does. With `fails` these fail, each a reference, a kind and a place, in place of what is drawn, and nothing is lost.
+    `planner` makes the text of a plan, as `plan_of` does. With `fails` these fail, each a reference, a kind and a place, and a
+    renewal begins at each reference of `stages`, in place of what is drawn, and nothing is lost. `late` is a reference from which
+    on one message comes too late. Of the losses a part `mute` is told by nobody.
     """
 
-    def __init__(self, number, rounds=30, bad=False, fails=None, planner=plan_of):
+    def __init__(self, number, rounds=30, bad=False, fails=None, planner=plan_of, kind=None, stages=(), late=None, mute=0.5):
         self.draw = draw = random.Random(number)
-        self.bad, self.planner = bad, planner
-        self.topology = topology = topology_of(KINDS[number % len(KINDS)], draw)
+        self.bad, self.planner, self.late, self.mute = bad, planner, late, mute
+        self.topology = topology = topology_of(kind or KINDS[number % len(KINDS)], draw)
         self.texts, self.plans, self.events = [], [], []
         self.plan(planner(topology, draw.choice((0, 0, 1)), (), ()))
         self.fleet = Fleet(topology, self.plans)
@@ -100,6 +130,8 @@ class World:
         self.is_quiet = fails is not None
         for ref, kind, place in fails or ():
             self.later(ref, self.fail, kind, range(len(topology.devices if kind == "device" else topology.links))[place])
+        for ref in stages:
+            self.later(ref, self.stage, False)
         if fails is None:
             self.later(draw.randint(3 * PERIOD, 9 * PERIOD), self.trouble)
         while self.waiting and self.waiting[0][0] < end:
@@ -109,12 +141,26 @@ class World:
         self.events.append(Event("end", end))
 
     def plan(self, text):
+        if text is None:
+            raise NoPlan(self.topology)
         self.texts.append(text)
         self.plans.append(parse_plan(text, self.topology))
 
     @property
     def lines(self):
         return [event_line(event) for event in self.events]
+
+    def files(self, path):
+        """The file of its topology and those of its plans, in a folder."""
+        files = [path / "topology.toml", *(path / f"plan-{place}.json" for place in range(1, len(self.texts) + 1))]
+        for file, text in zip(files, (topology_text(self.topology), *self.texts)):
+            file.write_text(text)
+        return files[0], files[1:]
+
+    @property
+    def leaf(self):
+        """The name of the last device that nobody follows."""
+        return self.topology.devices[max(it for it in self.plans[0].rows if not self.plans[0].below(it))].name
 
     def later(self, after, act, *words):
         self.serial += 1
@@ -137,8 +183,10 @@ class World:
             delay = self.draw.randint(LEAST, MOST)
             if self.bad and self.draw.random() < 0.004:
                 delay = MOST + self.draw.randint(1, MOST - 1)
-            if self.draw.random() < (0.04 if self.bad else 0.03) and (self.bad or self.may_lose(flight)):
-                if self.draw.random() < 0.5:
+            if self.late is not None and self.ref >= self.late:
+                delay, self.late = MOST + LATE, None
+            elif self.draw.random() < (0.04 if self.bad else 0.03) and (self.bad or self.may_lose(flight)):
+                if self.draw.random() >= self.mute:
                     self.later(delay, self.lose, flight.number)
                 continue
             self.later(delay, self.receive, flight.receiver, flight.number)

@@ -253,6 +253,9 @@ def _tell_certified(rows: Sequence[Row], verdicts: Sequence[str]) -> None:
 
 def certified(program: str, options: argparse.Namespace, directory: str, before: Row, row: Row) -> str:
     """What `sundialctl resume` says of a part up to its cut, and of the opening of the next one."""
+    plans = [plans_of(options.plan, it.first_plan, it.copies) for it in (before, row)]
+    if plans[0][-len(plans[1]):] != plans[1]:
+        return "its opening has a copy of a plan, and resume takes plans of the schedule alone"
     with contextlib.ExitStack() as stack:
         names = []
         for part, lines in (before, before.opening + before.lines), (row, row.opening):
@@ -261,7 +264,6 @@ def certified(program: str, options: argparse.Namespace, directory: str, before:
             text.writelines(itertools.islice(whole, lines))
             text.flush()
             names.append(text.name)
-        plans = [plans_of(options.plan, it.first_plan, it.copies) for it in (before, row)]
         words = [program, "resume", options.topology, *plans[0], names[0], "/", *plans[1], names[1]]
         done = subprocess.run(words, stdout=subprocess.PIPE, text=True, check=False)
     if done.returncode not in (0, 3, 7):

@@ -134,7 +134,9 @@ class Watch(Hooks):
         if self._has_begun:
             self._write_settings()
             self._has_begun = False
-        self._is_judged = all(tail.is_caught_up or tail.held is not None for tail in self._tails)
+        # (with no front each first line is held, so that the logs were not read as far as they go)
+        was_judged, self._is_judged = self._is_judged, bool(fronts) and all(tail.is_caught_up or tail.held is not None for tail in self._tails)
+        came = came or (self._is_judged and not was_judged and any(tail.held is not None for tail in self._tails))
         lasts = [tail.last for tail in self._tails if tail.last is not None]
         if lasts:
             if max(lasts) > known:
