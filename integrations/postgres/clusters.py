@@ -14,9 +14,10 @@ from typing import Any, List, Optional, Type
 
 HERE = pathlib.Path(__file__).resolve().parent
 TOP = HERE.parents[1]
+PROGRAM = pathlib.Path(os.environ.get("SUNDIAL", TOP / "crates/sundial/out/sundial"))
 LIBRARY = pathlib.Path(os.environ.get("SUNDIAL_LIBRARY", TOP / "crates/sd_device_c/out/libsd_device_c.a"))
 PG_CONFIG = os.environ.get("PG_CONFIG", "/usr/lib/postgresql/15/bin/pg_config")
-LIMIT = 120  # s, for any program
+LIMIT = 300  # s, for any program
 
 
 def told(*words: Any, **more: Any) -> str:
