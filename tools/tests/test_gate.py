@@ -98,6 +98,14 @@ class Promise(unittest.TestCase):
             self.assertEqual(status, 1)
             self.assertIn("docs/PROVED.md names lineage_reorders", said)
 
+    def test_a_definition_that_no_table_has(self):
+        with directory() as folder:
+            tree(folder, [self.CHECK, "docs/PROVED.md"])
+            replace(folder / "docs/PROVED.md", "(`IsRebased`)", "(`IsRebased`, `DevicesKeepChronicle`)")
+            status, said = refusal([folder / self.CHECK])
+            self.assertEqual(status, 1)
+            self.assertIn("docs/PROMISE.md has other numbers or tables", said)
+
 
 class Facts(unittest.TestCase):
     """`.ci/facts` over pages that name what is not there."""
