@@ -31,121 +31,81 @@ class OutputLine(NamedTuple):
     fields: Dict[str, Any]
 
 
-# Of each form: the fields behind the first word, `n:` a number, `s:` a name, `p:` a premise, `v:` a verdict, `f:` a fact with
-# the number of its thing, `r:` the rest of the line, `=` a fixed word, `+` one or more names.
-_DOMAIN = ("d:domain",)
-_FORMS: Dict[str, List[Tuple[str, Tuple[str, ...]]]] = {
-    "report": [("report", ("n:line", "s:device", "n:clock", "n:eps"))],
-    "broken": [("broken", ("n:line", "p:premise"))],
-    "alarm": [
-        ("alarm loop", ("n:line", "=loop", "s:device")),
-        ("alarm roots", ("n:line", "=roots", "s:device", "s:other")),
-        ("alarm interval", ("n:line", "=interval", "s:device", "n:ref")),
-    ],
-    "ended": [("ended", ("n:line", "n:begin"))],
-    "disorder": [("disorder", ("n:line", "n:begin"))],
-    "begin": [("begin", ("n:line", "s:device", "n:stamp"))],
-    "waits": [("waits", ("n:begun", "n:ended", "n:disorders"))],
-    "done": [("done", ("n:first", "n:second"))],
-    "link": [("link", ("s:link", "n:min", "n:max", "n:count", "v:verdict"))],
-    "bound": [("bound", _DOMAIN + ("s:device", "n:eps"))],
-    "nobound": [("nobound", _DOMAIN + ("s:device",)), ("nobound", _DOMAIN + ("s:device", "n:calm"))],
-    "bounds": [("bounds", _DOMAIN + ("s:device", "n:drill", "n:tight", "n:calm"))],
-    "agree": [("agree", ("n:lines", "n:opening"))],
-    "differ": [("differ", ("f:fact",))],
-    "accepted": [("accepted", ("n:devices", "n:links", "n:domains"))],
-    "case": [("case", ("n:events", "n:reports", "n:eps", "n:broken", "n:alarms"))],
-    "refused": [
-        ("refused structure", ("=plan", "n:plan", "=structure", "n:rule", "=device", "s:device")),
-        ("refused ancestor", ("=plan", "n:plan", "=ancestor", "=device", "s:device")),
-        ("refused timing", ("=plan", "n:plan", "=timing", "n:rule", "n:left", "n:right")),
-        ("refused root", ("=plan", "n:plan", "=root") + _DOMAIN + ("=at", "t:at")),
-        ("refused loop", ("=plan", "n:plan", "=loop") + _DOMAIN + ("=cycle", "+cycle")),
-        ("refused domain", ("=plan", "n:plan", "=domain") + _DOMAIN + ("=device", "s:device")),
-        ("refused reach", ("=plan", "n:plan", "=reach") + _DOMAIN + ("=chain", "+chain")),
-    ],
-    "input": [
-        ("input topology", ("=topology", "r:reason")),
-        ("input plan", ("=plan", "n:plan", "r:reason")),
-        ("input absent", ("=absent", "r:reason")),
-        ("input schedule", ("=schedule", "n:line", "r:reason")),
-        ("input opening", ("=opening", "n:line", "r:reason")),
-        ("input log", ("=log", "n:line", "r:reason")),
-        ("input feed", ("=feed", "n:line", "r:reason")),
-        ("input exchanges", ("=exchanges", "n:line", "r:reason")),
-    ],
+# Of each sort of field: how it is written, and what is made of it. `d` is a domain, or one thing of it; `+` is one or more names.
+_SORTS: Dict[str, Tuple[str, Callable[[str], object]]] = {
+    "n": (NUMBER.pattern, int), "s": (NAME.pattern, str), "p": ("|".join(PREMISES), str), "v": ("|".join(VERDICTS), str),
+    "d": (f"(?:listed|device|link) {NAME.pattern}", lambda text: dict(zip(("kind", "name"), text.split(" ")))),
+    "+": (f"{NAME.pattern}(?: {NAME.pattern})*", lambda text: text.split(" ")), "r": ("[ -~]*", str),
 }
 
-_WORDS: Dict[str, Callable[[str], object]] = {"s": NAME.fullmatch, "p": PREMISES.__contains__, "v": VERDICTS.__contains__}
+
+class _Form:
+    """A form of lines, of words that are fixed and of fields, each as its sort and its name: `report n:line`."""
+
+    def __init__(self, kind: str, text: str, fixed: Dict[str, Any]) -> None:
+        fields = [word.partition(":") for word in text.split(" ") if ":" in word]
+        self._names = [name for _, _, name in fields]
+        self._made_of = [_SORTS[sort][1] for sort, _, _ in fields]
+        self._pattern = re.compile(" ".join(f"({_SORTS[word[0]][0]})" if ":" in word else re.escape(word) for word in text.split(" ")))
+        self._kind, self._fixed = kind, fixed
+
+    def line(self, text: str) -> Optional[OutputLine]:
+        found = self._pattern.fullmatch(text)
+        if found is None:
+            return None
+        return OutputLine(self._kind, {**self._fixed, **{name: made(said) for name, made, said in zip(self._names, self._made_of, found.groups())}})
+
+
+def _forms() -> Dict[str, List[_Form]]:
+    """The forms of lines by their first words. The kind of a line is its first word, and of some the word that says which."""
+    forms: Dict[str, List[_Form]] = {}
+    for kind, text in (
+        ("report", "report n:line s:device n:clock n:eps"),
+        ("broken", "broken n:line p:premise"),
+        ("alarm loop", "alarm n:line loop s:device"),
+        ("alarm roots", "alarm n:line roots s:device s:other"),
+        ("alarm interval", "alarm n:line interval s:device n:ref"),
+        ("ended", "ended n:line n:begin"),
+        ("disorder", "disorder n:line n:begin"),
+        ("begin", "begin n:line s:device n:stamp"),
+        ("waits", "waits n:begun n:ended n:disorders"),
+        ("done", "done n:first n:second"),
+        ("link", "link s:link n:min n:max n:count v:verdict"),
+        ("bound", "bound d:domain s:device n:eps"),
+        ("nobound", "nobound d:domain s:device"),
+        ("nobound", "nobound d:domain s:device n:calm"),
+        ("bounds", "bounds d:domain s:device n:drill n:tight n:calm"),
+        ("agree", "agree n:lines n:opening"),
+        ("accepted", "accepted n:devices n:links n:domains"),
+        ("case", "case n:events n:reports n:eps n:broken n:alarms"),
+        ("refused structure", "refused plan n:plan structure n:rule device s:device"),
+        ("refused ancestor", "refused plan n:plan ancestor device s:device"),
+        ("refused timing", "refused plan n:plan timing n:rule n:left n:right"),
+        ("refused root", "refused plan n:plan root d:domain at d:at"),
+        ("refused loop", "refused plan n:plan loop d:domain cycle +:cycle"),
+        ("refused domain", "refused plan n:plan domain d:domain device s:device"),
+        ("refused reach", "refused plan n:plan reach d:domain chain +:chain"),
+        ("input topology", "input topology r:reason"),
+        ("input plan", "input plan n:plan r:reason"),
+        ("input absent", "input absent r:reason"),
+        *((f"input {what}", f"input {what} n:line r:reason") for what in ("schedule", "opening", "log", "feed", "exchanges")),
+    ):
+        forms.setdefault(text.partition(" ")[0], []).append(_Form(kind, text, {}))
+    forms["differ"] = [
+        _Form("differ", f"differ {fact}" + (" n:number" if thing else ""), {"fact": fact, **({"thing": thing} if thing else {})})
+        for fact, thing in FACTS.items()
+    ]
+    return forms
+
+
+_FORMS = _forms()
 
 
 def parse_line(text: str) -> Optional[OutputLine]:
     """The printed line without its newline, or None where it is of no form."""
-    if not TEXT.fullmatch(text):
-        return None
-    if text.startswith("usage: "):
+    if text.startswith("usage: ") and TEXT.fullmatch(text):
         return OutputLine("usage", {"text": text})
-    words = text.split(" ")
-    for kind, form in _FORMS.get(words[0], ()):
-        fields = _fields(form, words[1:])
-        if fields is not None:
-            return OutputLine(kind, fields)
-    return None
-
-
-def _fields(form: Tuple[str, ...], words: List[str]) -> Optional[Dict[str, Any]]:
-    fields: Dict[str, Any] = {}
-    rest = list(words)
-    for part in form:
-        sort, name = part[0], part[2:] if part[1] == ":" else part[1:]
-        taken = _take(sort, name, rest, fields)
-        if not taken:
-            return None
-        del rest[:taken]
-    return None if rest else fields
-
-
-def _take(sort: str, name: str, rest: List[str], fields: Dict[str, Any]) -> int:
-    """Reads one part of a form from the front of `rest`, and answers how many words it took."""
-    if not rest or (sort != "r" and not rest[0]):
-        return 0
-    if sort == "=":
-        return 1 if rest[0] == name else 0
-    if sort == "n":
-        if not NUMBER.fullmatch(rest[0]):
-            return 0
-        fields[name] = int(rest[0])
-        return 1
-    if sort in _WORDS:
-        if not _WORDS[sort](rest[0]):
-            return 0
-        fields[name] = rest[0]
-        return 1
-    if sort == "f":
-        return _take_fact(rest, fields)
-    if sort in "dt":
-        if rest[0] not in ("listed", "device", "link") or len(rest) < 2 or not NAME.fullmatch(rest[1]):
-            return 0
-        fields[name] = {"kind": rest[0], "name": rest[1]}
-        return 2
-    if sort == "+" and not all(map(NAME.fullmatch, rest)):
-        return 0
-    fields[name] = " ".join(rest) if sort == "r" else list(rest)
-    return len(rest)
-
-
-def _take_fact(rest: List[str], fields: Dict[str, Any]) -> int:
-    """Reads in what two histories differ: a word, and the number of a device, a link or a message where it has one."""
-    thing = FACTS.get(rest[0])
-    if thing is None:
-        return 0
-    fields["fact"] = rest[0]
-    if not thing:
-        return 1
-    if len(rest) < 2 or not NUMBER.fullmatch(rest[1]):
-        return 0
-    fields.update(thing=thing, number=int(rest[1]))
-    return 2
+    return next(filter(None, (form.line(text) for form in _FORMS.get(text.partition(" ")[0], ()))), None)
 
 
 def read_output(lines: Iterable[str], source: Optional[str] = None) -> Iterator[OutputLine]:
@@ -157,3 +117,29 @@ def read_output(lines: Iterable[str], source: Optional[str] = None) -> Iterator[
         if parsed is None:
             raise ToolError(f"no line that sundial prints: {line[:-1][:80]!r}", source, number)
         yield parsed
+
+
+class NotComputed(Exception):
+    """The line with which a command says why it computed nothing: its plan or an input was refused."""
+
+    def __init__(self, line: OutputLine, text: str) -> None:
+        super().__init__(text)
+        self.line, self.text = line, text
+
+
+def read_numbers(lines: Iterable[str], what: str, has_number: Callable[[OutputLine], bool], source: str) -> Iterator[Tuple[int, OutputLine]]:
+    """The lines of a drill or of bounds, and last the line `done`, each with its number. `has_number` says what else stands there."""
+    number, line = 0, None
+    for number, text in enumerate(lines, 1):
+        if not text.endswith("\n"):
+            raise ToolError("it is cut short: its last line has no newline", source, number)
+        if line is not None and line.kind == "done":
+            raise ToolError(f"a line behind the last one of {what}", source, number)
+        line = parse_line(text[:-1])
+        if line is not None and line.kind.split(" ")[0] in ("refused", "input") and number == 1:
+            raise NotComputed(line, text[:-1])
+        if line is None or not (line.kind == "done" or has_number(line)):
+            raise ToolError(f"no line of {what}: {text[:80].strip()!r}", source, number)
+        yield number, line
+    if line is None or line.kind != "done":
+        raise ToolError("it is cut short: it has no line done", source, number or None)

@@ -7,6 +7,7 @@ import json
 from typing import Collection, Dict, FrozenSet, Iterable, List, NamedTuple, Optional, Set, Tuple
 
 from sundial_tools.errors import ToolError
+from sundial_tools.plan import Hop
 from sundial_tools.topology import Topology
 
 KINDS = ("listed", "device", "link")
@@ -64,6 +65,10 @@ def all_named(topology: Topology) -> List[Named]:
     found = [Named("listed", it.name, it.devices, it.links) for it in topology.domains]
     found += [Named("device", it.name, (it.number,), ()) for it in topology.devices]
     return found + [Named("link", it.name, (), (it.number,)) for it in topology.links]
+
+
+def hop_text(topology: Topology, hop: Hop) -> str:
+    return f"{topology.devices[hop.parent].name} over {topology.links[hop.link].name}"
 
 
 class Left(NamedTuple):

@@ -19,6 +19,7 @@ from test_bounds import Numbers, domains
 
 from sundial_tools.fleet.fleet import Fleet
 from sundial_tools.plan import default_hold, read_plan
+from sundial_tools.plan_table import HEADS, plan_rows, waits_said
 from sundial_tools.readiness.main import main as readiness_main
 from sundial_tools.effects import Effects
 from sundial_tools.report.main import main
@@ -26,10 +27,11 @@ from sundial_tools.report.parts import Makeup
 from sundial_tools.report.replay import Replay
 from sundial_tools.report.replay_view import Drawn, ReplayView, greatest
 from sundial_tools.report.series import MOST_INTERVALS, MOST_REPORTS, Interval, Peaks, Percentiles, Report, Reports
-from sundial_tools.report.units import clear, column, human, in_unit, readable, round_steps
+from sundial_tools.units import clear, column, human, in_unit, readable, round_steps
 from sundial_tools.schedule import parse_event
 from sundial_tools.things import all_named, find_named
 from sundial_tools.topology import parse_topology, read_topology
+from sundial_tools.tree import Tree
 from sundial_tools.why.planned import planned
 
 REPLAY = "sundial replay topology.toml plan.json plan-2.json schedule.txt"
@@ -149,6 +151,25 @@ class Trees(unittest.TestCase):
                 self.assertEqual([node["data-plan"] for node in sections], ["1", "2"])
                 for section, file in zip(sections, ("plan.json", "plan-2.json")):
                     self.check_plan(section, topology, read_plan(str(here / file), topology))
+
+    def test_the_page_of_a_plan_opens_with_its_table(self):
+        """It is the table that sundial-why shows. Of a large plan it has the first rows, and says so."""
+        with directory() as path:
+            large = networks.written(path, *KINDS[1])
+            found = [(EXAMPLES / "fabric" / "topology.toml", EXAMPLES / "fabric" / "plan.json", 11), (*large, 200)]
+            for topology_path, plan_path, count in found:
+                topology = read_topology(str(topology_path))
+                plan = read_plan(str(plan_path), topology)
+                section = page(topology_path, plan_path).one("section", "plan")
+                table = section.one("table", "plan-rows")
+                rows = [tuple(cell.text for cell in row.all("td")) for row in table.one("tbody").all("tr")]
+                self.assertEqual(rows, list(plan_rows(Tree(topology, plan)))[:count])
+                self.assertEqual([head.text for head in table.one("thead").all("th")], list(HEADS))
+                caption = section.all("details")[0].one("summary").text
+                self.assertTrue(caption.startswith("The table of ") and ("the first 200" in caption) == (count == 200), caption)
+                tags = [node.tag for node in section.children]
+                self.assertLess(tags.index("details"), tags.index("div"))
+                self.assertIn(waits_said(plan, topology, human), section.one("p", "facts").text)
 
     def test_networks_of_many_kinds(self):
         """Each is drawn whole; no hop goes behind a box, no box lies on another, and the root is in sight on a narrow page."""
@@ -523,6 +544,7 @@ class Refused(unittest.TestCase):
             tree = page(here / topology, here / f"{condition}.json", "--check", path / "check")
         said = tree.one("p", "refused")
         self.assertEqual((said["data-condition"], said.one("code").text + "\n"), (condition, text))
+        self.assertTrue(said.text.startswith(f"{text.strip()} "), said.text)
         marked = names(tree.all("g", "device", "breach"), read_topology(str(here / topology)))
         edges = [edge for edge in tree.all("path", "edge", "breach")]
         return tree, marked, edges
@@ -856,7 +878,7 @@ class Replays(unittest.TestCase):
         lines = text.splitlines(keepends=True)
         for bad, reason in (
             (text[:-1], "cut short"),
-            ("".join(lines[:-1]), "they have no line done"),
+            ("".join(lines[:-1]), "it has no line done"),
             ("", "cut short"),
             ("".join(lines[1:]), "done says"),
             (text + lines[0], "a line behind the last one"),

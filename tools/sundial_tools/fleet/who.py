@@ -12,11 +12,13 @@ from sundial_tools.fleet.book import Flight
 from sundial_tools.fleet.device import ACTING, MILLION
 from sundial_tools.fleet.fleet import Fleet
 from sundial_tools.schedule import Event
+from sundial_tools.units import few
 
 Thing = Tuple[str, int]
 Stamp = Tuple[int, int]
 # Spoiled rounds that are remembered: more than `loss` can be.
 MOST_ROUNDS = 256
+MOST_NAMES = 6
 
 
 class Cause(NamedTuple):
@@ -322,12 +324,7 @@ class Watch:
         return number in self._fleet.members[self._fleet.in_force - 1]
 
     def _names(self, devices: "list[int]") -> str:
-        return _listed([self._device(number) for number in dict.fromkeys(devices)])
+        return few([self._device(number) for number in dict.fromkeys(devices)], MOST_NAMES)
 
     def _links(self, links: "list[int]") -> str:
-        return _listed([self._link(number) for number in dict.fromkeys(links)])
-
-
-def _listed(names: "list[str]") -> str:
-    shown = ", ".join(names[:6])
-    return shown + (f" and {len(names) - 6} more" if len(names) > 6 else "")
+        return few([self._link(number) for number in dict.fromkeys(links)], MOST_NAMES)

@@ -8,6 +8,7 @@ from sundial_tools.errors import ToolError
 from sundial_tools.plan import read_plan
 from sundial_tools.things import find_named, joined_to, left_without
 from sundial_tools.topology import Topology, read_topology
+from sundial_tools.units import few
 
 MOST_SHOWN = 8
 
@@ -54,6 +55,4 @@ def _told(topology: Topology, cut_off: Tuple[int, ...], roots: Tuple[int, ...], 
 
 
 def shown(topology: Topology, devices: "Tuple[int, ...] | List[int]") -> str:
-    names = [topology.devices[it].name for it in devices]
-    more = f" and {len(names) - MOST_SHOWN} more" if len(names) > MOST_SHOWN else ""
-    return ", ".join(names[:MOST_SHOWN]) + more
+    return few([topology.devices[it].name for it in devices], MOST_SHOWN)

@@ -6,9 +6,10 @@ import tomllib
 from typing import Any, Dict, Iterator, List, Optional, Set, Tuple
 
 from sundial_tools.errors import ToolError, decoded
-from sundial_tools.network.absent import shown
+from sundial_tools.network.absent import MOST_SHOWN, shown
 from sundial_tools.things import nearest
 from sundial_tools.topology import MOST_BYTES, Domain, Topology, open_bytes, parse_topology
+from sundial_tools.units import few
 
 Table = Dict[str, Any]
 TOP = ("version", "ppm", "grain", "period", "tick", "loss", "depth", "roots", "device", "link", "domain")
@@ -105,8 +106,7 @@ def _untrayed(topology: Topology) -> Iterator[str]:
     joined = {frozenset(_kinds(topology, link)) for link in within}
     out = [it for it in topology.links if it.number not in within and frozenset(_kinds(topology, it.number)) in joined]
     if trays and out:
-        names = ", ".join(it.name for it in out[:8]) + (f" and {len(out) - 8} more" if len(out) > 8 else "")
-        yield f"links are in no tray, and others like them are in one: {names}"
+        yield f"links are in no tray, and others like them are in one: {few([it.name for it in out], MOST_SHOWN)}"
 
 
 def _kinds(topology: Topology, link: int) -> List[str]:

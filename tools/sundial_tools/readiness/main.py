@@ -10,10 +10,10 @@ from sundial_tools.errors import ToolError
 from sundial_tools.inputs import as_files
 from sundial_tools.plan import default_hold, read_plan
 from sundial_tools.readiness.losses import Loss, Losses, Next, Search
-from sundial_tools.report.units import human
 from sundial_tools.safe_write import OUTPUT, Progress, whole_output
 from sundial_tools.times import time_of
 from sundial_tools.topology import read_topology, search_program, sundial_program
+from sundial_tools.units import few, human
 
 MOST_STEPS = 1 << 60
 COLUMNS = ("loss", "moving", "greatest eps", "at", "cut off", "planned again")
@@ -70,7 +70,7 @@ def _cells(loss: Loss) -> Iterator[str]:
     yield (f"{len(loss.moving)}, takes over" if loss.takes_over else str(len(loss.moving)))
     yield "none" if loss.bound.eps is None else f"{loss.bound.eps / 10**6:,.3f} us"
     yield loss.bound.device or ""
-    yield _few(loss.cut_off)
+    yield few(loss.cut_off, 3) or "-"
     yield _then(loss.next)
 
 
@@ -80,10 +80,6 @@ def _then(then: Next) -> str:
     if then.found:
         return f"by a search: {', '.join(then.roots)}"
     return f"no: {then.refusal}" + (f"; search: {then.search_refusal}" if then.searched else "")
-
-
-def _few(names: "tuple[str, ...]") -> str:
-    return ", ".join(names[:3]) + (f" and {len(names) - 3} more" if len(names) > 3 else "") if names else "-"
 
 
 def _parser() -> argparse.ArgumentParser:

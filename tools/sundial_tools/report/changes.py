@@ -2,13 +2,14 @@
 
 from __future__ import annotations
 
-from typing import FrozenSet, List, NamedTuple, Optional, Tuple
+from typing import FrozenSet, Iterator, NamedTuple, Tuple
 
-from sundial_tools.plan import Hop, Plan
+from sundial_tools.plan import Plan
 from sundial_tools.report.markup import Raw, element, folded
 from sundial_tools.report.tables import names_of, table
-from sundial_tools.report.units import count, human
+from sundial_tools.things import hop_text
 from sundial_tools.topology import Topology
+from sundial_tools.units import count, human
 
 OPEN_ROWS = 20
 
@@ -47,32 +48,25 @@ def changes_section(topology: Topology, place: int, before: Plan, after: Plan) -
     )
 
 
-def _facts(topology: Topology, before: Plan, after: Plan) -> List[str]:
+def _facts(topology: Topology, before: Plan, after: Plan) -> Iterator[str]:
     names = [device.name for device in topology.devices]
-    facts = []
     for what, old, new in ("root", before.root, after.root), ("backup root", before.backup_root, after.backup_root):
-        facts.append(f"The {what} stays {names[new]}." if old == new else f"The {what} is {names[new]} instead of {names[old]}.")
-    out, back = set(after.absent_devices) - set(before.absent_devices), set(before.absent_devices) - set(after.absent_devices)
-    if out:
-        facts.append(f"Left out: {names_of(topology, sorted(out))}.")
-    if back:
-        facts.append(f"Taken in: {names_of(topology, sorted(back))}.")
-    links = len(set(after.absent_links) - set(before.absent_links)), len(set(before.absent_links) - set(after.absent_links))
-    for what, number in zip(("Left out", "Taken in"), links):
-        if number:
-            facts.append(f"{what}: {count(number, 'link')}.")
+        yield f"The {what} stays {names[new]}." if old == new else f"The {what} is {names[new]} instead of {names[old]}."
+    for what, less, more in ("Left out", before, after), ("Taken in", after, before):
+        devices = sorted(set(more.absent_devices) - set(less.absent_devices))
+        if devices:
+            yield f"{what}: {names_of(topology, devices)}."
+    for what, less, more in ("Left out", before, after), ("Taken in", after, before):
+        links = len(set(more.absent_links) - set(less.absent_links))
+        if links:
+            yield f"{what}: {count(links, 'link')}."
     for key in "wait_first", "wait_second", "wait":
         if getattr(before, key) != getattr(after, key):
-            facts.append(f"{key} is {human(getattr(after, key))} instead of {human(getattr(before, key))}.")
-    return facts
+            yield f"{key} is {human(getattr(after, key))} instead of {human(getattr(before, key))}."
 
 
 def _hops(topology: Topology, plan: Plan, device: int) -> Tuple[str, str]:
     row = plan.rows.get(device)
     if row is None:
         return ("root" if device == plan.root else "left out", "")
-    return _hop(topology, row.primary), _hop(topology, row.backup)
-
-
-def _hop(topology: Topology, hop: Optional[Hop]) -> str:
-    return "none" if hop is None else f"{topology.devices[hop.parent].name} over {topology.links[hop.link].name}"
+    return hop_text(topology, row.primary), "none" if row.backup is None else hop_text(topology, row.backup)

@@ -11,15 +11,15 @@ from sundial_tools.plan import Plan
 from sundial_tools.report.drill import Drill, Group
 from sundial_tools.report.markup import Raw, element, filled, folded, joined, region
 from sundial_tools.report.parts import MEANING, Makeup, Parts
-from sundial_tools.report.tables import Cell, names_of, table
-from sundial_tools.report.units import clear, column, count, in_unit, unit_of
+from sundial_tools.report.tables import Column, by_columns, exact, names_of
 from sundial_tools.things import find_named
 from sundial_tools.topology import Topology
+from sundial_tools.units import clear, count, few, in_unit, unit_of
 
 SHADES, MOST_COLUMNS, MOST_ROWS, MOST_NAMES, OPEN_ROWS = 9, 16, 100, 12, 40
 
 
-class Column(NamedTuple):
+class Beside(NamedTuple):
     """Devices that are one column, by their places in the drill."""
 
     label: str
@@ -45,9 +45,7 @@ class Alike(NamedTuple):
 class DrillSection:
     """`calm` has by device what it stays below while nothing has failed, where that is known. `patterns` say of which devices."""
 
-    def __init__(
-        self, topology: Topology, plan: Plan, drill: Drill, calm: Dict[int, int], makeup: Makeup, patterns: Sequence[str]
-    ) -> None:
+    def __init__(self, topology: Topology, plan: Plan, drill: Drill, calm: Dict[int, int], makeup: Makeup, patterns: Sequence[str]) -> None:
         self._topology, self._plan, self._drill, self._calm, self._makeup = topology, plan, drill, calm, makeup
         self._names = [topology.devices[device].name for device in drill.devices]
         self._rack = {device: domain.number for domain in reversed(topology.domains) for device in domain.devices}
@@ -74,7 +72,7 @@ class DrillSection:
         self._is_edge = bool(found) and not patterns
         return found or list(range(len(self._names)))
 
-    def _made_columns(self) -> List[Column]:
+    def _made_columns(self) -> List[Beside]:
         places: Dict[Tuple[object, ...], List[int]] = {}
         single = len(self._of) <= MOST_COLUMNS
         roots = {self._plan.root: ("0", "R "), self._plan.backup_root: ("1", "B ")}
@@ -84,7 +82,7 @@ class DrillSection:
             key = (order, role_of(name), self._rack.get(device, len(self._rack)), place) if single or sign else (order, role_of(name))
             places.setdefault((*key, sign), []).append(place)
         return [
-            Column(f"{key[-1]}{self._names[found[0]]}" + (f" and {len(found) - 1} alike" if len(found) > 1 else ""), tuple(found))
+            Beside(f"{key[-1]}{_alike([self._names[place] for place in found])}", tuple(found))
             for key, found in sorted(places.items(), key=lambda one: tuple(map(str, one[0][:2])) + (one[1],))
         ]
 
@@ -97,7 +95,7 @@ class DrillSection:
                 rows.setdefault((kind, role_of(name), cells), Alike([], group, cells)).domains.append(domain)
         return sorted(rows.values(), key=lambda row: (-row.worst, row.unbounded))
 
-    def _cell_of(self, group: Group, column: Column) -> Tuple[Optional[int], int]:
+    def _cell_of(self, group: Group, column: Beside) -> Tuple[Optional[int], int]:
         bounds = [group.bounds[place] for place in column.places]
         return max((bound for bound in bounds if bound is not None), default=None), sum(bound is None for bound in bounds)
 
@@ -146,14 +144,13 @@ class DrillSection:
         rows = [element("tr", self._row_heads(row, size), [self._cell(row, place, size) for place in range(len(self._columns))]) for row in shown]
         whole = element("table", element("thead", element("tr", heads)), element("tbody", rows), class_="heat")
         more = self._rows[MOST_ROWS:]
-        said = f"{sum(len(row.domains) for row in more)} domains more are at most {clear(more[0].worst)} wide." if more else ""
-        return joined([region("The drill by domains and devices", whole, class_="table"), element("p", said, class_="note") if more else ""])
+        said = [f"{sum(len(row.domains) for row in more)} domains more are at most {clear(more[0].worst)} wide."] if more else []
+        return joined([region("The drill by domains and devices", whole, class_="table"), *(element("p", text, class_="note") for text in said)])
 
     def _row_heads(self, row: Alike, size: int) -> List[Raw]:
-        names = ", ".join(row.domains[:MOST_NAMES]) + (f" and {len(row.domains) - MOST_NAMES} more" if len(row.domains) > MOST_NAMES else "")
-        label = row.domains[0] + (f" and {len(row.domains) - 1} alike" if len(row.domains) > 1 else "")
         worst = "none" if row.worst < 0 else in_unit(row.worst, size)
-        return [element("th", label, scope="row", title=names), *(element("td", text, class_="number") for text in (str(len(row.domains)), worst, str(row.unbounded)))]
+        head = element("th", _alike(row.domains), scope="row", title=few(row.domains, MOST_NAMES))
+        return [head, *(element("td", text, class_="number") for text in (str(len(row.domains)), worst, str(row.unbounded)))]
 
     def _cell(self, row: Alike, place: int, size: int) -> Raw:
         bound, unbounded = row.cells[place]
@@ -167,35 +164,28 @@ class DrillSection:
 
     def _by_device(self) -> Raw:
         """Devices that are alike have one row."""
-        without = dict.fromkeys(self._of, 0)
-        for group in self._drill.groups:
-            for place in self._of:
-                without[place] += len(group.domains) * (group.bounds[place] is None)
+        without = {place: sum(len(group.domains) for group in self._drill.groups if group.bounds[place] is None) for place in self._of}
+        calm = {place: self._calm.get(self._drill.devices[place], 0) for place in self._of}
         rows: Dict[Tuple[object, ...], List[int]] = {}
         for place, (bound, _, parts) in sorted(self._parts.items(), key=lambda one: (-one[1][0], one[0])):
-            rows.setdefault((role_of(self._names[place]), bound, parts, self._calm.get(self._drill.devices[place]), without[place]), []).append(place)
+            rows.setdefault((role_of(self._names[place]), bound, parts, calm[place], without[place]), []).append(place)
         firsts = [found[0] for found in rows.values()]
-        worst, calm = column([self._parts[place][0] for place in firsts]), column([self._calm.get(self._drill.devices[place], 0) for place in firsts])
-        head = ["device", *([f"calm, {calm.unit}"] if self._calm else []), f"worst eps, {worst.unit}", *(["what makes it"] if self.is_explained else []), "under", "domains without bound"]
-        cells: List[List[Cell]] = []
-        for found, text, calm_text in zip(rows.values(), worst.texts, calm.texts):
-            bound, domain, parts = self._parts[found[0]]
-            row: List[Cell] = [self._names_of(found)]
-            row += [(calm_text, self._calm.get(self._drill.devices[found[0]], 0))] if self._calm else []
-            row += [(text, bound), *([self._bar(parts)] if parts is not None and self.is_explained else []), domain, str(without[found[0]])]
-            cells.append(row)
+        made = [self._bar(parts) for _, _, parts in map(self._parts.__getitem__, firsts) if parts is not None]
+        columns: List[Column] = [
+            ("device", list(map(self._names_of, rows.values()))), *(exact(["calm, {}"], [[calm[place] for place in firsts]]) if self._calm else []),
+            *exact(["worst eps, {}"], [[self._parts[place][0] for place in firsts]]), *([("what makes it", made)] if self.is_explained else []),
+            ("under", [self._parts[place][1] for place in firsts]), ("domains without bound", [str(without[place]) for place in firsts]),
+        ]
         keys = [filled("key", key=f"part {part}", text=text) for part, text in MEANING.items()]
         legend = element("p", keys, class_="legend") if self.is_explained else ""
-        return folded(f"The worst eps by device: {count(len(cells), 'row')}, the greatest first", legend, table("by-device", head, cells), is_open=len(cells) <= OPEN_ROWS)
+        caption = f"The worst eps by device: {count(len(firsts), 'row')}, the greatest first"
+        return folded(caption, legend, by_columns("by-device", columns), is_open=len(firsts) <= OPEN_ROWS)
 
     def _bar(self, parts: Parts) -> Raw:
         """The parts beside each other, as long as they are of the greatest number."""
-        said = [f"{MEANING[part]}: {clear(size)}" for part, size in parts._asdict().items()]
-        bars = [
-            element("i", class_=f"part {part}", title=text, style=f"--w:{size / self._worst:.2%}")
-            for (part, size), text in zip(parts._asdict().items(), said)
-        ]
-        return element("span", bars, class_="parts", role="img", aria_label="; ".join(said))
+        said = {part: f"{MEANING[part]}: {clear(size)}" for part, size in parts._asdict().items()}
+        bars = [element("i", class_=f"part {part}", title=text, style=f"--w:{getattr(parts, part) / self._worst:.2%}") for part, text in said.items()]
+        return element("span", bars, class_="parts", role="img", aria_label="; ".join(said.values()))
 
     def _names_of(self, places: Sequence[int]) -> str:
         return names_of(self._topology, [self._drill.devices[place] for place in places])
@@ -203,6 +193,10 @@ class DrillSection:
 
 def budget_text(makeup: Makeup) -> str:
     return f"BASE {clear(makeup.base)}, HOLD {clear(makeup.hold)}."
+
+
+def _alike(names: Sequence[str]) -> str:
+    return names[0] + (f" and {len(names) - 1} alike" if len(names) > 1 else "")
 
 
 def role_of(name: str) -> str:

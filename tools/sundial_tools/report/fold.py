@@ -9,10 +9,10 @@ from __future__ import annotations
 import math
 from dataclasses import dataclass, field
 from functools import cached_property
-from typing import Dict, FrozenSet, Iterator, List, NamedTuple, Optional, Tuple
+from typing import Dict, FrozenSet, Iterator, List, NamedTuple, Tuple
 
 from sundial_tools.plan import Plan
-from sundial_tools.topology import Topology
+from sundial_tools.tree import Tree
 
 # A row is at most so wide: at the least zoom its middle, where the root is, stays in sight on a narrow page.
 WIDE, GAP = 930.0, 18.0
@@ -129,48 +129,6 @@ class Fold(NamedTuple):
     loose: bool = False
 
 
-class Tree:
-    """The devices of a plan below each other, by their primary hops. `depths` says how many hops each is below the root."""
-
-    def __init__(self, topology: Topology, plan: Plan) -> None:
-        self.topology, self.plan = topology, plan
-        self.members = plan.members(topology)
-        self.depths = _depths(plan, self.members)
-        self.lost = [it for it in self.members if self.depths[it] > len(self.members)]
-        for device in self.lost:
-            self.depths[device] = max((depth for depth in self.depths.values() if depth <= len(self.members)), default=0) + 1
-        lost, known = set(self.lost), set(self.members)
-        self.children: Dict[int, List[int]] = {}
-        for device in self.members:
-            row = plan.rows.get(device)
-            if row is not None and device not in lost and device != plan.root and row.primary.parent in known:
-                self.children.setdefault(row.primary.parent, []).append(device)
-
-    def below(self, device: int) -> List[int]:
-        """The subtree of a device, with the device first."""
-        found, waiting = [], [device]
-        while waiting:
-            found.append(waiting.pop())
-            waiting += reversed(self.children.get(found[-1], ()))
-        return found
-
-
-def _depths(plan: Plan, members: List[int]) -> Dict[int, int]:
-    """How many primary links each member is below the root, and more than there are members where it does not reach it."""
-    depths = {plan.root: 0}
-    for member in members:
-        chain: List[int] = []
-        device: Optional[int] = member
-        while device is not None and device not in depths and device not in chain:
-            chain.append(device)
-            row = plan.rows.get(device)
-            device = row.primary.parent if row else None
-        begin = depths[device] if device is not None and device in depths else len(members) + 1
-        for place, passed in enumerate(reversed(chain), 1):
-            depths[passed] = begin + place
-    return {member: depths[member] for member in members}
-
-
 def draw(tree: Tree, alone: FrozenSet[int] = frozenset()) -> Drawing:
     """The boxes and edges of a plan, folded as little as the page needs, and not yet laid out."""
     folder = _Folder(tree, alone | {tree.plan.root, tree.plan.backup_root} | frozenset(tree.lost))
@@ -222,8 +180,8 @@ class _Folder:
                 else:
                     waiting.append(child)
             for alike in heads.values():
-                whole = len(alike) >= LEAST_MERGED
-                boxes += [self._box(len(boxes) + place, group) for place, group in enumerate([alike] if whole else [[it] for it in alike])]
+                for group in [alike] if len(alike) >= LEAST_MERGED else [[it] for it in alike]:
+                    boxes.append(self._box(len(boxes), group))
         return boxes
 
     def _key(self, device: int, fold: Fold) -> Tuple[object, ...]:

@@ -63,20 +63,14 @@ class _Rows:
 
     def _set_levels(self, rank: int) -> float:
         """Gives each hop within a rank the least level on which it meets no other, short ones first. Answers their depth."""
-        spans: List[Tuple[float, float, float, int]] = []
-        for place, edge in enumerate(self._drawing.edges):
-            parent, child = self._ends(edge)
-            if parent.rank == rank == child.rank:
-                spans.append((abs(parent.x - child.x), min(parent.x, child.x), max(parent.x, child.x), place))
+        ends = [(place, *self._ends(edge)) for place, edge in enumerate(self._drawing.edges)]
+        spans = [(min(one.x, two.x), max(one.x, two.x), place) for place, one, two in ends if one.rank == rank == two.rank]
         taken: List[List[Tuple[float, float]]] = []
-        for _, left, right, place in sorted(spans):
-            level = 0
-            while level < len(taken) and any(left <= end and begin <= right for begin, end in taken[level]):
-                level += 1
-            if level == len(taken):
-                taken.append([])
+        for left, right, place in sorted(spans, key=lambda span: (span[1] - span[0], span)):
+            free = (level for level, on in enumerate(taken) if all(end < left or right < begin for begin, end in on))
+            level = self._levels[place] = next(free, len(taken))
+            taken += [[]] if level == len(taken) else []
             taken[level].append((left, right))
-            self._levels[place] = level
         return _sag(len(taken) - 1) if taken else 0.0
 
     def _ports(self) -> Dict[Tuple[int, int], float]:
@@ -108,9 +102,7 @@ class _Rows:
     def _between(self, edge: Edge, begin: float, end: float) -> List[Point]:
         """From the lower side of the upper box to the upper side of the lower one, given from parent to child."""
         parent, child = self._ends(edge)
-        if parent.rank > child.rank:
-            return self._fall(child, end, parent, begin)[::-1]
-        return self._fall(parent, begin, child, end)
+        return self._fall(parent, begin, child, end) if parent.rank < child.rank else self._fall(child, end, parent, begin)[::-1]
 
     def _fall(self, upper: Box, begin: float, lower: Box, end: float) -> List[Point]:
         """Curves between the rows, and straight lines down between the boxes of the rows that it passes."""

@@ -5,19 +5,19 @@ from __future__ import annotations
 import argparse
 import os
 import time
-from typing import Dict, Iterator, List, Optional, Tuple
+from typing import Callable, Dict, Iterator, List, Optional, Tuple, TypeVar
 
 from sundial_tools import __version__
-from sundial_tools.calm import CalmReader
+from sundial_tools.calm import read_calm
 from sundial_tools.errors import ToolError
 from sundial_tools.inputs import as_files, read_lines
-from sundial_tools.outputs import OutputLine, read_output
+from sundial_tools.outputs import NotComputed, OutputLine, read_output
 from sundial_tools.plan import Plan, default_hold, read_plan
 from sundial_tools.report.changes import changes_section
-from sundial_tools.report.drill import Drill, DrillReader
+from sundial_tools.report.drill import Drill, read_drill
 from sundial_tools.report.drill_section import DrillSection, budget_text
 from sundial_tools.report.markup import Raw, element
-from sundial_tools.report.page import contents, page, source, sources_table
+from sundial_tools.report.page import contents, page, sources_table
 from sundial_tools.report.parts import Makeup
 from sundial_tools.report.readiness import Readiness, read_readiness
 from sundial_tools.report.readiness_section import readiness_section
@@ -25,16 +25,17 @@ from sundial_tools.report.refusal import Refusal, refusal_of
 from sundial_tools.report.replay import Replay, ReplayReader
 from sundial_tools.report.replay_section import replay_section
 from sundial_tools.report.tree_section import TreeSection
-from sundial_tools.report.units import clear, count, human
 from sundial_tools.report.verdict import WORDS, verdict
 from sundial_tools.safe_write import Progress, whole_output
 from sundial_tools.times import time_option
 from sundial_tools.topology import Topology, read_topology
+from sundial_tools.units import clear, count, human
 
 PARTS = ("tree", "drill", "replay", "readiness")
 # How wide a plan is at the least where plans stand side by side, in pixels of the page.
 LEAST_BESIDE, MOST_BESIDE = 360, 520
 BASE = 10**6
+Numbers = TypeVar("Numbers")
 
 
 def main(words: List[str]) -> int:
@@ -76,15 +77,10 @@ def _parser() -> argparse.ArgumentParser:
     )
     parser.add_argument("--readiness", metavar="FILE", help="what `sundial-readiness --json` printed over the first plan")
     parser.add_argument(
-        "--replay",
-        nargs=2,
-        metavar=("SCHEDULE", "FILE"),
-        help="a schedule, and what `sundial replay` or `order` printed",
+        "--replay", nargs=2, metavar=("SCHEDULE", "FILE"), help="a schedule, and what `sundial replay` or `order` printed"
     )
     parser.add_argument("--domain", metavar="DOMAIN", help="show the trees under this domain, as 'listed rack0'")
-    parser.add_argument(
-        "--only", metavar="PART", choices=PARTS, action="append", help="only this part: tree, drill, replay or readiness"
-    )
+    parser.add_argument("--only", metavar="PART", choices=PARTS, action="append", help="only this part: tree, drill, replay or readiness")
     parser.add_argument("--text", metavar="FILE", help="write the verdict as plain text, too, for those who cannot see the page")
     parser.add_argument("--title", metavar="TEXT", help="the heading of the page")
     parser.add_argument("--output", "-o", metavar="FILE", help="where the page goes (default: standard output)")
@@ -106,35 +102,29 @@ class _Report:
 
     def page(self) -> str:
         self._check()
-        drill, calm, replay, readiness = self._drill(), self._calm(), self._replay(), self._readiness()
+        drill, calm, replay = self._computed(self._said.drill, read_drill), self._computed(self._said.bounds, read_calm), self._replay()
+        name = self._said.readiness
+        readiness = None if name is None else read_readiness(read_lines(name), self._topology, name)
         shown = replay if replay is not None and replay.refused_plan is None else None
-        accepted = self._accepted or drill is not None or calm is not None or readiness is not None
-        refusals = [self._refusals[place] for place in sorted(self._refusals)]
-        links: List[Tuple[str, str]] = [("verdict", "Verdict")]
-        self.verdict = verdict(refusals, shown, accepted)
-        sections: List[Raw] = [self.verdict.html()]
-        if shown is not None and self._wants("replay"):
-            links.append(("replay", "Replay"))
-            sections.append(replay_section(self._topology, shown, calm or {}))
-        if self._wants("tree"):
-            links += [("plans", "Plans" if len(self._plans) > 1 else "Plan")]
-            sections.append(self._trees())
-        if drill is not None and self._wants("drill"):
-            links.append(("drill", "Drill"))
-            sections.append(self._drilled(drill, calm or {}, readiness))
-        if readiness is not None and self._wants("readiness"):
-            links.append(("readiness", "Readiness"))
-            sections.append(readiness_section(readiness))
-        opening = [self._facts(), contents([*links, ("files", "Files")])]
-        return page(self._said.title or "Sundial: a fabric and its plans", WORDS[self.verdict.kind], opening, [*sections, self._files()])
+        accepted = self._accepted or any(it is not None for it in (drill, calm, readiness))
+        self.verdict = verdict([self._refusals[place] for place in sorted(self._refusals)], shown, accepted)
+        parts: List[Tuple[str, str, Optional[Raw]]] = [
+            ("verdict", "Verdict", self.verdict.html()),
+            ("replay", "Replay", replay_section(self._topology, shown, calm or {}) if shown is not None and self._wants("replay") else None),
+            ("plans", "Plans" if len(self._plans) > 1 else "Plan", self._trees() if self._wants("tree") else None),
+            ("drill", "Drill", self._drilled(drill, calm or {}, readiness) if drill is not None and self._wants("drill") else None),
+            ("readiness", "Readiness", readiness_section(readiness) if readiness is not None and self._wants("readiness") else None),
+            ("files", "Files", self._files()),
+        ]
+        links = contents([(anchor, text) for anchor, text, section in parts if section is not None])
+        sections = [section for *_, section in parts if section is not None]
+        return page(self._said.title or "Sundial: a fabric and its plans", WORDS[self.verdict.kind], [self._facts(), links], sections)
 
     def _drilled(self, drill: Drill, calm: Dict[int, int], readiness: Optional[Readiness]) -> Raw:
         """The drill, with BASE and HOLD as they are said, or as readiness has them."""
         said, plan = self._said, self._plans[0]
         base, hold = readiness.budget if readiness is not None else (BASE, default_hold(self._topology, plan))
-        makeup = Makeup(
-            self._topology, plan, base if said.base is None else said.base, hold if said.hold is None else said.hold
-        )
+        makeup = Makeup(self._topology, plan, base if said.base is None else said.base, hold if said.hold is None else said.hold)
         section = DrillSection(self._topology, plan, drill, calm, makeup, said.of)
         if readiness is not None and (makeup.base, makeup.hold) != readiness.budget:
             raise ToolError(f"sundial-readiness had BASE {clear(base)} and HOLD {clear(hold)}: make it and the drill with the same", said.readiness)
@@ -158,26 +148,19 @@ class _Report:
         return Raw(element("p", made, class_="made") + element("p", text, class_="facts"))
 
     def _files(self) -> Raw:
-        said, sources = self._said, [source(f"topology, version {self._topology.version}", self._said.topology)]
-        sources += [source(f"plan {place}, version 1", path) for place, path in enumerate(said.plans, 1)]
+        said, sources = self._said, [(f"topology, version {self._topology.version}", self._said.topology)]
+        sources += [(f"plan {place}, version 1", path) for place, path in enumerate(said.plans, 1)]
         for what, path in ("check", said.check), ("drill", said.drill), ("bounds", said.bounds), ("sundial-readiness", said.readiness):
-            sources += [source(f"output of {what}", path)] if path else []
-        if said.replay:
-            sources += [source("schedule", said.replay[0]), source("output of replay or order", said.replay[1])]
+            sources += [(f"output of {what}", path)] if path else []
+        sources += zip(("schedule", "output of replay or order"), said.replay or ())
         return element("section", element("h2", "Files", id="files"), sources_table(sources, f", {_today()}"), class_="sources")
 
     def _trees(self) -> Raw:
-        trees: List[TreeSection] = []
-        for place, plan in enumerate(self._plans, 1):
-            before = self._plans[place - 2] if place > 1 else None
-            trees.append(
-                TreeSection(
-                    self._topology, plan, place, self._refusals.get(place), self._said.domain, before
-                )
-            )
-        changes = [
-            changes_section(self._topology, place, *pair) for place, pair in enumerate(zip(self._plans, self._plans[1:]), 1)
+        trees = [
+            TreeSection(self._topology, plan, place, self._refusals.get(place), self._said.domain, before)
+            for place, (plan, before) in enumerate(zip(self._plans, [None, *self._plans]), 1)
         ]
+        changes = [changes_section(self._topology, place, *pair) for place, pair in enumerate(zip(self._plans, self._plans[1:]), 1)]
         heading = "Plans: who follows whom" if len(trees) > 1 else "Plan: who follows whom"
         # Small trees stand side by side on a narrower page than large ones.
         least = min(max(max(tree.width for tree in trees), LEAST_BESIDE), MOST_BESIDE)
@@ -198,42 +181,22 @@ class _Report:
         for line, text in zip(read_output(lines, name), lines):
             if line.kind.startswith("refused"):
                 self._refused(line, text[:-1], name)
-            elif line.kind == "accepted":
-                self._accepted = True
-            else:
+            elif line.kind != "accepted":
                 raise ToolError(f"no line of a check: {text[:80]!r}", name)
+            self._accepted = self._accepted or line.kind == "accepted"
 
-    def _drill(self) -> Optional[Drill]:
-        name = self._said.drill
+    def _computed(self, name: Optional[str], read: Callable[[Iterator[str], Topology, str], Numbers]) -> Optional[Numbers]:
+        """What a command computed, or None where it computed nothing, as of a refused plan."""
         if name is None:
             return None
-        reader = DrillReader(self._topology, name)
         with Progress(name) as progress:
-            drill = reader.read(_stepped(name, progress))
-        self._other(reader.other, name)
-        return drill
-
-    def _calm(self) -> Optional[Dict[int, int]]:
-        name = self._said.bounds
-        if name is None:
-            return None
-        reader = CalmReader(self._topology, name)
-        with Progress(name) as progress:
-            calm = reader.read(_stepped(name, progress))
-        self._other(reader.other, name)
-        return calm
-
-    def _other(self, other: Optional[Tuple[OutputLine, str]], name: str) -> None:
-        """A line that says why nothing was computed."""
-        if other is not None:
-            line, text = other
-            if not line.kind.startswith("refused"):
-                raise ToolError(f"sundial refused its input: {text}", name)
-            self._refused(line, text, name)
-
-    def _readiness(self) -> Optional[Readiness]:
-        name = self._said.readiness
-        return None if name is None else read_readiness(read_lines(name), self._topology, name)
+            try:
+                return read(_stepped(name, progress), self._topology, name)
+            except NotComputed as said:
+                if not said.line.kind.startswith("refused"):
+                    raise ToolError(f"sundial refused its input: {said.text}", name) from None
+                self._refused(said.line, said.text, name)
+        return None
 
     def _replay(self) -> Optional[Replay]:
         if self._said.replay is None:

@@ -11,8 +11,6 @@ from string import Template
 from typing import Dict, Iterable, List, Union
 
 Value = Union[str, int, float, bool, None]
-# A picture shrinks so far on a narrow page, and then its region scrolls.
-LEAST_ZOOM = 0.7
 HERE = pathlib.Path(__file__).resolve().parent
 EMPTY = frozenset(("meta", "br", "input", "link", "hr"))
 
@@ -67,23 +65,6 @@ def _templates() -> Dict[str, Template]:
 def title(text: str) -> Raw:
     """What a browser shows where the mouse rests."""
     return element("title", text)
-
-
-def drawing(
-    name: str, label: str, width: float, height: float, zoom: float, *content: Union[str, Iterable[str]], role: str = "img", side: float = 0
-) -> Raw:
-    """An svg of this size, whose squares have this side. It is in a `region`, which scrolls where the page is narrow."""
-    return element(
-        "svg",
-        *content,
-        class_=name,
-        viewBox=f"0 0 {width:.0f} {height:.0f}",
-        width=round(width * zoom),
-        height=round(height * zoom),
-        style=f"min-width:{width * LEAST_ZOOM:.0f}px" + (f";--side:{side:.0f}px" if side else ""),
-        role=role,
-        aria_label=label,
-    )
 
 
 def region(label: str, *content: Union[str, Iterable[str]], class_: str = "") -> Raw:

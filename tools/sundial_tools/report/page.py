@@ -3,38 +3,22 @@
 from __future__ import annotations
 
 import hashlib
-from typing import List, NamedTuple, Sequence, Tuple
+from typing import List, Sequence, Tuple
 
 from sundial_tools.inputs import shown
 from sundial_tools.report.markup import HERE, Raw, element, filled, folded
 from sundial_tools.report.tables import Cell, table
 
-CHUNK = 1 << 20
 
-
-class Source(NamedTuple):
-    """A file that the page was made of: what it is, its name, how many bytes it has, and the first digits of its SHA-256."""
-
-    what: str
-    name: str
-    size: int
-    digest: str
-
-
-def source(what: str, path: str) -> Source:
-    digest, size = hashlib.sha256(), 0
-    with open(path, "rb") as file:
-        while chunk := file.read(CHUNK):
-            digest.update(chunk)
-            size += len(chunk)
-    return Source(what, shown(path), size, digest.hexdigest()[:16])
-
-
-def sources_table(sources: Sequence[Source], made: str) -> Raw:
-    rows: List[List[Cell]] = [[one.what, one.name, (f"{one.size:,}", one.size), one.digest] for one in sources]
-    return folded(
-        f"Made of {len(sources)} files{made}", table("files", ("what", "file", "bytes", "SHA-256 begins with"), rows), class_="files"
-    )
+def sources_table(sources: Sequence[Tuple[str, str]], made: str) -> Raw:
+    """The files that the page was made of: what each is, its name, its bytes, and the first digits of its SHA-256."""
+    rows: List[List[Cell]] = []
+    for what, path in sources:
+        with open(path, "rb") as file:
+            digest, size = hashlib.file_digest(file, "sha256").hexdigest(), file.tell()
+        rows.append([what, shown(path), (f"{size:,}", size), digest[:16]])
+    head = ("what", "file", "bytes", "SHA-256 begins with")
+    return folded(f"Made of {len(sources)} files{made}", table("files", head, rows), class_="files")
 
 
 def contents(links: Sequence[Tuple[str, str]]) -> Raw:

@@ -14,7 +14,7 @@ from sundial_tools.report.replay import Mark
 from sundial_tools.report.replay_view import WIDE, ReplayView, greatest
 from sundial_tools.report.series import Interval, Report
 from sundial_tools.report.tracks import MEANING, STATES, Span, Tracks
-from sundial_tools.report.units import clear, count, human, round_steps, unit_of
+from sundial_tools.units import clear, count, human, round_steps, unit_of
 
 TRACK, EPS, OFF = 20.0, 220.0, 120.0
 # Height of a state within its track: from and to. Who reads no colours tells them by these.
@@ -54,9 +54,7 @@ def axis(view: ReplayView, where: str) -> Raw:
 
 
 def _row(kind: str, name: Raw, *strip: "str | Iterable[str]", **more: "str | int | None") -> Raw:
-    return element(
-        "div", element("div", name, class_="name"), element("div", *strip, class_="strip"), class_=f"row {kind}", **more
-    )
+    return element("div", element("div", name, class_="name"), element("div", *strip, class_="strip"), class_=f"row {kind}", **more)
 
 
 def _picture(height: float, label: str, *content: "str | Iterable[str]", class_: "str | None" = None) -> Raw:
@@ -71,15 +69,11 @@ def _picture(height: float, label: str, *content: "str | Iterable[str]", class_:
 
 def _bands(view: ReplayView) -> Raw:
     """Where a premise broke or an alarm was raised. From the first broken premise on nothing is promised."""
-    parts: List[Raw] = []
-    marks, broken = _wrong(view), view.replay.marks["broken"]
-    if broken:
-        begin = view.share(broken[0].ref)
-        parts.append(element("div", class_="band void", style=f"--x:{begin:.5f};--w:{1 - begin:.5f}"))
-    places = {(mark.kind, round(view.share(mark.ref) * STEPS)): mark for mark in reversed(marks)}
-    for (kind, _), mark in list(places.items())[:MOST_BANDS]:
-        parts.append(element("div", class_=f"band {kind}", style=f"--x:{view.share(mark.ref):.5f}"))
-    return element("div", parts, class_="bands", aria_hidden="true")
+    begins = [view.share(mark.ref) for mark in view.replay.marks["broken"][:1]]
+    void = [element("div", class_="band void", style=f"--x:{begin:.5f};--w:{1 - begin:.5f}") for begin in begins]
+    places = {(mark.kind, round(view.share(mark.ref) * STEPS)): mark for mark in reversed(_wrong(view))}
+    bands = [element("div", class_=f"band {it.kind}", style=f"--x:{view.share(it.ref):.5f}") for it in list(places.values())[:MOST_BANDS]]
+    return element("div", void, bands, class_="bands", aria_hidden="true")
 
 
 def _wrong(view: ReplayView) -> List[Mark]:
@@ -90,11 +84,12 @@ def _wrong(view: ReplayView) -> List[Mark]:
 def _broken_row(view: ReplayView) -> Raw:
     """What the bands are of."""
     marks = _wrong(view)
-    if not marks:
-        return Raw("")
-    numbers = view.replay.mark_counts["broken"], count(sum(mark.kind == "alarm" for mark in marks), "alarm")
-    label = f"{count(numbers[0], 'broken premise')} and {numbers[1]}. The table of what happened has them"
-    return _row("track wrong", element("b", "broken, alarms"), _picture(TRACK, label), _signs(view, marks[:MOST_BANDS]))
+    label = f"{count(view.replay.mark_counts['broken'], 'broken premise')} and {count(sum(mark.kind == 'alarm' for mark in marks), 'alarm')}"
+    return _marks_row(view, "track wrong", "broken, alarms", f"{label}. The table of what happened has them", marks[:MOST_BANDS])
+
+
+def _marks_row(view: ReplayView, kind: str, name: str, label: str, marks: Sequence[Mark]) -> Raw:
+    return _row(kind, element("b", name), _picture(TRACK, label), _signs(view, marks)) if marks else Raw("")
 
 
 # Signs on tracks
@@ -105,15 +100,13 @@ def _signs(view: ReplayView, marks: Sequence[Mark]) -> Raw:
     places: Dict[Tuple[str, int], List[Mark]] = {}
     for mark in marks:
         places.setdefault((mark.kind, round(view.share(mark.ref) * STEPS)), []).append(mark)
-    parts = []
-    for (kind, _), found in places.items():
-        parts.append(
-            element(
-                "b", SIGNS[kind], class_=f"mark {kind}", style=f"--x:{view.share(found[0].ref):.5f}", title=_said(found),
-                data_line=found[0].line, data_count=len(found),
-            )
+    return joined(
+        element(
+            "b", SIGNS[kind], class_=f"mark {kind}", style=f"--x:{view.share(found[0].ref):.5f}", title=_said(found),
+            data_line=found[0].line, data_count=len(found),
         )
-    return joined(parts)
+        for (kind, _), found in places.items()
+    )
 
 
 def _said(marks: Sequence[Mark]) -> str:
@@ -126,10 +119,8 @@ def _plan_row(view: ReplayView) -> Raw:
     """Stages, commits and closings, and what is of no one device: links that fail or are mended."""
     marks = view.replay.marks["plan"] + [mark for mark in view.replay.marks["failure"] if mark.device is None]
     marks += [mark for mark in view.replay.marks["alarm"] if mark.kind == "disorder"]
-    if not marks:
-        return Raw("")
     label = f"{count(view.replay.mark_counts['plan'], 'event')} of renewals, and links that failed or were mended"
-    return _row("track plans", element("b", "plans, links"), _picture(TRACK, label), _signs(view, marks[:MOST_SIGNS]))
+    return _marks_row(view, "track plans", "plans, links", label, marks[:MOST_SIGNS])
 
 
 # Tracks
@@ -140,10 +131,9 @@ def _tracks(view: ReplayView) -> List[Raw]:
     if tracks is None:
         return []
     marks: Dict[int, List[Mark]] = {}
-    for lane in "failure", "move", "takeover", "alarm":
-        for mark in view.replay.marks[lane]:
-            if mark.device is not None and mark.kind != "disorder":
-                marks.setdefault(mark.device, []).append(mark)
+    for mark in (mark for lane in ("failure", "move", "takeover", "alarm") for mark in view.replay.marks[lane]):
+        if mark.device is not None and mark.kind != "disorder":
+            marks.setdefault(mark.device, []).append(mark)
     room, rows = MOST_SIGNS, []
     for devices in tracks_alike(view):
         found = [mark for device in devices for mark in marks.get(device, ())][:room]
@@ -171,12 +161,8 @@ def tracks_alike(view: ReplayView) -> List[List[int]]:
 
 def _track(view: ReplayView, devices: Sequence[int], spans: Sequence[Span], marks: Sequence[Mark]) -> Raw:
     name = view.name(devices[0]) + (f" +{len(devices) - 1}" if len(devices) > 1 else "")
-    paths: List[Raw] = []
-    for state in STATES:
-        found = [span for span in spans if span.state == state]
-        if found and SHAPES[state]:
-            d = "".join(_bar(view, span, *shape) for span in found for shape in SHAPES[state])
-            paths.append(element("path", title(f"{name} {MEANING[state]}"), class_=f"state {state}", d=d))
+    drawn = {state: "".join(_bar(view, span, *shape) for span in spans if span.state == state for shape in SHAPES[state]) for state in STATES}
+    paths = [element("path", title(f"{name} {MEANING[state]}"), class_=f"state {state}", d=d) for state, d in drawn.items() if d]
     picture = _picture(TRACK, f"{view.names(devices)}: {spans_said(view, spans)}", paths)
     label = element("b", name, title=view.names(devices, 40) if len(devices) > 1 else None)
     return _row("track", label, picture, _signs(view, marks), data_devices=" ".join(map(str, devices)))
@@ -197,26 +183,21 @@ def spans_said(view: ReplayView, spans: Sequence[Span]) -> str:
 
 
 class _Scale:
-    """From a value to a height in a picture, and the values that are marked."""
+    """From a value to a height in the picture of eps, and the values that are marked."""
 
-    def __init__(self, kind: str, least: int, most: int, height: float) -> None:
-        self.kind, self._least, self._most, self._height = kind, max(1, least), max(2, most), height
+    def __init__(self, kind: str, least: int, most: int) -> None:
+        self.kind, least, most = kind, max(1, least), max(2, most)
+        self._base, self._range = (0.0, most) if kind == "linear" else (math.log(least), max(1e-9, math.log(most) - math.log(least)))
+        size, decades = unit_of(most)[0], math.log10(most / least)
+        factors = (1, 2, 5) if decades < 2 else (1, 3) if decades < 4 else (1,)
+        self.marked = (
+            [round(step * size) for step in round_steps(0, most / size, 4)] if kind == "linear"
+            else [value for power in range(20) for value in (factor * 10**power for factor in factors) if least <= value <= most]
+        )
 
     def y(self, value: float) -> float:
-        if self.kind == "linear":
-            part = value / self._most
-        else:
-            low, high = math.log(self._least), math.log(self._most)
-            part = (math.log(max(1, value)) - low) / max(1e-9, high - low)
-        return round(self._height * (0.97 - min(1.0, max(0.0, part)) * 0.93), 1)
-
-    def marked(self) -> List[int]:
-        if self.kind == "linear":
-            size = unit_of(self._most)[0]
-            return [round(step * size) for step in round_steps(0, self._most / size, 4)]
-        decades = math.log10(self._most / self._least)
-        factors = (1, 2, 5) if decades < 2 else (1, 3) if decades < 4 else (1,)
-        return [value for power in range(20) for factor in factors for value in [factor * 10**power] if self._least <= value <= self._most]
+        part = ((value if self.kind == "linear" else math.log(max(1, value))) - self._base) / self._range
+        return round(EPS * (0.97 - min(1.0, max(0.0, part)) * 0.93), 1)
 
 
 def _eps(view: ReplayView) -> Raw:
@@ -225,7 +206,7 @@ def _eps(view: ReplayView) -> Raw:
     values = [value for found in kept for value in found] + [report.eps for report in view.reports] + list(view.calm.values())
     pictures, names = [], []
     for kind in "linear", "log":
-        scale = _Scale(kind, min(values), max(values), EPS)
+        scale = _Scale(kind, min(values), max(values))
         label = f"eps of each device over time, up to {human(max(values))}. The table of percentiles has the numbers"
         pictures.append(_picture(EPS, label, _eps_marks(view, scale), class_=f"scaled-{kind}"))
         names.append(element("span", _levels(scale), class_=f"levels scaled-{kind}"))
@@ -233,14 +214,12 @@ def _eps(view: ReplayView) -> Raw:
 
 
 def _levels(scale: _Scale) -> List[Raw]:
-    size, unit = unit_of(max(scale.marked(), default=0))
-    return [
-        element("i", f"{value / size:g} {unit}" if value else "0", style=f"top:{scale.y(value) / EPS:.1%}") for value in scale.marked()
-    ]
+    size, unit = unit_of(max(scale.marked, default=0))
+    return [element("i", f"{value / size:g} {unit}" if value else "0", style=f"top:{scale.y(value) / EPS:.1%}") for value in scale.marked]
 
 
 def _eps_marks(view: ReplayView, scale: _Scale) -> List[Raw]:
-    parts = [element("path", class_="grid", d="".join(f"M0 {scale.y(value):g}H{WIDE:g}" for value in scale.marked()))]
+    parts = [element("path", class_="grid", d="".join(f"M0 {scale.y(value):g}H{WIDE:g}" for value in scale.marked))]
     parts.append(_envelope(view, scale))
     if view.calm:
         most = max(view.calm.values())
@@ -255,10 +234,8 @@ def _eps_marks(view: ReplayView, scale: _Scale) -> List[Raw]:
 
 def _envelope(view: ReplayView, scale: _Scale) -> Raw:
     """The greatest eps of all devices, down to the bottom."""
-    points = []
-    for place, value in enumerate(greatest(view.replay.peaks.of.values())):
-        if value is not None:
-            points.append(f"{view.x(view.middle(place))} {scale.y(value):g}")
+    values = greatest(view.replay.peaks.of.values())
+    points = [f"{view.x(view.middle(place))} {scale.y(value):g}" for place, value in enumerate(values) if value is not None]
     if not points:
         return Raw("")
     begin, end = points[0].split(" ")[0], points[-1].split(" ")[0]
@@ -267,30 +244,22 @@ def _envelope(view: ReplayView, scale: _Scale) -> Raw:
 
 
 def _line(view: ReplayView, intervals: Sequence["Interval | None"], scale: _Scale) -> str:
-    points: List[str] = []
-    for place, interval in enumerate(intervals):
-        if interval is not None:
-            values = interval if interval.peak != interval.last else interval[:1]
-            x = view.x(view.middle(place))
-            points += [f"{x} {scale.y(value):g}" for value in values]
-    return "M" + "L".join(points)
+    known = [(view.x(view.middle(place)), dict.fromkeys(interval)) for place, interval in enumerate(intervals) if interval is not None]
+    return "M" + "L".join(f"{x} {scale.y(value):g}" for x, values in known for value in values)
 
 
 def _dots(view: ReplayView, places: Sequence[Tuple[Report, float]]) -> List[Raw]:
     """The reports of one colour are one path, of points without a length. Wrong ones stand over all others."""
-    paths: Dict[Tuple[bool, int], List[str]] = {}
-    devices: Dict[Tuple[bool, int], Dict[int, None]] = {}
+    paths: Dict[Tuple[bool, int], List[Tuple[Report, float]]] = {}
     for report, y in places:
-        key = report.is_wrong, view.colour.get(report.device, OTHERS)
-        paths.setdefault(key, []).append(f"M{view.x(report.ref)} {y:g}h0")
-        devices.setdefault(key, {})[report.device] = None
+        paths.setdefault((report.is_wrong, view.colour.get(report.device, OTHERS)), []).append((report, y))
     parts = []
-    for key, points in sorted(paths.items()):
-        wrong, place = key
+    for (wrong, place), found in sorted(paths.items()):
         colour = "wrong" if wrong else "other" if place == OTHERS else f"c{place}"
-        said = title(f"reports of {view.names(devices[key])}" + (" that were off by more than their eps" if wrong else ""))
-        numbers = " ".join(map(str, devices[key]))
-        parts.append(element("path", said, class_=f"dots {colour}", d="".join(points), data_devices=numbers, data_count=len(points)))
+        devices = dict.fromkeys(report.device for report, _ in found)
+        said = title(f"reports of {view.names(devices)}" + (" that were off by more than their eps" if wrong else ""))
+        points = "".join(f"M{view.x(report.ref)} {y:g}h0" for report, y in found)
+        parts.append(element("path", said, class_=f"dots {colour}", d=points, data_devices=" ".join(map(str, devices)), data_count=len(found)))
     return parts
 
 

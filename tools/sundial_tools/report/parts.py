@@ -60,7 +60,8 @@ class Makeup:
 
     def _halves_of_roots(self) -> int:
         row = self._plan.rows.get(self._plan.backup_root)
-        return max((self._halves(self._plan.backup_root, hop) for hop in (row.primary, row.backup) if hop is not None), default=0) if row else 0
+        hops = (row.primary, row.backup) if row else ()
+        return max((self._halves(self._plan.backup_root, hop) for hop in hops if hop is not None), default=0)
 
     def _halves(self, device: int, hop: Hop) -> int:
         """The sum of halves over a hop, and from its parent over primary links to the root."""

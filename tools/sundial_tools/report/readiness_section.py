@@ -2,62 +2,63 @@
 
 from __future__ import annotations
 
-from typing import List, Sequence
+from typing import Any, Dict, Iterator, List
 
+from sundial_tools.outputs import parse_line
 from sundial_tools.report.markup import Raw, element, filled, folded, joined
-from sundial_tools.report.readiness import Outcome, Readiness
-from sundial_tools.report.tables import MOST_NAMES, Cell, table
-from sundial_tools.report.units import clear, column, count
+from sundial_tools.report.readiness import Readiness
+from sundial_tools.report.refusal import MEANING
+from sundial_tools.report.tables import MOST_NAMES, Column, by_columns, exact
+from sundial_tools.units import clear, count, few
 
 OPEN_ROWS, MOST_LOSSES = 40, 3
 
 
 def readiness_section(readiness: Readiness) -> Raw:
-    lost = readiness.losses - readiness.planned_again
-    facts = f"{readiness.planned_again} of {count(readiness.losses, 'loss', 'losses')} can be planned again."
-    facts += f" After {lost} the rule of renew finds no plan: they come first." if lost else ""
-    facts += f" After {readiness.found} of these the search finds one." if readiness.found else ""
+    again, found = readiness.count("planned_again"), readiness.count("found_by_search")
+    facts = f"{again} of {count(readiness.losses, 'loss', 'losses')} can be planned again."
+    facts += f" After {readiness.losses - again} the rule of renew finds no plan: they come first." if again < readiness.losses else ""
+    facts += f" After {found} of these the search finds one." if found else ""
     base, hold = map(clear, readiness.budget)
     return filled("readiness", facts=facts, table=_table(readiness), base=base, hold=hold)
 
 
 def _table(readiness: Readiness) -> Raw:
-    bounds = column([outcome.bound or 0 for outcome, _ in readiness.outcomes])
-    rows: List[List[Cell]] = [
-        [
-            _losses(names), str(len(names)), (_moving(outcome), len(outcome.moving)),
-            "none" if outcome.bound is None else (bound, outcome.bound), outcome.at or "", (str(outcome.without_bound), outcome.without_bound),
-            _few(outcome.cut_off), _next(outcome),
-        ]
-        for (outcome, names), bound in zip(readiness.outcomes, bounds.texts)
+    said, alike = [it.said for it in readiness.outcomes], [it.names for it in readiness.outcomes]
+    ((head, bounds),) = exact(["greatest eps, {}"], [[it["bound_ps"] or 0 for it in said]])
+    columns: List[Column] = [
+        ("loss", list(map(_losses, alike))), ("alike", [str(len(names)) for names in alike]),
+        ("may move", [(_moving(it), len(it["moving"])) for it in said]),
+        (head, ["none" if it["bound_ps"] is None else bound for it, bound in zip(said, bounds)]), ("at", [it["bound_device"] or "" for it in said]),
+        ("without bound", [(str(it["without_bound"]), it["without_bound"]) for it in said]),
+        ("cut off", [few(it["cut_off"], MOST_NAMES) for it in said]), ("planned again", [joined(_next(it)) for it in said]),
     ]
-    head = ("loss", "alike", "may move", f"greatest eps, {bounds.unit}", "at", "without bound", "cut off", "planned again")
-    caption = f"{count(len(rows), 'outcome')} of {count(readiness.losses, 'loss', 'losses')}"
-    return folded(caption, table("losses", head, rows), is_open=len(rows) <= OPEN_ROWS)
+    caption = f"{count(len(said), 'outcome')} of {count(readiness.losses, 'loss', 'losses')}"
+    return folded(caption, by_columns("losses", columns), is_open=len(said) <= OPEN_ROWS)
 
 
-def _losses(names: Sequence[str]) -> Raw:
+def _losses(names: List[str]) -> Raw:
     """The losses of one outcome. Of many, the first ones, and all of them on demand."""
-    shown, more = ", ".join(names[:MOST_LOSSES]), len(names) - MOST_LOSSES
-    return element("span", shown) if more <= 0 else joined([element("span", shown), folded(f"and {more} more", ", ".join(names[MOST_LOSSES:]), class_="alike")])
+    shown, more = element("span", ", ".join(names[:MOST_LOSSES])), names[MOST_LOSSES:]
+    return joined([shown, folded(f"and {len(more)} more", ", ".join(more), class_="alike")]) if more else shown
 
 
-def _moving(outcome: Outcome) -> Raw:
-    said = str(len(outcome.moving)) + (", takes over" if outcome.takes_over else "")
-    return element("span", said, title=_few(outcome.moving) or None)
+def _moving(said: Dict[str, Any]) -> Raw:
+    text = str(len(said["moving"])) + (", takes over" if said["takes_over"] else "")
+    return element("span", text, title=few(said["moving"], MOST_NAMES) or None)
 
 
-def _next(outcome: Outcome) -> Raw:
-    if not outcome.refusal:
-        return element("span", f"yes: {', '.join(outcome.next_roots)}")
-    said = [element("span", f"no: {outcome.refusal}"), element("span", outcome.meaning, class_="cause") if outcome.meaning else ""]
-    if outcome.found:
-        said.append(element("span", f"by a search: {', '.join(outcome.next_roots)}", class_="cause"))
-    elif outcome.search_refusal:
-        said.append(element("span", f"search: {outcome.search_refusal}", class_="cause"))
-    return joined(said)
-
-
-def _few(names: Sequence[str]) -> str:
-    more = len(names) - MOST_NAMES
-    return ", ".join(names[:MOST_NAMES]) + (f" and {more} more" if more > 0 else "")
+def _next(said: Dict[str, Any]) -> Iterator[Raw]:
+    roots = ", ".join(said[key] for key in ("next_root", "next_backup_root") if said[key])
+    if said["planned_again"]:
+        yield element("span", f"yes: {roots}")
+        return
+    refusal = said["refusal"] or "not said why"
+    line = parse_line(f"refused plan 1 {refusal}")
+    yield element("span", f"no: {refusal}")
+    if line is not None:
+        yield element("span", MEANING[line.kind.removeprefix("refused ")], class_="cause")
+    if said.get("found_by_search"):
+        yield element("span", f"by a search: {roots}", class_="cause")
+    elif said.get("search_refusal"):
+        yield element("span", f"search: {said['search_refusal']}", class_="cause")

@@ -6,8 +6,8 @@ from typing import Dict, FrozenSet, NamedTuple, Optional, Tuple
 
 from sundial_tools.errors import ToolError
 from sundial_tools.outputs import OutputLine
-from sundial_tools.report.units import clear
 from sundial_tools.topology import Topology
+from sundial_tools.units import clear
 
 MEANING = {
     "structure": "The device breaks a rule of structure.",

@@ -6,11 +6,11 @@ from dataclasses import dataclass, field
 from typing import Dict, Iterable, Iterator, List, NamedTuple, Optional, Sequence, Tuple
 
 from sundial_tools.errors import ToolError
+from sundial_tools.fleet.fleet import Fleet
 from sundial_tools.fleet.lineage import Lineages, Reading, Told
 from sundial_tools.fleet.who import Cause, Watch
 from sundial_tools.outputs import OutputLine, read_output
 from sundial_tools.plan import Plan
-from sundial_tools.fleet.fleet import Fleet
 from sundial_tools.report.series import Peaks, Percentiles, Report, Reports
 from sundial_tools.report.tracks import Tracks
 from sundial_tools.safe_write import Progress
@@ -20,19 +20,9 @@ from sundial_tools.topology import Topology
 MOST_MARKS = 4000
 LANES = ("failure", "move", "takeover", "plan", "broken", "alarm")
 LANE_OF = {
-    "fail": "failure",
-    "mend": "failure",
-    "join": "failure",
-    "move": "move",
-    "takeover": "takeover",
-    "stage": "plan",
-    "commit": "plan",
-    "close": "plan",
-    "broken": "broken",
-    "alarm": "alarm",
-    "disorder": "alarm",
+    "fail": "failure", "mend": "failure", "join": "failure", "move": "move", "takeover": "takeover", "stage": "plan", "commit": "plan",
+    "close": "plan", "broken": "broken", "alarm": "alarm", "disorder": "alarm",
 }
-
 RARE = frozenset(("fail", "mend", "join", "stage", "commit"))
 # The state of a track after what happened, and by the mode of a device.
 STATE_OF = {"move": "backup", "takeover": "acting", "enter": "primary"}
@@ -77,9 +67,7 @@ class Replay:
 class ReplayReader:
     """`with_causes` says who broke each premise: needed where the output has such lines."""
 
-    def __init__(
-        self, topology: Topology, plans: Sequence[Plan], schedule: str, output: str, with_causes: bool = True
-    ) -> None:
+    def __init__(self, topology: Topology, plans: Sequence[Plan], schedule: str, output: str, with_causes: bool = True) -> None:
         self._topology, self._schedule, self._output = topology, schedule, output
         self._names = [device.name for device in topology.devices]
         self._fleet = Fleet(topology, plans)
@@ -131,10 +119,9 @@ class ReplayReader:
         return True
 
     def _event(self, number: int, event: Event) -> None:
-        device, counter = event.device, event.counter
+        device, counter, replay = event.device, event.counter, self._replay
         if (device is not None and device >= len(self._names)) or event.thing is not None:
             self._known(number, event)
-        replay = self._replay
         if replay.origin is None:
             replay.origin = event.ref
         if self._since(event) < replay.last:
@@ -142,74 +129,61 @@ class ReplayReader:
         replay.events, replay.last = number, self._since(event)
         said = self._fleet.report(device, counter) if counter is not None and device is not None else None
         if event.word in RARE:
-            self._mark(event.word, number, self._since(event), self._text(event), event.device if event.thing != "device" else event.number)
+            self._mark(event.word, number, event, self._text(event), device if event.thing != "device" else event.number)
         try:
             if self._watch is not None:
                 self._watch.before(event)
-                self._explain(number, event)
-            happened = self._happen(event)
+                self._explain(number, event, self._watch)
+            happened = self._fleet.happen(event)
             if self._watch is not None:
                 self._watch.after(event, number, happened)
         except (KeyError, IndexError):
             raise self._not_accepted(number, event) from None
-        if counter is not None:
-            self._drawn(event, said, happened)
+        if counter is not None and device is not None:
+            self._drawn(event, device, counter, said, happened)
         if happened or event.word not in ("tick", "recv", "ask"):
             self._track(event, happened)
             self._lineages.after(event, number, happened)
         if happened in LANE_OF:
-            closes = event.device is None or happened == "close"
-            text = "the window closes" if closes else f"{happened} {self._names[event.device or 0]}"
-            self._mark(happened, number, self._since(event), text, None if closes else event.device)
-        if event.word == "ask" or (self._next is not None and self._next[1].fields.get("line") == number):
+            closes = device is None or happened == "close"
+            text = "the window closes" if closes else f"{happened} {self._names[device or 0]}"
+            self._mark(happened, number, event, text, None if closes else device)
+        if event.word == "ask" or self._is_of(number):
             self._told(number, event, said)
+
+    def _is_of(self, number: int) -> bool:
+        """Whether the next line of the output belongs to this line of the schedule."""
+        return self._next is not None and self._next[1].fields.get("line") == number
 
     def _since(self, event: Event) -> int:
         return event.ref - (self._replay.origin or 0)
 
-    def _happen(self, event: Event) -> str:
-        """What the event brings. (ticks, receipts and asks are nearly all events: they go to the fleet without its look-up)"""
-        word, device, counter = event.word, event.device, event.counter
-        if device is not None and counter is not None:
-            if word == "tick":
-                return self._fleet.tick(event.ref, device, counter)
-            if word == "recv":
-                return self._fleet.receive(event.ref, device, counter, event.message or 0)
-            if word == "ask":
-                self._fleet.passes(event.ref)
-                return ""
-        return self._fleet.happen(event)
-
     def _known(self, number: int, event: Event) -> None:
-        for kind, value in ("device", event.device), (event.thing, event.number):
-            most = {"device": len(self._names), "link": len(self._topology.links)}.get(kind or "", 0)
-            if value is not None and value >= most:
+        most = {"device": len(self._names), "link": len(self._topology.links)}
+        for kind, value in ("device", event.device), (event.thing or "", event.number):
+            if value is not None and value >= most.get(kind, 0):
                 raise ToolError(f"the topology has no {kind} {value}", self._schedule, number)
 
     def _not_accepted(self, number: int, event: Event) -> ToolError:
         reason = f"no replay accepts this line here, and {self._output} does not refuse it: {event_line(event)[:-1]}"
         return ToolError(reason, self._schedule, number)
 
-    def _drawn(self, event: Event, said: Optional[Tuple[int, int]], happened: str) -> None:
+    def _drawn(self, event: Event, device: int, counter: int, said: Optional[Tuple[int, int]], happened: str) -> None:
         """Keeps the eps before and after an event for the curve of its device."""
-        if event.counter is None or event.device is None:
-            return
-        after = said
-        if happened in ("accept", "enter") or event.word in ("start", "join", "fix"):
-            after = self._fleet.report(event.device, event.counter)
+        is_set = happened in ("accept", "enter") or event.word in ("start", "join", "fix")
+        after = self._fleet.report(device, counter) if is_set else said
         if after is not None:
             before = after if said is None or event.word in ("start", "join") else said
-            self._replay.peaks.add(event.device, self._since(event), before[1], after[1])
+            self._replay.peaks.add(device, self._since(event), before[1], after[1])
 
     def _text(self, event: Event) -> str:
         if event.number is not None:
-            is_device = event.thing == "device"
-            name = self._names[event.number] if is_device else self._topology.links[event.number].name
+            name = self._names[event.number] if event.thing == "device" else self._topology.links[event.number].name
             return f"{event.word} {event.thing} {name}"
         return event.word if event.device is None else f"{event.word} {self._names[event.device]}"
 
-    def _mark(self, kind: str, line: int, ref: int, text: str, device: Optional[int] = None) -> Mark:
-        lane, mark = LANE_OF[kind], Mark(kind, ref, line, text, device)
+    def _mark(self, kind: str, line: int, event: Event, text: str, device: Optional[int] = None) -> Mark:
+        lane, mark = LANE_OF[kind], Mark(kind, self._since(event), line, text, device)
         self._replay.mark_counts[lane] += 1
         if len(self._replay.marks[lane]) < MOST_MARKS:
             self._replay.marks[lane].append(mark)
@@ -227,58 +201,49 @@ class ReplayReader:
         elif word == "fail" and event.thing == "device" and event.number is not None:
             tracks.set(event.number, "down", since)
 
-    def _explain(self, number: int, event: Event) -> None:
-        """Who breaks a premise with this event, which comes next. The line that says so is the next of the output."""
-        if self._watch is None or self._next is None or self._next[1].fields.get("line") != number:
-            return
-        if self._next[1].kind == "broken":
+    def _explain(self, number: int, event: Event, watch: Watch) -> None:
+        """Who breaks premises with this event, which comes next. The lines that say so are the next of the output."""
+        while self._next is not None and self._is_of(number) and self._next[1].kind == "broken":
             premise = self._next[1].fields["premise"]
-            mark = self._mark("broken", number, self._since(event), f"broken {number} {premise}", event.device)
-            self._replay.causes.append((mark, self._watch.explain(premise, event, number)))
+            mark = self._mark("broken", number, event, f"broken {number} {premise}", event.device)
+            self._replay.causes.append((mark, watch.explain(premise, event, number)))
             self._advance()
-            self._explain(number, event)
 
     def _told(self, number: int, event: Event, said: Optional[Tuple[int, int]]) -> None:
         """The lines of the output that belong to this line of the schedule."""
         reported = False
-        while (
-            self._next is not None
-            and self._next[1].fields.get("line") == number
-            and self._next[1].kind != "input schedule"
-        ):
+        while self._next is not None and self._is_of(number) and self._next[1].kind != "input schedule":
             line = self._next[1]
             if line.kind == "report":
                 self._report(number, event, said, line)
                 reported = True
             elif line.kind == "broken":
-                self._mark("broken", number, self._since(event), f"broken {number} {line.fields['premise']}")
+                self._mark("broken", number, event, f"broken {number} {line.fields['premise']}")
             elif line.kind.startswith("alarm"):
                 device = self._topology.device_numbers.get(line.fields["device"])
-                self._replay.alarms.append(self._mark("alarm", number, self._since(event), _alarm(line), device))
+                self._replay.alarms.append(self._mark("alarm", number, event, _alarm(line), device))
             elif line.kind == "disorder":
-                self._mark("disorder", number, self._since(event), f"disorder {number} {line.fields['begin']}")
+                self._mark("disorder", number, event, f"disorder {number} {line.fields['begin']}")
             self._advance()
         if event.word == "ask" and not reported:
-            raise ToolError(
-                "the output has no report of this ask: is it the output of this schedule?", self._schedule, number
-            )
+            raise ToolError("the output has no report of this ask: is it the output of this schedule?", self._schedule, number)
 
     def _report(self, number: int, event: Event, said: Optional[Tuple[int, int]], line: OutputLine) -> None:
-        if event.word != "ask" or event.device is None or self._names[event.device] != line.fields["device"]:
+        device, clock, eps, replay = event.device, line.fields["clock"], line.fields["eps"], self._replay
+        if event.word != "ask" or device is None or self._names[device] != line.fields["device"]:
             raise self._wrong(f"line {number} of the schedule is no ask of {line.fields['device']}")
-        clock, eps = line.fields["clock"], line.fields["eps"]
         if said != (clock, eps):
             raise self._wrong(f"the report is not that of these plans and this schedule: {said} was expected")
-        lineage = self._lineages.held(event.device, Reading(number, event.ref, event.counter or 0))
-        report = Report(number, event.device, self._since(event), clock - event.ref + self._since(event), eps, lineage)
-        if report.is_wrong and lineage is not None and self._replay.wrong < MOST_MARKS:
-            self._replay.unsound[number] = Told(self._topology, lineage).unsound()
-        self._replay.wrong += report.is_wrong
-        self._replay.reports.add(report)
-        self._replay.percentiles.setdefault(event.device, Percentiles()).add(eps)
-        worst = self._replay.worst_off.get(event.device)
-        if worst is None or abs(report.off) * max(1, worst.eps) > abs(worst.off) * max(1, eps):
-            self._replay.worst_off[event.device] = report
+        lineage = self._lineages.held(device, Reading(number, event.ref, event.counter or 0))
+        report = Report(number, device, self._since(event), clock - event.ref + self._since(event), eps, lineage)
+        if report.is_wrong and lineage is not None and replay.wrong < MOST_MARKS:
+            replay.unsound[number] = Told(self._topology, lineage).unsound()
+        replay.wrong += report.is_wrong
+        replay.reports.add(report)
+        replay.percentiles.setdefault(device, Percentiles()).add(eps)
+        worst = replay.worst_off.setdefault(device, report)
+        if abs(report.off) * max(1, worst.eps) > abs(worst.off) * max(1, eps):
+            replay.worst_off[device] = report
 
     def _ends(self) -> None:
         if self._next is None:
@@ -288,9 +253,7 @@ class ReplayReader:
         line = self._next[1]
         found = (self._replay.events, self._replay.reports.count)
         if line.kind != "done" or (line.fields["first"], line.fields["second"]) != found:
-            raise self._wrong(
-                f"the schedule has {found[0]} events and {found[1]} reports: is it the output of this schedule?"
-            )
+            raise self._wrong(f"the schedule has {found[0]} events and {found[1]} reports: is it the output of this schedule?")
 
 
 def _alarm(line: OutputLine) -> str:

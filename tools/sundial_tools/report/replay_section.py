@@ -10,8 +10,8 @@ from sundial_tools.report.replay import Replay
 from sundial_tools.report.replay_tables import marks_table, percentiles_table, reports_table, spans_table
 from sundial_tools.report.replay_view import ReplayView
 from sundial_tools.report.tracks import MEANING, STATES
-from sundial_tools.report.units import clear, count, human
 from sundial_tools.topology import Topology
+from sundial_tools.units import clear, count, human
 
 def replay_section(topology: Topology, replay: Replay, calm: Dict[int, int]) -> Raw:
     view = ReplayView(topology, replay, calm)
@@ -52,13 +52,11 @@ def _lines(view: ReplayView) -> Raw:
         text = view.names(devices) + (" (one line)" if len(devices) > 1 else "")
         key = element("i", class_=f"key line c{place}" + " dashed" * view.dashed[place])
         items.append(element("span", key, text, class_="item device", data_devices=" ".join(map(str, devices))))
-    more = len(view.replay.peaks.of) - view.alone
-    if more > 0:
-        items.append(element("span", f"and {count(more, 'device')} more under the grey area", class_="item"))
+    more = len(view.replay.peaks.of) - len(view.colour)
+    items += [element("span", f"and {count(more, 'device')} more under the grey area", class_="item")] if more > 0 else []
     if view.calm:
-        key = element("i", class_="key calm")
         said = f"the greatest calm number of plan 1, {clear(max(view.calm.values()))}: a healthy fabric stays below"
-        items.append(element("span", key, said, class_="item"))
+        items.append(filled("key", key="calm", text=said))
     return element("p", items, class_="legend lines")
 
 
@@ -75,16 +73,9 @@ def _alike(view: ReplayView) -> Raw:
 def _data(view: ReplayView) -> Raw:
     """What the script needs to say what was at the cursor: the eps of each line, and the spans of each track."""
     peaks = view.replay.peaks
-    said = {
-        "begin": peaks.first or 0,
-        "step": peaks.step,
-        "lines": [
-            {
-                "name": view.names(devices),
-                "eps": [None if one is None else one.peak for one in peaks.of[devices[0]]],
-                "last": [None if one is None else one.last for one in peaks.of[devices[0]]],
-            }
-            for devices in view.lines
-        ],
-    }
+    lines = [
+        {"name": view.names(of), "eps": [it and it.peak for it in peaks.of[of[0]]], "last": [it and it.last for it in peaks.of[of[0]]]}
+        for of in view.lines
+    ]
+    said = {"begin": peaks.first or 0, "step": peaks.step, "lines": lines}
     return element("script", as_json(said), type="application/json", class_="lines-data")

@@ -2,61 +2,41 @@
 
 from __future__ import annotations
 
-from typing import List
+from typing import Dict, List
 
 from sundial_tools.fleet.lineage import Told
 from sundial_tools.report.markup import Raw, element, folded, joined
 from sundial_tools.report.replay import LANES
 from sundial_tools.report.replay_view import ReplayView
 from sundial_tools.report.series import Report
-from sundial_tools.report.tables import Cell, table
+from sundial_tools.report.tables import Cell, Column, by_columns, exact
 from sundial_tools.report.tracks import MEANING
-from sundial_tools.report.units import column, readable
+from sundial_tools.units import readable
 
 OPEN_ROWS, MOST_LISTED = 20, 500
 PERCENTS = (50, 90, 99)
-EPS_COLUMNS = len(PERCENTS) + 2
 
 
 def percentiles_table(view: ReplayView) -> Raw:
-    found = view.replay.percentiles
-    if not found:
+    if not view.replay.percentiles:
         return Raw("")
-    devices = sorted(found, key=lambda device: (-found[device].most, device))
-    widths = [value for device in devices for value in _eps(view, device)]
-    offsets = [view.replay.worst_off[device].off for device in devices]
-    eps, off = column(widths, beside=offsets), column(offsets, "+", beside=widths)
-    rows = [
-        _percentiles(view, device, eps.texts[place * EPS_COLUMNS : (place + 1) * EPS_COLUMNS], off.texts[place])
-        for place, device in enumerate(devices)
+    found = dict(sorted(view.replay.percentiles.items(), key=lambda one: (-one[1].most, one[0])))
+    of, worst = list(found.values()), [view.replay.worst_off[device] for device in found]
+    eps = [[it.least or 0 for it in of], *([it.at(percent) for it in of] for percent in PERCENTS), [it.most for it in of]]
+    widths, offsets = [value for values in eps for value in values], [report.off for report in worst]
+    columns: List[Column] = [
+        ("device", list(map(view.name, found))), ("reports", [str(it.count) for it in of]),
+        *exact(["least eps, {}", *(f"{percent} %" for percent in PERCENTS), "greatest"], eps, beside=offsets),
+        *exact(["worst offset, {}"], [offsets], "+", beside=widths), ("of its eps", list(map(_share, worst))),
     ]
-    calm = column([view.calm.get(device, 0) for device in devices], beside=widths)
-    head = ["device", "reports", f"least eps, {eps.unit}", *(f"{percent} %" for percent in PERCENTS), "greatest"]
-    head += [f"worst offset, {off.unit}", "of its eps"]
     if view.calm:
-        head.append(f"calm number, {calm.unit}")
-        for row, device, text in zip(rows, devices, calm.texts):
-            row.append((text, view.calm[device]) if device in view.calm else "")
-    rounded = any(numbers.is_rounded for numbers in found.values())
+        ((head, cells),) = exact(["calm number, {}"], [[view.calm.get(device, 0) for device in found]], beside=widths)
+        columns.append((head, [cell if device in view.calm else "" for device, cell in zip(found, cells)]))
+    rounded = any(it.is_rounded for it in of)
     return folded(
-        f"Percentiles of eps: {len(devices)} devices, the widest first",
-        table("percentiles", head, rows),
-        element("p", "Percentiles are rounded up to three digits.", class_="note") if rounded else Raw(""),
-        is_open=len(devices) <= OPEN_ROWS,
+        f"Percentiles of eps: {len(found)} devices, the widest first", by_columns("percentiles", columns),
+        element("p", "Percentiles are rounded up to three digits.", class_="note") if rounded else Raw(""), is_open=len(found) <= OPEN_ROWS,
     )
-
-
-def _eps(view: ReplayView, device: int) -> List[int]:
-    numbers = view.replay.percentiles[device]
-    return [numbers.least or 0, *(numbers.at(percent) for percent in PERCENTS), numbers.most]
-
-
-def _percentiles(view: ReplayView, device: int, eps: List[str], off: str) -> List[Cell]:
-    numbers, worst = view.replay.percentiles[device], view.replay.worst_off[device]
-    cells: List[Cell] = [view.name(device), str(numbers.count)]
-    cells += list(zip(eps, _eps(view, device)))
-    cells += [(off, abs(worst.off)), _share(worst)]
-    return cells
 
 
 def _share(report: Report) -> Cell:
@@ -73,20 +53,15 @@ def marks_table(view: ReplayView) -> Raw:
     bad = [mark for mark in marks if mark.kind in ("broken", "alarm")][:MOST_LISTED]
     others = [mark for mark in marks if mark.kind not in ("broken", "alarm")][: MOST_LISTED - len(bad)]
     shown = sorted(bad + others, key=lambda mark: mark.line)
-    refs = column([mark.ref for mark in shown])
-    anchored, rows = set(), []
-    for mark, ref in zip(shown, refs.texts):
-        anchor = None if mark.line in anchored else f"line-{mark.line}"
-        anchored.add(mark.line)
-        line = element("span", str(mark.line), id=anchor)
-        cause = causes.get((mark.line, mark.text))
-        text = joined([element("span", mark.text), element("span", cause, class_="cause") if cause else ""])
-        cells: List[Cell] = [(line, mark.line), (ref, mark.ref), mark.kind, text]
-        rows.append(cells)
-    caption = f"What happened: {total} marks" + (f", {len(rows)} of them" if len(rows) < total else "")
-    return folded(
-        caption, table("marks", ("line", f"from the first event, {refs.unit}", "what", "text, and who broke it"), rows), is_open=total <= OPEN_ROWS or bool(bad)
-    )
+    firsts = {mark.line: place for place, mark in reversed(list(enumerate(shown)))}
+    texts = [[element("span", mark.text), *(element("span", it, class_="cause") for it in [causes.get((mark.line, mark.text))] if it)] for mark in shown]
+    columns: List[Column] = [
+        ("line", [(element("span", str(it.line), id=f"line-{it.line}" if firsts[it.line] == place else None), it.line) for place, it in enumerate(shown)]),
+        *exact(["from the first event, {}"], [[mark.ref for mark in shown]]), ("what", [mark.kind for mark in shown]),
+        ("text, and who broke it", list(map(joined, texts))),
+    ]
+    caption = f"What happened: {total} marks" + (f", {len(shown)} of them" if len(shown) < total else "")
+    return folded(caption, by_columns("marks", columns), is_open=total <= OPEN_ROWS or bool(bad))
 
 
 def reports_table(view: ReplayView) -> Raw:
@@ -94,20 +69,15 @@ def reports_table(view: ReplayView) -> Raw:
     if not view.reports:
         return Raw("")
     worst = sorted(view.reports, key=lambda report: (-abs(report.off) * 10**6 // max(1, report.eps), report.line))[:MOST_LISTED]
-    times = [report.ref for report in worst], [report.clock for report in worst]
-    refs, clocks = column(times[0], beside=times[1]), column(times[1], beside=times[0])
-    widths, offsets = [report.eps for report in worst], [report.off for report in worst]
-    eps, off = column(widths, beside=offsets), column(offsets, "+", beside=widths)
-    rows: List[List[Cell]] = [
-        [
-            str(report.line), (refs.texts[place], report.ref), view.name(report.device), (clocks.texts[place], report.clock),
-            (eps.texts[place], report.eps), (off.texts[place], abs(report.off)), _share(report), _lineage(view, report),
-        ]
-        for place, report in enumerate(worst)
+    of: Dict[str, List[int]] = {key: [getattr(report, key) for report in worst] for key in ("ref", "clock", "eps", "off")}
+    columns: List[Column] = [
+        ("line", [str(report.line) for report in worst]), *exact(["from the first event, {}"], [of["ref"]], beside=of["clock"]),
+        ("device", [view.name(report.device) for report in worst]), *exact(["clock, {}"], [of["clock"]], beside=of["ref"]),
+        *exact(["eps, {}"], [of["eps"]], beside=of["off"]), *exact(["off, {}"], [of["off"]], "+", beside=of["eps"]),
+        ("of its eps", list(map(_share, worst))), ("rests on", [_lineage(view, report) for report in worst]),
     ]
-    caption = f"Reports: {view.replay.reports.count}" + (f", {len(rows)} of them" if len(rows) < view.replay.reports.count else "")
-    head = ("line", f"from the first event, {refs.unit}", "device", f"clock, {clocks.unit}", f"eps, {eps.unit}", f"off, {off.unit}", "of its eps", "rests on")
-    return folded(f"{caption}, the worst first", table("reports", head, rows))
+    caption = f"Reports: {view.replay.reports.count}" + (f", {len(worst)} of them" if len(worst) < view.replay.reports.count else "")
+    return folded(f"{caption}, the worst first", by_columns("reports", columns))
 
 
 def _lineage(view: ReplayView, report: Report) -> Cell:
@@ -128,18 +98,13 @@ def spans_table(view: ReplayView) -> Raw:
     tracks = view.replay.tracks
     if tracks is None or not tracks.of:
         return Raw("")
-    spans = [(device, span) for device in sorted(tracks.of) for span in tracks.of[device]]
-    total, spans = len(spans), spans[:MOST_LISTED]
-    times = [(span.begin, span.end, span.end - span.begin) for _, span in spans]
-    moments, lengths = column([time for begin, end, _ in times for time in (begin, end)]), column([length for *_, length in times])
-    rows: List[List[Cell]] = [
-        [
-            view.name(device), span.state, (moments.texts[2 * place], span.begin), (moments.texts[2 * place + 1], span.end),
-            (lengths.texts[place], span.end - span.begin),
-        ]
-        for place, (device, span) in enumerate(spans)
+    found = [(device, span) for device in sorted(tracks.of) for span in tracks.of[device]]
+    total, spans = len(found), [span for _, span in found[:MOST_LISTED]]
+    columns: List[Column] = [
+        ("device", [view.name(device) for device, _ in found[:MOST_LISTED]]), ("mode", [span.state for span in spans]),
+        *exact(["from, {}", "to, {}"], [[span.begin for span in spans], [span.end for span in spans]]),
+        *exact(["for, {}"], [[span.end - span.begin for span in spans]]),
     ]
     caption = f"Modes of devices: {total} spans" + (f", the first {MOST_LISTED}" if total > MOST_LISTED else "")
-    head = ("device", "mode", f"from, {moments.unit}", f"to, {moments.unit}", f"for, {lengths.unit}")
     meaning = element("p", "; ".join(f"{state}: {text}" for state, text in MEANING.items()) + ".", class_="note")
-    return folded(caption, table("spans", head, rows), meaning)
+    return folded(caption, by_columns("spans", columns), meaning)

@@ -3,12 +3,12 @@
 from __future__ import annotations
 
 from itertools import zip_longest
-from typing import Dict, Iterable, List, Optional, Tuple, cast
+from typing import Dict, Iterable, List, Optional, Sequence, Tuple, cast
 
 from sundial_tools.report.replay import Replay
 from sundial_tools.report.series import Interval
-from sundial_tools.report.units import round_steps, unit_of
 from sundial_tools.topology import Topology
+from sundial_tools.units import few, round_steps, unit_of
 
 LINES = 12
 # A panel is so wide in the units of its picture, whatever its width on the screen.
@@ -28,8 +28,7 @@ class ReplayView:
     def __init__(self, topology: Topology, replay: Replay, calm: Optional[Dict[int, int]] = None) -> None:
         self.topology, self.replay = topology, replay
         # By device, what no report of it exceeds while nothing has failed, where that is known.
-        self.calm = calm or {}
-        self.reports = replay.reports.kept()
+        self.calm, self.reports = calm or {}, replay.reports.kept()
         # (marks and dots at the first and the last event are seen whole)
         edge = max(1, replay.last // EDGE)
         self.first, self.last = -edge, replay.last + edge
@@ -37,7 +36,6 @@ class ReplayView:
         self.dashed: List[bool] = []
         self.lines: List[List[int]] = self._lines()
         self.colour: Dict[int, int] = {device: place for place, devices in enumerate(self.lines) for device in devices}
-        self.alone = len(self.colour)
 
     def _lines(self) -> List[List[int]]:
         apart = max(map(self._peak, self.replay.peaks.of), default=0) / LEAST_APART
@@ -61,9 +59,7 @@ class ReplayView:
         return self.topology.devices[device].name
 
     def names(self, devices: Iterable[int], most: int = 3) -> str:
-        known = [self.name(device) for device in devices]
-        more = len(known) - most
-        return ", ".join(known[:most]) + (f" and {more} more" if more > 0 else "")
+        return few(list(map(self.name, devices)), most)
 
     def share(self, ref: float) -> float:
         """Where a time lies in the panels, from 0 to 1."""
@@ -86,14 +82,12 @@ class ReplayView:
 
 
 class Drawn:
-    """The line of a device as it is drawn: at each place what it has there, and the least and greatest near it."""
+    """The line of a device as it is drawn: from where to where it goes at each place, and near it; None where it is not known."""
 
     def __init__(self, intervals: List["Interval | None"]) -> None:
-        self._points: List[Tuple[float, ...]] = [
-            found or (() if value is None else (value,)) for found, value in zip(intervals, evenly(intervals))
-        ]
-        near = [self._points[max(0, place - 1) : place + 2] for place in range(len(self._points))]
-        self._near = [[value for points in found for value in points] for found in near]
+        points = [found or (() if value is None else (value,)) for found, value in zip(intervals, evenly(intervals))]
+        self._at = list(map(_span, points))
+        self._near = [_span([value for near in points[max(0, place - 1) : place + 2] for value in near]) for place in range(len(points))]
 
     def coincides(self, other: "Drawn", apart: float) -> bool:
         """Whether the two lines are nowhere further from each other than that."""
@@ -101,19 +95,18 @@ class Drawn:
 
     def hides(self, other: "Drawn", apart: float) -> bool:
         """Whether it lies on the other line for a part of it that counts."""
-        met = sum(
-            bool(near and points) and min(near) - apart <= min(points) and max(points) <= max(near) + apart
-            for points, near in zip(self._points, other._near)
-        )
-        return met * HIDDEN > len(other._near)
+        return sum(at is not None and _lies(at, near, apart) for at, near in zip(self._at, other._near)) * HIDDEN > len(other._near)
 
     def _follows(self, other: "Drawn", apart: float) -> bool:
-        if len(self._points) > len(other._near) + 1:
-            return False
-        return all(
-            not near and not points or near and min(near) - apart <= min(points, default=near[0]) and max(points, default=near[0]) <= max(near) + apart
-            for points, near in zip(self._points, other._near)
-        )
+        return len(self._at) <= len(other._near) + 1 and all(at is None or _lies(at, near, apart) for at, near in zip(self._at, other._near))
+
+
+def _span(values: Sequence[float]) -> Optional[Tuple[float, float]]:
+    return (min(values), max(values)) if values else None
+
+
+def _lies(at: Tuple[float, float], near: Optional[Tuple[float, float]], apart: float) -> bool:
+    return near is not None and near[0] - apart <= at[0] and at[1] <= near[1] + apart
 
 
 def evenly(intervals: List["Interval | None"]) -> List[Optional[float]]:

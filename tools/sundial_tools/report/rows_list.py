@@ -4,9 +4,10 @@ from __future__ import annotations
 
 from typing import Dict, Iterator, List
 
-from sundial_tools.report.fold import Tree
 from sundial_tools.report.markup import Raw, element, joined
-from sundial_tools.report.units import count
+from sundial_tools.things import hop_text
+from sundial_tools.tree import Tree
+from sundial_tools.units import count
 
 # About so many lines are open at first. Devices of a rack fold where there are so many beside each other.
 MOST_OPEN, LEAST_FOLDED = 40, 8
@@ -52,14 +53,14 @@ class RowsList:
                 yield from items
 
     def _said(self, device: int) -> Raw:
-        plan, names, links = self._tree.plan, self._tree.topology.devices, self._tree.topology.links
+        plan, topology = self._tree.plan, self._tree.topology
         parts = ["root"] * (device == plan.root) + ["backup root"] * (device == plan.backup_root)
         row = plan.rows.get(device)
         if row is not None:
-            whom = f"follows {names[row.primary.parent].name} " if device in self._tree.lost else ""
-            parts.append(f"{whom}over {links[row.primary.link].name}")
-            parts.append("no backup" if row.backup is None else f"backup {names[row.backup.parent].name} over {links[row.backup.link].name}")
-        return joined([element("b", names[device].name), f" {', '.join(parts)}"])
+            is_lost = device in self._tree.lost
+            parts.append(f"follows {hop_text(topology, row.primary)}" if is_lost else f"over {topology.links[row.primary.link].name}")
+            parts.append("no backup" if row.backup is None else f"backup {hop_text(topology, row.backup)}")
+        return joined([element("b", topology.devices[device].name), f" {', '.join(parts)}"])
 
     def _anchor(self, device: int) -> str:
         return f"plan-{self._place}-{device}"

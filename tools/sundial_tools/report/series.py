@@ -32,13 +32,9 @@ class Peaks:
         """An event at `ref` found the value `before`, and left it at `after`."""
         if self.first is None:
             self.first = ref
-        place = (ref - self.first) // self.step
-        while place >= MOST_INTERVALS:
+        while (ref - self.first) // self.step >= MOST_INTERVALS:
             self._halve()
-            place = (ref - self.first) // self.step
-        intervals = self.of.get(device)
-        if intervals is None:
-            intervals = self.of[device] = []
+        place, intervals = (ref - self.first) // self.step, self.of.setdefault(device, [])
         if place >= len(intervals):
             intervals.extend([None] * (place + 1 - len(intervals)))
         known = intervals[place]
@@ -101,14 +97,11 @@ class Reports:
     def _halve(self) -> None:
         before = self._kept
         for device, reports in self.of.items():
-            self.of[device] = [
-                max(reports[place : place + 2], key=lambda report: (report.is_wrong, report.eps))
-                for place in range(0, len(reports), 2)
-            ]
-        self._kept = sum(len(reports) for reports in self.of.values())
-        if self._kept == before:
-            # One report a device is kept in any case.
-            self._kept = 0
+            pairs = (reports[place : place + 2] for place in range(0, len(reports), 2))
+            self.of[device] = [max(pair, key=lambda report: (report.is_wrong, report.eps)) for pair in pairs]
+        kept = sum(map(len, self.of.values()))
+        # (one report a device is kept in any case)
+        self._kept = kept if kept < before else 0
 
 
 class Percentiles:
@@ -126,11 +119,9 @@ class Percentiles:
         self.most = max(self.most, value)
         self._counts[_rounded(value) if self.is_rounded else value] += 1
         if not self.is_rounded and len(self._counts) > MOST_VALUES:
-            self.is_rounded = True
-            counts: Counter[int] = Counter()
-            for known, count in self._counts.items():
-                counts[_rounded(known)] += count
-            self._counts = counts
+            self.is_rounded, exact, self._counts = True, self._counts, Counter()
+            for known, count in exact.items():
+                self._counts[_rounded(known)] += count
 
     def at(self, percent: int) -> int:
         """The least value that this part of all values does not exceed."""

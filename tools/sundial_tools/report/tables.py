@@ -3,14 +3,17 @@
 from __future__ import annotations
 
 import re
-from typing import Iterable, List, Sequence, Union
+from typing import Iterable, List, Sequence, Tuple, Union
 
 from sundial_tools.report.markup import Raw, element, region
 from sundial_tools.topology import Topology
+from sundial_tools.units import column, few
 
 MOST_NAMES = 8
 NUMBER = re.compile(r"-?[0-9][0-9,]*(\.[0-9]+)?( [a-z%]+)?")
-Cell = Union[str, Raw, "tuple[str, int]"]
+Cell = Union[str, Raw, "tuple[str | Raw, int]"]
+# A head, and what stands below it.
+Column = Tuple[str, Sequence[Cell]]
 
 
 def table(name: str, head: Sequence[str], rows: Iterable[Sequence[Cell]]) -> Raw:
@@ -33,8 +36,16 @@ def _is_number(cell: Cell) -> bool:
     return isinstance(cell, tuple) or (not isinstance(cell, Raw) and NUMBER.fullmatch(cell) is not None)
 
 
+def by_columns(name: str, columns: Sequence[Column]) -> Raw:
+    return table(name, [head for head, _ in columns], zip(*(cells for _, cells in columns)))
+
+
+def exact(heads: Sequence[str], values: Sequence[Sequence[int]], sign: str = "", beside: Sequence[int] = ()) -> List[Column]:
+    """Columns of exact times with one unit, which heads name by {}, and as many decimals in each. With a sign they are sorted by size."""
+    unit, texts = column([value for of in values for value in of], sign, beside)
+    said = iter(texts)
+    return [(head.format(unit), [(next(said), abs(value) if sign else value) for value in of]) for head, of in zip(heads, values)]
+
+
 def names_of(topology: Topology, devices: Sequence[int], most: int = MOST_NAMES) -> str:
-    """The names of devices. Of many, the first ones and how many there are."""
-    names: List[str] = [topology.devices[device].name for device in devices[:most]]
-    more = len(devices) - len(names)
-    return ", ".join(names) + (f" and {more} more" if more else "")
+    return few([topology.devices[device].name for device in devices], most)

@@ -35,43 +35,37 @@ class Tracks:
 
     def heard(self, device: int, ref: int) -> None:
         """The device has accepted a message."""
-        if ref - self._heard.get(device, ref) > self.patience:
-            self._wait_until(device, ref)
+        self._waited(device, ref)
         self._heard[device] = ref
 
     def set(self, device: int, state: str, ref: int) -> None:
         """From `ref` on the device is in this state."""
-        before = self._now.get(device)
-        if before is not None:
-            if ref - self._heard.get(device, ref) > self.patience:
-                self._wait_until(device, ref)
+        if device in self._now:
             self._close(device, ref)
         self._now[device] = state, ref
         self._heard[device] = ref
 
     def end(self, ref: int) -> None:
-        for device in list(self._now):
-            if ref - self._heard.get(device, ref) > self.patience:
-                self._wait_until(device, ref)
+        for device in self._now:
             self._close(device, ref)
         self._now.clear()
 
-    def _wait_until(self, device: int, ref: int) -> None:
-        """It follows a parent, and has waited since it heard last."""
-        state, _ = self._now[device]
-        if state not in ("primary", "backup"):
-            return
-        heard = self._heard[device]
-        self._close(device, heard)
-        self._add(device, Span("waiting", heard, ref))
-        self._now[device] = state, ref
+    def _waited(self, device: int, ref: int) -> None:
+        """Who follows a parent, and heard nothing for so long, has waited since it heard last."""
+        heard = self._heard.get(device, ref)
+        if ref - heard > self.patience and self._now[device][0] in ("primary", "backup"):
+            state, begin = self._now[device]
+            self._add(device, Span(state, begin, heard))
+            self._add(device, Span("waiting", heard, ref))
+            self._now[device] = state, ref
 
     def _close(self, device: int, ref: int) -> None:
-        state, begin = self._now[device]
-        if ref > begin:
-            self._add(device, Span(state, begin, ref))
+        self._waited(device, ref)
+        self._add(device, Span(*self._now[device], ref))
 
     def _add(self, device: int, span: Span) -> None:
+        if span.begin == span.end:
+            return
         spans = self.of.setdefault(device, [])
         if spans and spans[-1].state == span.state and spans[-1].end == span.begin:
             spans[-1] = Span(span.state, spans[-1].begin, span.end)

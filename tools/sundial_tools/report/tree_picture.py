@@ -7,13 +7,17 @@ from typing import FrozenSet, Iterable, List, Optional, Set, Tuple
 from sundial_tools.effects import Effect
 from sundial_tools.plan import Plan
 from sundial_tools.report.fold import PADDING, Box, Drawing, Edge, Point
-from sundial_tools.report.markup import Raw, drawing, element, title
+from sundial_tools.report.markup import Raw, element, title
 from sundial_tools.report.refusal import Refusal
-from sundial_tools.report.units import clear
+from sundial_tools.things import Named, hop_text
 from sundial_tools.topology import Topology
+from sundial_tools.units import clear
 
 # A small tree is drawn larger, as long as it stays so wide.
 MOST_ZOOM, WIDE = 1.4, 760.0
+NOTHING = Effect(Named("", "", (), ()), None, (), (), ())
+# It shrinks so far on a narrow page, and then its region scrolls.
+LEAST_ZOOM = 0.7
 
 
 def zoom_of(width: float) -> float:
@@ -29,8 +33,8 @@ class TreePicture:
         changed: FrozenSet[Tuple[str, int]] = frozenset(), place: int = 1,
     ) -> None:
         self._topology, self._plan, self._drawing, self._place = topology, plan, drawing, place
-        self._effect, self._refusal, self._changed = effect, refusal, changed
-        self._states = effect.states if effect is not None else {}
+        self._effect, self._refusal, self._changed = effect or NOTHING, refusal, changed
+        self._states = self._effect.states
         self._ring = ring_hops(plan, refusal)
         self._steps = {device: place for place, device in enumerate(refusal.steps, 1)} if refusal else {}
 
@@ -41,24 +45,21 @@ class TreePicture:
         drawn.sort(key=lambda one: "breach" in one[1])
         edges = [self._edge(*one) for one in drawn]
         boxes = [self._box(box) for box in self._drawing.boxes]
-        is_folded = any(not box.is_single for box in self._drawing.boxes)
-        return drawing(
-            "tree breached" if self._ring else "tree", label, width, height, zoom_of(width), edges, boxes,
-            role="group" if is_folded else "img", side=self._drawing.boxes[0].square - 2,
+        is_folded, zoom = any(not box.is_single for box in self._drawing.boxes), zoom_of(width)
+        return element(
+            "svg", edges, boxes, class_="tree breached" if self._ring else "tree", viewBox=f"0 0 {width:.0f} {height:.0f}",
+            width=round(width * zoom), height=round(height * zoom),
+            style=f"min-width:{width * LEAST_ZOOM:.0f}px;--side:{self._drawing.boxes[0].square - 2:.0f}px",
+            role="group" if is_folded else "img", aria_label=label,
         )
 
     # Edges
 
     def _edge(self, edge: Edge, states: List[str], route: List[Point]) -> Raw:
         return element(
-            "path",
-            title(self._edge_title(edge)),
-            class_=" ".join(["edge", edge.kind] + states),
-            d=_path(route),
+            "path", title(self._edge_title(edge)), class_=" ".join(["edge", edge.kind] + states), d=_path(route),
             marker_start="url(#arrow)" if "breach" in states else None,
-            data_parents=ranges(edge.parents),
-            data_devices=ranges(edge.devices),
-            data_links=ranges(edge.links),
+            data_parents=ranges(edge.parents), data_devices=ranges(edge.devices), data_links=ranges(edge.links),
         )
 
     def _edge_title(self, edge: Edge) -> str:
@@ -71,22 +72,14 @@ class TreePicture:
         return f"{edge.kind} of {len(edge.devices)} devices: {parents}"
 
     def _edge_states(self, edge: Edge) -> List[str]:
-        states = []
         hops = {(edge.kind, device) for device in edge.devices}
-        if self._ring & hops or (self._refusal is not None and self._refusal.links.intersection(edge.links)):
-            states.append("breach")
-        if self._changed & hops:
-            states.append("changed")
-        effect = self._effect
-        if effect is not None:
-            moving = set(effect.moving).intersection(edge.devices)
-            if set(effect.domain.links).intersection(edge.links) or set(effect.domain.devices).intersection(edge.parents):
-                states.append("failed")
-            if moving and edge.kind == "backup":
-                states.append("taken")
-            elif len(moving) == len(edge.devices):
-                states.append("left")
-        return states
+        failing, moved = self._effect.domain, set(self._effect.moving).intersection(edge.devices)
+        states = {
+            "breach": self._ring & hops or (self._refusal is not None and self._refusal.links.intersection(edge.links)),
+            "changed": self._changed & hops, "failed": {*failing.links} & {*edge.links} or {*failing.devices} & {*edge.parents},
+            "taken": moved and edge.kind == "backup", "left": len(moved) == len(edge.devices) and edge.kind != "backup",
+        }
+        return [state for state, is_so in states.items() if is_so]
 
     # Boxes
 
@@ -124,24 +117,18 @@ class TreePicture:
         return element("g", parts, class_=self._classes(device), data_device=device)
 
     def _classes(self, device: int) -> str:
-        states = ["device"]
-        if device == self._plan.root:
-            states.append("root")
-        if device == self._plan.backup_root:
-            states.append("backup-root")
-        if device in self._steps:
-            states.append("breach")
+        plan = self._plan
+        states = ["device"] + ["root"] * (device == plan.root) + ["backup-root"] * (device == plan.backup_root) + ["breach"] * (device in self._steps)
         return " ".join(states + [state for state, devices in self._states.items() if device in devices])
 
 
 def device_title(topology: Topology, plan: Plan, device: int) -> str:
     """A device with its hops."""
-    names, links = topology.devices, topology.links
-    parts = [names[device].name]
+    parts = [topology.devices[device].name]
     parts += ["root"] * (device == plan.root) + ["backup root"] * (device == plan.backup_root)
     row = plan.rows.get(device)
     for what, hop in (("primary", row.primary), ("backup", row.backup)) if row is not None else ():
-        parts += [f"{what} {names[hop.parent].name} over {links[hop.link].name}"] if hop is not None else []
+        parts += [f"{what} {hop_text(topology, hop)}"] if hop is not None else []
     domains = [domain.name for domain in topology.domains if device in domain.devices]
     return ", ".join(parts) + (f" (domain {' '.join(domains)})" if domains else "")
 
@@ -155,13 +142,9 @@ def ring_hops(plan: Plan, refusal: Optional[Refusal]) -> Set[Tuple[str, int]]:
     following = steps[1:] + steps[:1] if refusal.condition == "loop" else steps[1:]
     for device, parent in zip(steps, following):
         row = plan.rows.get(device)
-        if row is None:
-            continue
-        backup_first = refusal.condition == "reach" and row.backup is not None
-        if row.backup is not None and row.backup.parent == parent and (backup_first or row.primary.parent != parent):
-            hops.add(("backup", device))
-        elif row.primary.parent == parent:
-            hops.add(("primary", device))
+        of = {"primary": row.primary.parent, "backup": row.backup.parent if row.backup else None} if row else {}
+        kinds = [kind for kind in (("backup", "primary") if refusal.condition == "reach" else ("primary", "backup")) if of.get(kind) == parent]
+        hops.update((kind, device) for kind in kinds[:1])
     return hops
 
 

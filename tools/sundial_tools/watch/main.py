@@ -8,7 +8,7 @@ import sys
 import time
 from typing import Dict, List
 
-from sundial_tools.calm import CalmReader
+from sundial_tools.calm import read_calm
 from sundial_tools.errors import ToolError
 from sundial_tools.inputs import as_files
 from sundial_tools.outputs import read_output
@@ -93,8 +93,8 @@ def bounds(program: str, topology: str, plan: str, base: int, hold: int) -> Dict
 
 def calm_numbers(program: str, topology: Topology, path: str, plan: str, base: int, hold: int) -> Dict[str, int]:
     """What each device stays below while nothing has failed. `program` is `sundialctl`."""
-    numbers = CalmReader(topology, "bounds").read(_lines_of(program, "bounds", path, plan, base, hold))
-    return {topology.devices[device].name: number for device, number in (numbers or {}).items()}
+    numbers = read_calm(_lines_of(program, "bounds", path, plan, base, hold), topology, "bounds")
+    return {topology.devices[device].name: number for device, number in numbers.items()}
 
 
 def _lines_of(program: str, command: str, topology: str, plan: str, base: int, hold: int) -> List[str]:

@@ -18,6 +18,7 @@ from sundial_tools.plan import Plan
 from sundial_tools.schedule import Event, event_line
 from sundial_tools.things import joined_to
 from sundial_tools.topology import Bounds, Topology
+from sundial_tools.units import few
 from sundial_tools.whatif.clocks import FAST, SLOW, STEADY, Clock
 from sundial_tools.whatif.wishes import Failure, Lost, Span, Wishes, Wrong, us
 
@@ -159,8 +160,7 @@ class Scenario:
         return self.topology.devices[device].name
 
     def _names(self, devices: Sequence[int]) -> str:
-        shown = ", ".join(self._name(it) for it in devices[:MOST_SHOWN])
-        return shown + (f" and {len(devices) - MOST_SHOWN} more" if len(devices) > MOST_SHOWN else "")
+        return few([self._name(it) for it in devices], MOST_SHOWN)
 
     # Devices
 
@@ -313,8 +313,7 @@ class Scenario:
             self._happen(Event("mend", ref, thing=kind, number=number))
         if things:
             names = [self._name(it) if kind == "device" else self.topology.links[it].name for kind, it in things]
-            more = f" and {len(names) - MOST_SHOWN} more" if len(names) > MOST_SHOWN else ""
-            self._note(ref, f"mended: {', '.join(names[:MOST_SHOWN])}{more}")
+            self._note(ref, f"mended: {few(names, MOST_SHOWN)}")
 
     # Renewals
 

@@ -6,8 +6,8 @@ from typing import Dict, Iterable, List, NamedTuple, Optional, Set, Tuple
 
 from sundial_tools.outputs import OutputLine
 from sundial_tools.plan import Hop, Plan
-from sundial_tools.report.units import human
 from sundial_tools.topology import Topology
+from sundial_tools.units import human
 
 Thing = Tuple[str, int]
 

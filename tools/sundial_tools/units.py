@@ -1,4 +1,4 @@
-"""Picoseconds as people read them."""
+"""Picoseconds, counts and lists as people read them."""
 
 from __future__ import annotations
 
@@ -93,3 +93,8 @@ def round_steps(least: float, most: float, count: int) -> List[float]:
 def count(number: int, thing: str, things: str = "") -> str:
     """A number and what it counts: 1 device, 2 devices."""
     return f"{number:,} {thing}" if number == 1 else f"{number:,} {things or thing + 's'}"
+
+
+def few(names: Sequence[str], most: int) -> str:
+    """The first names, and how many more there are."""
+    return ", ".join(names[:most]) + (f" and {len(names) - most} more" if len(names) > most else "")
