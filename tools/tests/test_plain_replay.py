@@ -5,8 +5,9 @@ import unittest
 
 from case import Case, network_text
 from examples import EXAMPLES, outputs
-from support import DATA, directory, needs_sundial, run, sundial
+from support import DATA, PROGRAM, directory, needs_sundial, run, sundial
 from test_record import RENEWAL
+from worlds import World, planned_by
 
 from sundial_tools.plain.lines import on_a_loop
 from sundial_tools.plain.main import main
@@ -197,6 +198,19 @@ class Histories(unittest.TestCase):
             words = [path / "topology", *plans, path / "schedule"]
             status, out, _ = run("sundial-plain-replay", main, words)
             self.assertEqual((status, out), sundial("replay", *words))
+
+    @needs_sundial
+    def test_random_histories_beside_the_program(self):
+        """Of networks of each kind of which the program makes plans, with failures and renewals; in half of them premises break."""
+        for number in 2, 3, 4, 6:
+            for bad in False, True:
+                with self.subTest(number, bad=bad), directory() as path:
+                    made = World(number, rounds=12, bad=bad, planner=planned_by(PROGRAM, path))
+                    topology, plans = made.files(path)
+                    (path / "schedule").write_text("".join(made.lines))
+                    words = [topology, *plans, path / "schedule"]
+                    status, out, _ = run("sundial-plain-replay", main, words)
+                    self.assertEqual((status, out), sundial("replay", *words))
 
 
 class Refused(unittest.TestCase):

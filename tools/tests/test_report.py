@@ -12,10 +12,12 @@ from unittest import mock
 
 import case
 import networks
+import worlds
 from examples import EXAMPLES, outputs
 from page_tree import parse
 from support import PROGRAM, TOOLS, directory, needs_sundial, run
 from test_bounds import Numbers, domains
+from test_cut import plain
 
 from sundial_tools.fleet.fleet import Fleet
 from sundial_tools.plan import default_hold, read_plan
@@ -986,6 +988,22 @@ class Replays(unittest.TestCase):
         wrong = sum(" interval " in line for line in said)
         dots = [node for node in tree.all("path", "dots", "wrong")]
         self.assertEqual(sum(int(node["data-count"]) for node in dots), 3 * wrong)
+
+    def test_random_histories(self):
+        """Of rings, meshes, stars and tiers, with failures and renewals; in half of them premises break."""
+        for number in range(2 * len(worlds.KINDS)):
+            made = worlds.World(number, rounds=10, bad=number >= len(worlds.KINDS))
+            lines = plain(made.topology, made.plans, made.lines)
+            with self.subTest(number), directory() as path:
+                topology, plans = made.files(path)
+                (path / "schedule").write_text("".join(made.lines))
+                (path / "output").write_text("".join(f"{line}\n" for line in lines))
+                tree = page(topology, *plans, "--replay", path / "schedule", path / "output")
+            words = [line.split()[0] for line in lines]
+            kind = next((kind for kind in ("alarm", "broken") if kind in words), "safe")
+            self.assertEqual(tree.one("section", "verdict")["data-verdict"], kind)
+            self.assertEqual(self.marks(tree).get("broken", 0), words.count("broken"))
+            self.assertIn(f" {words.count('report')} reports.", tree.one("section", "replay").one("p", "facts").text)
 
     def test_outputs_of_order(self):
         for schedule in "schedule.txt", "lying.txt":
