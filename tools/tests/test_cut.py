@@ -100,7 +100,7 @@ class Cut(unittest.TestCase):
 
 
 class Networks(unittest.TestCase):
-    """Rings, meshes, stars and three tiers, with failures at any moment and renewals behind them."""
+    """Rings, meshes, stars, two tiers and three, with failures at any moment and renewals after them."""
 
     parts = Cut.parts
 
