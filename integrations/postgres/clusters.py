@@ -55,7 +55,11 @@ class Room:
         signal.alarm(seconds)
         self.bin = pathlib.Path(told(PG_CONFIG, "--bindir").strip())
         self.path = pathlib.Path(tempfile.mkdtemp(prefix="sundial-pg-"))
-        self.path.chmod(0o755)
+        # (hosts and pages wait for no disk)
+        memory = pathlib.Path("/dev/shm")
+        self.memory = pathlib.Path(tempfile.mkdtemp(prefix="sundial-pg-", dir=memory if os.access(memory, os.W_OK) else None))
+        for folder in self.path, self.memory:
+            folder.chmod(0o755)
         self.user: Optional[str] = None
         self.clusters: List[Cluster] = []
         self.processes: List[subprocess.Popen[Any]] = []
@@ -76,7 +80,8 @@ class Room:
             process.wait()
         for cluster in self.clusters:
             cluster.stop("immediate")
-        shutil.rmtree(self.path, ignore_errors=True)
+        for folder in self.path, self.memory:
+            shutil.rmtree(folder, ignore_errors=True)
 
     def begin(self, *words: Any, **more: Any) -> subprocess.Popen[Any]:
         """A program that ends with the room at the latest."""

@@ -19,6 +19,7 @@
 #include "storage/shmem.h"
 #include "utils/builtins.h"
 #include "utils/guc.h"
+#include "utils/inval.h"
 #include "utils/lsyscache.h"
 #include "utils/rel.h"
 #include "utils/xid8.h"
@@ -40,8 +41,10 @@ static bool commit_wait;
 static int patience;            /* ms */
 static double greatest_eps = 1; /* ms */
 
-static uint64_t *last; /* of the stamps of this cluster: in shared memory, 0 at its start. All that were committed have passed then */
+/* Of the stamps of this cluster: in shared memory, and 0 at its start. All stamps that were committed have passed then. */
+static uint64_t *last;
 static struct sundial_clock_reader reader;
+static Oid table_of_commits; /* that of this database, once it was found */
 static shmem_request_hook_type request_before;
 static shmem_startup_hook_type startup_before;
 
@@ -66,11 +69,15 @@ static void rest(long ms)
 	CHECK_FOR_INTERRUPTS();
 }
 
-/* The clock gives nothing to go on with. The transaction looks again a little later, or it fails. */
-static void be_patient(uint64 since, uint32_t answer)
+/* The clock gives nothing to go on with, since the first time that it did so. The transaction looks again a little later, or it
+ * fails. */
+static void be_patient(uint64 *since, uint32_t answer)
 {
+	const uint64 now = sundial_clock_raw();
+
+	*since = *since == 0 ? now : *since;
 	sundial_clock_close(&reader); /* (the file may be made anew) */
-	if (patience >= 0 && sundial_clock_raw() - since >= (uint64) patience * MILLISECOND)
+	if (patience >= 0 && now - *since >= (uint64) patience * MILLISECOND)
 		ereport(ERROR, (errcode(ERRCODE_OBJECT_NOT_IN_PREREQUISITE_STATE),
 						errmsg("the clock is %s", sundial_clock_name(answer)),
 						errhint("Run the transaction again once the clock is GOOD, or raise sundial.patience.")));
@@ -80,7 +87,7 @@ static void be_patient(uint64 since, uint32_t answer)
 /* A reading that is good enough for a stamp. */
 static struct sundial_clock_now good_now(void)
 {
-	const uint64 since = sundial_clock_raw();
+	uint64 since = 0;
 	struct sundial_clock_now now;
 
 	for (;;)
@@ -92,14 +99,14 @@ static struct sundial_clock_now good_now(void)
 		if (answer == SUNDIAL_CLOCK_BUSY)
 			rest(0);
 		else
-			be_patient(since, answer);
+			be_patient(&since, answer);
 	}
 }
 
 /* Until the stamp has surely passed. A stale or a wide interval is right, and the wait goes on by it. */
 static struct sundial_clock_now wait_for(uint64 stamp)
 {
-	const uint64 since = sundial_clock_raw();
+	uint64 since = 0;
 	struct sundial_clock_now now;
 
 	for (;;)
@@ -114,7 +121,7 @@ static struct sundial_clock_now wait_for(uint64 stamp)
 		if (answer == SUNDIAL_CLOCK_NOT_YET || answer == SUNDIAL_CLOCK_STALE || answer == SUNDIAL_CLOCK_BUSY)
 			rest(0);
 		else
-			be_patient(since, answer);
+			be_patient(&since, answer);
 	}
 }
 
@@ -131,18 +138,29 @@ static uint64 passed_stamp(void)
 	}
 }
 
+/* Something of this table changed: it may be gone. (0: of any) */
+static void forget_table(Datum arg, Oid table)
+{
+	if (table == table_of_commits || !OidIsValid(table))
+		table_of_commits = InvalidOid;
+}
+
 /* The table of stamps. A table of this name that is not the extension's is none. */
 static Relation open_commits(void)
 {
-	Oid schema = get_namespace_oid("sundial", true);
-	Oid table = OidIsValid(schema) ? get_relname_relid("commits", schema) : InvalidOid;
-	Oid extension = get_extension_oid("sundial", true);
+	if (!OidIsValid(table_of_commits))
+	{
+		Oid schema = get_namespace_oid("sundial", true);
+		Oid table = OidIsValid(schema) ? get_relname_relid("commits", schema) : InvalidOid;
+		Oid extension = get_extension_oid("sundial", true);
 
-	if (!OidIsValid(table) || !OidIsValid(extension) || getExtensionOfObject(RelationRelationId, table) != extension)
-		ereport(ERROR, (errcode(ERRCODE_OBJECT_NOT_IN_PREREQUISITE_STATE),
-						errmsg("sundial.commit_wait is on, and this database has no extension sundial"),
-						errhint("Create it, or turn sundial.commit_wait off for this database.")));
-	return table_open(table, RowExclusiveLock);
+		if (!OidIsValid(table) || !OidIsValid(extension) || getExtensionOfObject(RelationRelationId, table) != extension)
+			ereport(ERROR, (errcode(ERRCODE_OBJECT_NOT_IN_PREREQUISITE_STATE),
+							errmsg("sundial.commit_wait is on, and this database has no extension sundial"),
+							errhint("Create it, or turn sundial.commit_wait off for this database.")));
+		table_of_commits = table;
+	}
+	return table_open(table_of_commits, RowExclusiveLock);
 }
 
 /* The transaction holds all its locks. No commit record is written, so nobody sees it: neither here, nor on a standby, nor after
@@ -222,20 +240,21 @@ void _PG_init(void)
 {
 	if (!process_shared_preload_libraries_in_progress)
 		ereport(ERROR, (errmsg("sundial has to be in shared_preload_libraries")));
-	DefineCustomStringVariable("sundial.page", "The file of the clock's page.", NULL, &page, "/run/sundial/clock", PGC_POSTMASTER,
-							   0, NULL, NULL, NULL);
-	DefineCustomBoolVariable("sundial.commit_wait", "Whether a commit takes a stamp and waits until it has passed.", NULL, &commit_wait,
-							 false, PGC_SUSET, 0, NULL, NULL, NULL);
+	DefineCustomStringVariable("sundial.page", "The file of the clock's page.", NULL, &page, "/run/sundial/clock",
+							   PGC_POSTMASTER, 0, NULL, NULL, NULL);
+	DefineCustomBoolVariable("sundial.commit_wait", "Whether a commit takes a stamp and waits until it has passed.", NULL,
+							 &commit_wait, false, PGC_SUSET, 0, NULL, NULL, NULL);
 	DefineCustomIntVariable("sundial.patience", "How long a transaction waits for a clock that is not GOOD, before it fails.",
-							"0: it fails at once. -1: it waits until it is cancelled.", &patience, 0, -1, INT_MAX, PGC_USERSET, GUC_UNIT_MS,
-							NULL, NULL, NULL);
+							"0: it fails at once. -1: it waits until it is cancelled.", &patience, 0, -1, INT_MAX, PGC_USERSET,
+							GUC_UNIT_MS, NULL, NULL, NULL);
 	DefineCustomRealVariable("sundial.greatest_eps", "A clock whose eps is greater is WIDE.",
-							 "The stamps of a cluster rise, so one that was taken by a wide clock lets all later ones wait.", &greatest_eps, 1, 0,
-							 1e6, PGC_SUSET, GUC_UNIT_MS, NULL, NULL, NULL);
+							 "Stamps rise: one that was taken by a wide clock delays all later ones.", &greatest_eps, 1, 0, 1e6,
+							 PGC_SUSET, GUC_UNIT_MS, NULL, NULL, NULL);
 	MarkGUCPrefixReserved("sundial");
 	request_before = shmem_request_hook;
 	shmem_request_hook = request;
 	startup_before = shmem_startup_hook;
 	shmem_startup_hook = startup;
+	CacheRegisterRelcacheCallback(forget_table, (Datum) 0);
 	RegisterXactCallback(before_commit, NULL);
 }

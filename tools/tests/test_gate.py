@@ -5,6 +5,7 @@ import pathlib
 import shutil
 import subprocess
 import unittest
+import unittest.mock
 from typing import List, Tuple
 
 from support import TOOLS, directory
@@ -152,6 +153,16 @@ class Embed(unittest.TestCase):
             status, said = refusal([TOP / ".ci/embed"], path=str(folder))
             self.assertEqual(status, 0)
             self.assertIn("left out, as there is no C compiler", said)
+
+
+class Postgres(unittest.TestCase):
+    """`.ci/postgres` where there is no PostgreSQL."""
+
+    def test_it_says_what_was_left_out(self):
+        with unittest.mock.patch.dict(os.environ, PG_CONFIG="/none"):
+            status, said = refusal([TOP / ".ci/postgres"])
+        self.assertEqual(status, 0)
+        self.assertIn("left out, as there is no PostgreSQL 15", said)
 
 
 if __name__ == "__main__":
