@@ -96,10 +96,10 @@ SELECT clock_timestamp() AS begun \gset
 INSERT INTO t VALUES (19);
 SELECT clock_timestamp() - :'begun' > '100ms' AS waited;
 SET sundial.patience = '20s';
-\! (sleep 0.3; $PG_ABS_SRCDIR/writer $PAGE anew) &
+\! (sleep 0.5; $PG_ABS_SRCDIR/writer $PAGE anew) &
 SELECT clock_timestamp() AS begun \gset
 INSERT INTO t VALUES (20) RETURNING pg_current_xact_id() AS id \gset
-SELECT clock_timestamp() - :'begun' > '300ms' AS waited;
+SELECT clock_timestamp() - :'begun' > '100ms' AS waited;
 SELECT * FROM stamped(:id::text::xid8);
 SELECT a FROM t WHERE a > 12;
 
