@@ -4,10 +4,8 @@
 #include "access/htup_details.h"
 #include "access/table.h"
 #include "access/xact.h"
-#include "catalog/dependency.h"
 #include "catalog/indexing.h"
 #include "catalog/namespace.h"
-#include "catalog/pg_class.h"
 #include "commands/extension.h"
 #include "fmgr.h"
 #include "funcapi.h"
@@ -145,20 +143,16 @@ static void forget_table(Datum arg, Oid table)
 		table_of_commits = InvalidOid;
 }
 
-/* The table of stamps. A table of this name that is not the extension's is none. */
+/* The table of stamps. Where there is no extension, a table of this name is none. */
 static Relation open_commits(void)
 {
 	if (!OidIsValid(table_of_commits))
 	{
-		Oid schema = get_namespace_oid("sundial", true);
-		Oid table = OidIsValid(schema) ? get_relname_relid("commits", schema) : InvalidOid;
-		Oid extension = get_extension_oid("sundial", true);
-
-		if (!OidIsValid(table) || !OidIsValid(extension) || getExtensionOfObject(RelationRelationId, table) != extension)
+		if (!OidIsValid(get_extension_oid("sundial", true)))
 			ereport(ERROR, (errcode(ERRCODE_OBJECT_NOT_IN_PREREQUISITE_STATE),
 							errmsg("sundial.commit_wait is on, and this database has no extension sundial"),
 							errhint("Create it, or turn sundial.commit_wait off for this database.")));
-		table_of_commits = table;
+		table_of_commits = get_relname_relid("commits", get_namespace_oid("sundial", false));
 	}
 	return table_open(table_of_commits, RowExclusiveLock);
 }
