@@ -82,6 +82,11 @@ SELECT sundial_wait(:stamp);
 BEGIN; INSERT INTO t VALUES (16); PREPARE TRANSACTION 'sixteen';
 \! $PG_ABS_SRCDIR/writer $PAGE DISRUPTED
 INSERT INTO t VALUES (17);
+
+-- The file may be made anew, or be gone
+\! rm $PAGE; $PG_ABS_SRCDIR/writer $PAGE anew
+SET sundial.patience = '20s';
+INSERT INTO t VALUES (0);
 \! rm $PAGE
 \c -
 SELECT * FROM sundial_now();
