@@ -4,7 +4,7 @@ _sundialctl() {
     local current=${COMP_WORDS[COMP_CWORD]} most=0
     COMPREPLY=()
     if [ "$COMP_CWORD" -eq 1 ]; then
-        mapfile -t COMPREPLY < <(compgen -W "search renew bounds resume record merge" -- "$current")
+        mapfile -t COMPREPLY < <(compgen -W "search renew bounds resume record merge version" -- "$current")
         return
     fi
     # how many files the command reads: numbers follow

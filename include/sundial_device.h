@@ -69,8 +69,8 @@
  *
  * A fleet. The theorems of docs/PROVED.md speak of histories. A fleet of any structs and calls that do
  * as the clauses of these exports say, over a network that keeps the above, is a history: this is proved
- * (is_history of sd_proof_deployment). That your program calls as such a fleet does is yours to see to.
- * The definition is crates/sd_proof_deployment/specs/Deployment.antt, and docs/EMBED.md has it in words.
+ * (is_history of sd_beside). That your program calls as such a fleet does is yours to see to.
+ * The definition is crates/sd_beside/specs/deployment/Deployment.antt, and docs/EMBED.md has it in words.
  *
  * A restored device is the latest. Keep the struct and its ports after each call and before you send
  * what the call sent, with a checksum: sundial_made finds few wrong bits. A device whose latest struct or

@@ -133,7 +133,7 @@ def text_rows(bench: Bench) -> List[Row]:
         for name, names in (("ordinary", [f"k{place:07}" for place in range(links)]), ("worst", colliding(bench, links)))
     )
     return [
-        Row("`migrate`, names that collide", f"{count(links)} links, {count(8 * links)} listed things", "ordinary names", 0.0,
+        Row("`migrate`, hostile names", f"{count(links)} links, {count(8 * links)} listed things", "ordinary names", 0.0,
             bench.runner.compare(worst, ordinary, False), memory=bench.runner.peak_memory(worst.words)),
         beside_half(bench, "`plan`, dotted keys", "bytes", size,
                     lambda number: ("plan", bench.file(f"dotted{number}", dotted(number))), 3),

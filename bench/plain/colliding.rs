@@ -1,5 +1,6 @@
-//! Prints names that the kit's hash of names sends to a 64th of the places of a map, with tags that
-//! are nearly all the same: the worst names of a topology, for `bench/all --only worst`.
+//! Prints names that the kit's own hash, whose seed is fixed, sends to a 64th of the places of a
+//! map, with tags that are nearly all the same. A topology that hashes its names by that seed is
+//! slow with them: `bench/all --only worst` has them beside ordinary names.
 //! usage: colliding COUNT
 const SEED: u64 = 0x243f_6a88_85a3_08d3;
 const FACTOR: u64 = 0x9e37_79b9_7f4a_7c15;

@@ -49,12 +49,12 @@ def replace(file: pathlib.Path, old: str, new: str) -> None:
 class Promise(unittest.TestCase):
     """`.ci/promise` over a definition of the promise that names a word of proofs/."""
 
-    CHECK, SPEC, HIDDEN = ".ci/promise", "crates/sd_proof_headline/specs/Headlines.antt", "crates/sd_proof_headline/proofs/Hidden.antt"
+    CHECK, SPEC, HIDDEN = ".ci/promise", "crates/sd_headline/specs/Headlines.antt", "crates/sd_headline/proofs/Hidden.antt"
     FIRST, CALL = "use Rattle.std.specs.Prelude.", "none_before is_alarm is_broken (whole_lines text)"
 
     def tree(self, folder: pathlib.Path) -> pathlib.Path:
         tree(folder, [self.CHECK, self.SPEC])
-        proofs = folder / "crates/sd_proof_headline/proofs"
+        proofs = folder / "crates/sd_headline/proofs"
         if proofs.is_symlink():
             proofs.unlink()
         proofs.mkdir()
@@ -65,7 +65,7 @@ class Promise(unittest.TestCase):
         for use, call in (("{is_fine}", "is_fine"), ("{is_fine as is_good}", "is_good"), (None, "hidden.is_fine")):
             with self.subTest(call=call), directory() as folder:
                 self.tree(folder)
-                line = f"use Rattle.sd_proof_headline.proofs.Hidden{'.' + use if use else ' as hidden'}\n"
+                line = f"use Rattle.sd_headline.proofs.Hidden{'.' + use if use else ' as hidden'}\n"
                 replace(folder / self.SPEC, self.FIRST, line + self.FIRST)
                 replace(folder / self.SPEC, self.CALL, f"{call} ({self.CALL})")
                 status, said = refusal([folder / self.CHECK])
@@ -75,13 +75,13 @@ class Promise(unittest.TestCase):
     def test_a_use_that_cannot_be_followed(self):
         with directory() as folder:
             self.tree(folder)
-            replace(folder / self.SPEC, self.FIRST, "use Rattle.sd_proof_headline.other.Hidden.{is_fine}\n" + self.FIRST)
+            replace(folder / self.SPEC, self.FIRST, "use Rattle.sd_headline.other.Hidden.{is_fine}\n" + self.FIRST)
             status, said = refusal([folder / self.CHECK])
             self.assertEqual(status, 1)
             self.assertIn("a `use` that leads on in a way that this does not follow", said)
 
     def test_a_name_that_the_tables_leave_out(self):
-        for name in ("IsWanted", "AlwaysSafe"):
+        for name in ("waits_in", "AlwaysSafe"):
             with self.subTest(name=name), directory() as folder:
                 tree(folder, [self.CHECK, "docs/PROMISE.md"])
                 page = (folder / "docs/PROMISE.md").read_text(encoding="utf-8")
@@ -89,7 +89,7 @@ class Promise(unittest.TestCase):
                 (folder / "docs/PROMISE.md").write_text(before + made + after.replace(f"`{name}` ", "", 1), encoding="utf-8")
                 status, said = refusal([folder / self.CHECK])
                 self.assertEqual(status, 1)
-                self.assertIn("docs/PROMISE.md has other numbers or tables", said)
+                self.assertIn("docs/PROMISE.md has other numbers or lists", said)
 
     def test_a_lemma_that_is_not_there(self):
         with directory() as folder:
@@ -102,10 +102,10 @@ class Promise(unittest.TestCase):
     def test_a_definition_that_no_table_has(self):
         with directory() as folder:
             tree(folder, [self.CHECK, "docs/PROVED.md"])
-            replace(folder / "docs/PROVED.md", "(`IsRebased`)", "(`IsRebased`, `DevicesKeepChronicle`)")
+            replace(folder / "docs/PROVED.md", "(`IsRebased`)", "(`IsRebased`, `CanAct`)")
             status, said = refusal([folder / self.CHECK])
             self.assertEqual(status, 1)
-            self.assertIn("docs/PROMISE.md has other numbers or tables", said)
+            self.assertIn("docs/PROMISE.md has other numbers or lists", said)
 
 
 class Facts(unittest.TestCase):

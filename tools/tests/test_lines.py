@@ -92,7 +92,7 @@ class Lines(unittest.TestCase):
             self.assertNotIn("name", self.rows(text, files=topology)[0])
 
     def test_each_word_of_resume_is_known(self):
-        printed = TOOLS.parent / "crates" / "sd_ctl_resume" / "specs" / "Printed.antt"
+        printed = TOOLS.parent / "crates" / "sd_resume" / "specs" / "Printed.antt"
         if not printed.is_file():
             self.skipTest("there are no definitions")
         words = set(re.findall(r'codes "([a-z-]+)"', printed.read_text())) - {"agree", "differ"}

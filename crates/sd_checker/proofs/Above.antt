@@ -2,7 +2,7 @@
 use Rattle.std.proofs.Common.{◌≡◌, ◌≢◌, ◌<◌, ℕ, Bool, length, IfSome, true, false, ◌&&◌, ◌||◌, not, [], ◌∷◌, map, Option, Some, None, if◌then◌else◌, sym, ap, subst, ◌∙◌}
 use Rattle.std.proofs.lemmas.Bool.{eq-eqb, ne_eqb, and_parts}
 use Rattle.sd_num.specs.Lists.{has, map_or}
-use Rattle.sd_topo.specs.Network.{Network, joins}
+use Rattle.sd_plan.specs.topo.Network.{Network, joins}
 use Rattle.sd_plan.specs.IndexedPlan.{has_device}
 use Rattle.sd_plan.specs.Plans.{Fits, IsHop, is_member, is_backup_root, is_present, primary_of, backup_of}
 use Rattle.sd_plan.specs.Structure.{structure_breach, is_no_ancestor, hop_is_right}
@@ -11,7 +11,7 @@ use Rattle.sd_checker.specs.Ancestors.{is_above}
 use Rattle.sd_plan.specs.Walks.{on_walk, epath, things_of, short_path, short_walk, devices_of, ends_walks}
 use Rattle.sd_plan.specs.declared.Hop.{Hop}
 use Rattle.sd_plan.specs.declared.Plan.{Plan}
-use Rattle.sd_check_root.proofs.Shared.{has_parents}
+use Rattle.sd_checker.proofs.check_root.Shared.{has_parents}
 
 -- a device that is no root has its short walk from its cut path
 pub above_other : (net : Network) (plan : Plan) (x d : ℕ) → ends_walks plan x ≡ false
@@ -19,10 +19,6 @@ pub above_other : (net : Network) (plan : Plan) (x d : ℕ) → ends_walks plan 
 above_other net plan x d other =
     has_parents (short_path net plan x) d
     ∙ sym (ap (λ (b : Bool). has (map (λ hop. hop.parent) (if b then [] else short_path net plan x)) d) other)
-
--- at a root it is the device alone
-pub above_end : (net : Network) (plan : Plan) (x d : ℕ) → ends_walks plan x ≡ true → has (map (λ hop. hop.parent) (short_walk net plan x)) d ≡ false
-above_end net plan x d is = ap (λ (b : Bool). has (map (λ hop. hop.parent) (if b then [] else short_path net plan x)) d) is
 
 -- so the test of a cut path is that of a short walk
 pub above_by : (net : Network) (plan : Plan) (x d : ℕ) → d ≢ x → x ≢ plan.root → x ≢ plan.backup_root → has_device (epath net plan x) d ≡ is_above net plan x d

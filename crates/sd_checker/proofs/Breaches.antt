@@ -3,58 +3,22 @@ use Rattle.std.proofs.Common.{◌≡◌, ℕ, ◌+◌, ◌<◌, ◌≤◌, true,
 use Rattle.std.specs.Prelude.{nat_lt, slice_get}
 use Rattle.std.proofs.lemmas.Bool.{cases_lt, eqb-true, ltb-true, lt-ltb}
 use Rattle.std.proofs.lemmas.Option.{slice_get_within}
-use Rattle.sd_topo.specs.Network.{Network}
-use Rattle.sd_topo.specs.declared.Thing.{Thing}
-use Rattle.sd_domain.specs.Domains.{domains}
-use Rattle.sd_domain.specs.declared.DomainId.{DomainId}
+use Rattle.sd_plan.specs.topo.Network.{Network}
+use Rattle.sd_plan.specs.declared.topo.Thing.{Thing}
+use Rattle.sd_plan.specs.domain.Domains.{domains}
+use Rattle.sd_plan.specs.declared.domain.DomainId.{DomainId}
 use Rattle.sd_plan.specs.declared.Plan.{Plan}
 use Rattle.sd_plan.specs.Structure.{structure_breach, ancestor_breach}
-use Rattle.sd_check_root.specs.Timing.{timing_breach}
-use Rattle.sd_check_root.specs.declared.TimingBreach.{TimingBreach}
-use Rattle.sd_check_loop.specs.Loops.{HasNoCycle, ShowsCycle}
-use Rattle.sd_check_reach.specs.Reach.{DomainHolds, ShowsDevice, ReachHolds, IsShownChain}
+use Rattle.sd_checker.specs.check_root.Timing.{timing_breach}
+use Rattle.sd_checker.specs.declared.check_root.TimingBreach.{TimingBreach}
+use Rattle.sd_checker.specs.check_loop.Loops.{HasNoCycle, ShowsCycle}
+use Rattle.sd_checker.specs.check_reach.Reach.{DomainHolds, ShowsDevice, ReachHolds, IsShownChain}
 use Rattle.sd_checker.specs.Conditions.{Condition, Holds, Shows, IsFirstSuspect, is_before, place_of, condition_of}
 use Rattle.sd_checker.specs.Conditions as condition
 use Rattle.sd_checker.specs.Findings.{HoldsOf, ShowsOf, Judges, IsFoundAmong, Finds, IsSound, is_open, is_loop}
 use Rattle.sd_checker.specs.Verdicts.{IsBreach}
 use Rattle.sd_checker.specs.declared.Breach.{Breach}
 use Rattle.sd_checker.specs.declared.Breach.TheVariants as breach
-
--- no condition comes before the first
-pub structure_breaks : (net : Network) (plan : Plan) (rule device : ℕ) → structure_breach net plan ≡ Some (rule, device)
-    → IsBreach net plan (breach.Structure rule device)
-structure_breaks net plan rule device is = record { before = earlier; shows = is }
-  where
-    earlier : (c : Condition) → is_before c condition.structure ≡ true → Holds net plan c
-    earlier condition.structure before = cc
-    earlier c before = cc
-
-pub ancestor_breaks : (net : Network) (plan : Plan) (device : ℕ) → structure_breach net plan ≡ None → ancestor_breach net plan ≡ Some device
-    → IsBreach net plan (breach.Ancestor device)
-ancestor_breaks net plan device structure is = record { before = earlier; shows = is }
-  where
-    earlier : (c : Condition) → is_before c condition.ancestor ≡ true → Holds net plan c
-    earlier condition.structure before = structure
-    earlier c before = cc
-
-pub timing_breaks : (net : Network) (plan : Plan) (t : TimingBreach) → structure_breach net plan ≡ None → ancestor_breach net plan ≡ None
-    → timing_breach net plan ≡ Some t → IsBreach net plan (breach.Timing t)
-timing_breaks net plan t structure ancestor is = record { before = earlier; shows = is }
-  where
-    earlier : (c : Condition) → is_before c condition.timing ≡ true → Holds net plan c
-    earlier condition.structure before = structure
-    earlier condition.ancestor before = ancestor
-    earlier c before = cc
-
-pub root_breaks : (net : Network) (plan : Plan) (f : DomainId) (at : Thing) → structure_breach net plan ≡ None → ancestor_breach net plan ≡ None
-    → timing_breach net plan ≡ None → Shows net plan (breach.Root f at) → IsBreach net plan (breach.Root f at)
-root_breaks net plan f at structure ancestor timing shows = record { before = earlier; shows = shows }
-  where
-    earlier : (c : Condition) → is_before c condition.root ≡ true → Holds net plan c
-    earlier condition.structure before = structure
-    earlier condition.ancestor before = ancestor
-    earlier condition.timing before = timing
-    earlier c before = cc
 
 -- what was found of all domains is the verdict
 pub found_of_all : (net : Network) (plan : Plan) (found : Option Breach) → IsSound net plan → IsFoundAmong net plan (length (domains net)) found

@@ -2,13 +2,13 @@
 use Rattle.std.proofs.Common.{◌≡◌, ℕ, Bool, true, false, ◌&&◌, ◌||◌, List, [], ◌∷◌, ◌++◌, append_assoc, nat_eq, refl, sym, ap, ◌∙◌, subst, inl, inr}
 use Rattle.std.specs.List.{list_any}
 use Rattle.std.proofs.lemmas.Bool.{eq-eqb, eqb-true, or_right}
-use Rattle.sd_topo.specs.Network.{Network}
-use Rattle.sd_domain.specs.declared.DomainId.{DomainId}
+use Rattle.sd_plan.specs.topo.Network.{Network}
+use Rattle.sd_plan.specs.declared.domain.DomainId.{DomainId}
 use Rattle.sd_plan.specs.Walks.{end_of}
 use Rattle.sd_plan.specs.declared.Hop.{Hop}
 use Rattle.sd_plan.specs.declared.Plan.{Plan}
-use Rattle.sd_check_loop.specs.Loops.{hops_of, same_hop, is_walk, HasNoCycle, IsNextShown, IsChain, ShowsCycle}
-use Rattle.sd_check_reach.specs.Reach.{ReachHolds, IsShownChain}
+use Rattle.sd_checker.specs.check_loop.Loops.{hops_of, same_hop, is_walk, HasNoCycle, IsNextShown, IsChain, ShowsCycle}
+use Rattle.sd_checker.specs.check_reach.Reach.{ReachHolds, IsShownChain}
 use Rattle.sd_checker.specs.Conditions.{Condition, Holds, Shows, condition_of}
 use Rattle.sd_checker.specs.Conditions as condition
 use Rattle.sd_checker.specs.Verdicts.{IsAccepted, IsBreach}

@@ -3,12 +3,12 @@ use Rattle.std.proofs.Common.{◌≡◌, ℕ, List, [], ◌∷◌, ◌++◌, map
 use Rattle.std.specs.declared.alloc.Global.{Global}
 use Rattle.std.specs.Prelude.{codes, decimal, flat_map, IfOk}
 use Rattle.std.specs.List.{join_with_byte}
-use Rattle.sd_topo.specs.Network.{Network}
-use Rattle.sd_topo.specs.declared.Thing.{Thing}
-use Rattle.sd_domain.specs.declared.DomainId.{DomainId}
-use Rattle.sd_check_root.specs.declared.TimingBreach.{TimingBreach}
+use Rattle.sd_plan.specs.topo.Network.{Network}
+use Rattle.sd_plan.specs.declared.topo.Thing.{Thing}
+use Rattle.sd_plan.specs.declared.domain.DomainId.{DomainId}
+use Rattle.sd_checker.specs.declared.check_root.TimingBreach.{TimingBreach}
 use Rattle.sd_checker.specs.Text.{domain_words, thing_words, refused_line}
-use Rattle.sd_topo.specs.Network.{device_name}
+use Rattle.sd_plan.specs.topo.Network.{device_name}
 use Rattle.sd_checker.specs.Named.{named}
 use Rattle.sd_checker.specs.declared.Breach.TheVariants as breach
 
@@ -61,7 +61,7 @@ domain_line net place domain device kind name at is of =
     ∙ ap (λ (word : List ℕ). line_of place (codes "domain" ∷ kind ∷ name ∷ codes "device" ∷ word ∷ [])) of
     ∙ sym (ap (λ (ws : List (List ℕ)). line_of place (codes "domain" ∷ ws ++ codes "device" ∷ device_name net device ∷ [])) is)
 
--- words behind a word, each behind a space
+-- words after a word, each after a space
 joined : (word : List ℕ) (f : ℕ → List ℕ) (xs : List ℕ) → join_with_byte 32 (word ∷ map f xs) ≡ word ++ flat_map (λ d. 32 ∷ f d) xs
 joined word f [] = sym (append-nil word)
 joined word f (x ∷ xs) = ap (λ (rest : List ℕ). word ++ (32 ∷ rest)) (joined (f x) f xs)

@@ -1,10 +1,10 @@
 -- What is said of an outage is said of its plan and domain.
 use Rattle.std.proofs.Common.{◌≡◌, Option, subst}
-use Rattle.sd_topo.specs.Topologies.{network}
-use Rattle.sd_domain.specs.declared.DomainId.{DomainId}
+use Rattle.sd_plan.specs.topo.Topologies.{network}
+use Rattle.sd_plan.specs.declared.domain.DomainId.{DomainId}
 use Rattle.sd_plan.specs.declared.indexed.IndexedPlan.{IndexedPlan}
-use Rattle.sd_check_hit.specs.Outages.{net_of, plan_of}
-use Rattle.sd_check_hit.specs.declared.outage.Outage.{Outage}
+use Rattle.sd_checker.specs.check_hit.Outages.{net_of, plan_of}
+use Rattle.sd_checker.specs.declared.check_hit.outage.Outage.{Outage}
 use Rattle.sd_checker.specs.declared.Breach.{Breach}
 use Rattle.sd_checker.specs.Findings.{Judges}
 

@@ -4,15 +4,15 @@
 use Rattle.std.proofs.Common.{◌≡◌, ℕ, Some, refl, sym, ap, ◌∙◌, subst, inl, inr, arith}
 use Rattle.std.specs.Prelude.{slice_get}
 use Rattle.std.proofs.lemmas.Bool.{cases_lt, lt-ltb}
-use Rattle.sd_topo.specs.Network.{Network}
-use Rattle.sd_domain.specs.Domains.{domains}
-use Rattle.sd_domain.specs.declared.DomainId.{DomainId}
+use Rattle.sd_plan.specs.topo.Network.{Network}
+use Rattle.sd_plan.specs.domain.Domains.{domains}
+use Rattle.sd_plan.specs.declared.domain.DomainId.{DomainId}
 use Rattle.sd_plan.specs.declared.Plan.{Plan}
-use Rattle.sd_check_root.specs.Roots.{root_breach}
-use Rattle.sd_check_loop.specs.Loops.{HasNoCycle, ShowsCycle}
-use Rattle.sd_check_loop.proofs.Unique.{one_cycle}
-use Rattle.sd_check_reach.specs.Reach.{DomainHolds, ShowsDevice, ReachHolds, IsShownChain}
-use Rattle.sd_check_reach.proofs.Unique.{one_device, one_chain}
+use Rattle.sd_checker.specs.check_root.Roots.{root_breach}
+use Rattle.sd_checker.specs.check_loop.Loops.{HasNoCycle, ShowsCycle}
+use Rattle.sd_checker.proofs.check_loop.Unique.{one_cycle}
+use Rattle.sd_checker.specs.check_reach.Reach.{DomainHolds, ShowsDevice, ReachHolds, IsShownChain}
+use Rattle.sd_checker.proofs.check_reach.Unique.{one_device, one_chain}
 use Rattle.sd_checker.specs.Conditions.{Shows, IsFirstSuspect, RootHolds, place_of, condition_of}
 use Rattle.sd_checker.specs.Verdicts.{IsBreach, IsVerdict}
 use Rattle.sd_checker.specs.Laws.{HasOneVerdict}

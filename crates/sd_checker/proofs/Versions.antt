@@ -1,12 +1,12 @@
 -- Verdicts and their lines are the same over a network with each version.
 use Rattle.std.specs.Prelude.{◌≡◌, ℕ}
 use Rattle.std.proofs.Common.{refl}
-use Rattle.sd_topo.specs.Network.{Network}
-use Rattle.sd_topo.proofs.Versions.{with_version}
-use Rattle.sd_domain.specs.declared.DomainId.{DomainId}
+use Rattle.sd_plan.specs.topo.Network.{Network}
+use Rattle.sd_plan.proofs.topo.Versions.{with_version}
+use Rattle.sd_plan.specs.declared.domain.DomainId.{DomainId}
 use Rattle.sd_plan.specs.declared.Plan.{Plan}
-use Rattle.sd_check_loop.proofs.Versions.{ShowsCycle-with_version}
-use Rattle.sd_check_reach.proofs.Versions.{DomainHolds-with_version, ShowsDevice-with_version, ReachHolds-with_version, IsShownChain-with_version}
+use Rattle.sd_checker.proofs.check_loop.Versions.{ShowsCycle-with_version}
+use Rattle.sd_checker.proofs.check_reach.Versions.{DomainHolds-with_version, ShowsDevice-with_version, ReachHolds-with_version, IsShownChain-with_version}
 use Rattle.sd_checker.specs.Conditions.{Condition, Holds, Shows, OfEachDomain, IsFirstSuspect}
 use Rattle.sd_checker.specs.Conditions as condition
 use Rattle.sd_checker.specs.Text.{accepted_line, refused_line}

@@ -1,7 +1,7 @@
 -- Who stands on the short walk of a device.
 use Rattle.std.specs.Prelude.{ℕ, Bool}
 use Rattle.sd_num.specs.Lists.{has}
-use Rattle.sd_topo.specs.Network.{Network}
+use Rattle.sd_plan.specs.topo.Network.{Network}
 use Rattle.sd_plan.specs.Walks.{devices_of, short_walk}
 use Rattle.sd_plan.specs.declared.Plan.{Plan}
 

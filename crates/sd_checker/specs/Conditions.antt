@@ -1,14 +1,14 @@
 -- The seven conditions on a plan, in the order in which they are asked: what each says of a plan, and what is shown of a plan that breaks it.
 use Rattle.std.specs.Prelude.{◌≡◌, ℕ, ◌<◌, Bool, nat_lt, slice_get, Some, None}
-use Rattle.sd_topo.specs.Network.{Network, Each}
-use Rattle.sd_domain.specs.Domains.{domains}
-use Rattle.sd_domain.specs.declared.DomainId.{DomainId}
+use Rattle.sd_plan.specs.topo.Network.{Network, Each}
+use Rattle.sd_plan.specs.domain.Domains.{domains}
+use Rattle.sd_plan.specs.declared.domain.DomainId.{DomainId}
 use Rattle.sd_plan.specs.declared.Plan.{Plan}
 use Rattle.sd_plan.specs.Structure.{structure_breach, ancestor_breach}
-use Rattle.sd_check_root.specs.Timing.{timing_breach}
-use Rattle.sd_check_root.specs.Roots.{root_breach}
-use Rattle.sd_check_loop.specs.Loops.{HasNoCycle, ShowsCycle}
-use Rattle.sd_check_reach.specs.Reach.{DomainHolds, ShowsDevice, ReachHolds, IsShownChain}
+use Rattle.sd_checker.specs.check_root.Timing.{timing_breach}
+use Rattle.sd_checker.specs.check_root.Roots.{root_breach}
+use Rattle.sd_checker.specs.check_loop.Loops.{HasNoCycle, ShowsCycle}
+use Rattle.sd_checker.specs.check_reach.Reach.{DomainHolds, ShowsDevice, ReachHolds, IsShownChain}
 use Rattle.sd_checker.specs.declared.Breach.{Breach}
 use Rattle.sd_checker.specs.declared.Breach.TheVariants as breach
 
@@ -48,13 +48,30 @@ IsFirstSuspect net P f = (k : ℕ) × (slice_get (domains net) k ≡ Some f) × 
 abbrev pub RootHolds : Network → Plan → DomainId → Type 0
 RootHolds net plan f = root_breach net plan f ≡ None
 
+-- the plan meets the conditions that safety uses, each by its name
+
+abbrev pub MeetsStructure : Network → Plan → Type 0
+MeetsStructure net plan = structure_breach net plan ≡ None
+
+abbrev pub MeetsAncestor : Network → Plan → Type 0
+MeetsAncestor net plan = ancestor_breach net plan ≡ None
+
+abbrev pub MeetsTiming : Network → Plan → Type 0
+MeetsTiming net plan = timing_breach net plan ≡ None
+
+abbrev pub MeetsRoot : Network → Plan → Type 0
+MeetsRoot net plan = OfEachDomain net (RootHolds net plan)
+
+abbrev pub MeetsLoop : Network → Plan → Type 0
+MeetsLoop net plan = OfEachDomain net (HasNoCycle net plan)
+
 -- the plan meets the condition
 abbrev pub Holds : Network → Plan → Condition → Type 0
-Holds net plan structure = structure_breach net plan ≡ None
-Holds net plan ancestor = ancestor_breach net plan ≡ None
-Holds net plan timing = timing_breach net plan ≡ None
-Holds net plan root = OfEachDomain net (RootHolds net plan)
-Holds net plan loop = OfEachDomain net (HasNoCycle net plan)
+Holds net plan structure = MeetsStructure net plan
+Holds net plan ancestor = MeetsAncestor net plan
+Holds net plan timing = MeetsTiming net plan
+Holds net plan root = MeetsRoot net plan
+Holds net plan loop = MeetsLoop net plan
 Holds net plan domain = OfEachDomain net (DomainHolds net plan)
 Holds net plan reach = OfEachDomain net (ReachHolds net plan)
 

@@ -1,11 +1,11 @@
 -- The conditions on what a domain hits (loop, domain, reach), asked of one domain after another.
 use Rattle.std.specs.Prelude.{◌≡◌, ℕ, ◌<◌, Bool, true, nat_eq, slice_get, Option, Some, None, IsTrue}
-use Rattle.sd_topo.specs.Network.{Network}
-use Rattle.sd_domain.specs.Domains.{domains}
-use Rattle.sd_domain.specs.declared.DomainId.{DomainId}
+use Rattle.sd_plan.specs.topo.Network.{Network}
+use Rattle.sd_plan.specs.domain.Domains.{domains}
+use Rattle.sd_plan.specs.declared.domain.DomainId.{DomainId}
 use Rattle.sd_plan.specs.declared.Plan.{Plan}
-use Rattle.sd_check_loop.specs.Loops.{HasNoCycle, ShowsCycle}
-use Rattle.sd_check_reach.specs.Reach.{DomainHolds, ShowsDevice, ReachHolds, IsShownChain}
+use Rattle.sd_checker.specs.check_loop.Loops.{HasNoCycle, ShowsCycle}
+use Rattle.sd_checker.specs.check_reach.Reach.{DomainHolds, ShowsDevice, ReachHolds, IsShownChain}
 use Rattle.sd_checker.specs.Conditions.{Condition, is_before, place_of, condition_of, Shows}
 use Rattle.sd_checker.specs.Conditions as condition
 use Rattle.sd_checker.specs.Verdicts.{IsAccepted, IsBreach}

@@ -1,6 +1,6 @@
 -- A plan has one verdict.
 use Rattle.std.specs.Prelude.{◌≡◌}
-use Rattle.sd_topo.specs.Network.{Network}
+use Rattle.sd_plan.specs.topo.Network.{Network}
 use Rattle.sd_plan.specs.declared.Plan.{Plan}
 use Rattle.sd_checker.specs.declared.Verdict.{Verdict}
 use Rattle.sd_checker.specs.Verdicts.{IsVerdict}

@@ -1,7 +1,7 @@
 -- A line by what shows a breach.
 use Rattle.std.specs.Prelude.{ℕ, List}
-use Rattle.sd_topo.specs.Network.{Network}
-use Rattle.sd_domain.specs.declared.DomainId.{DomainId}
+use Rattle.sd_plan.specs.topo.Network.{Network}
+use Rattle.sd_plan.specs.declared.domain.DomainId.{DomainId}
 use Rattle.sd_checker.specs.Text.{refused_line}
 use Rattle.sd_checker.specs.declared.Breach.TheVariants as breach
 use Rattle.sd_checker.specs.declared.text.Shown.{Shown}

@@ -1,6 +1,6 @@
 -- A plan is accepted, or it has a first breach.
 use Rattle.std.specs.Prelude.{IsTrue}
-use Rattle.sd_topo.specs.Network.{Network}
+use Rattle.sd_plan.specs.topo.Network.{Network}
 use Rattle.sd_plan.specs.declared.Plan.{Plan}
 use Rattle.sd_checker.specs.Conditions.{Condition, Holds, Shows, is_before, condition_of}
 use Rattle.sd_checker.specs.Conditions as condition

@@ -3,7 +3,7 @@ ghost use Rattle.std.specs.Prelude.{◌≡◌, ◌<◌, length, find, not, IsTru
 ghost use Rattle.sd_checker.specs.Ancestors.{is_above};
 ghost use Rattle.sd_plan.specs.Plans as plans;
 ghost use Rattle.sd_plan.specs.Structure as structure;
-ghost use Rattle.sd_topo.specs.Topologies.{network};
+ghost use Rattle.sd_plan.specs.topo.Topologies.{network};
 
 use sd_plan::{IndexedPlan, backup_of};
 

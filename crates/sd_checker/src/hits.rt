@@ -1,17 +1,17 @@
 //! The conditions on what a fault domain hits (loop, domain, reach), all asked of one domain before
 //! the next, so that what it hits is found once.
 ghost use Rattle.std.specs.Prelude.{◌≡◌, IfOk};
-ghost use Rattle.sd_check_reach.specs.Searches.{HasRoom, IsSearchOf};
+ghost use Rattle.sd_checker.specs.check_reach.Searches.{HasRoom, IsSearchOf};
 ghost use Rattle.sd_checker.specs.Findings as findings;
 ghost use Rattle.sd_checker.specs.Findings.{Judges, Finds, IsSound, ComesAfterLoops};
-ghost use Rattle.sd_check_hit.specs.Outages.{net_of, plan_of};
-ghost use Rattle.sd_topo.specs.Topologies.{network};
+ghost use Rattle.sd_checker.specs.check_hit.Outages.{net_of, plan_of};
+ghost use Rattle.sd_plan.specs.topo.Topologies.{network};
 
 use crate::Breach;
+use crate::check_hit::{Impact, Outage};
+use crate::check_loop::loop_breach_of;
+use crate::check_reach::Search;
 use crate::order::{domain_at, domain_count};
-use sd_check_hit::{Impact, Outage};
-use sd_check_loop::loop_breach_of;
-use sd_check_reach::Search;
 use sd_num::NoMemory;
 use sd_plan::IndexedPlan;
 use std::alloc::Global;

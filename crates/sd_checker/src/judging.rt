@@ -3,16 +3,16 @@ ghost use Rattle.std.specs.Prelude.{IfOk};
 ghost use Rattle.sd_checker.specs.Findings.{Finds};
 ghost use Rattle.sd_checker.specs.Verdicts.{IsVerdict};
 ghost use Rattle.sd_plan.specs.Plans.{Fits};
-ghost use Rattle.sd_topo.specs.Topologies.{network};
+ghost use Rattle.sd_plan.specs.topo.Topologies.{network};
 
 use crate::ancestor::ancestor_breach;
+use crate::check_root::timing_breach;
 use crate::hits::hit_breach;
 use crate::roots::first_root_breach;
 use crate::{Breach, Verdict};
-use sd_check_root::timing_breach;
 use sd_num::NoMemory;
+use sd_plan::topo::Topology;
 use sd_plan::{IndexedPlan, Plan, WalkIndex, structure_breach};
-use sd_topo::Topology;
 use std::alloc::Global;
 
 /// The first breach of a plan of right structure.

@@ -1,21 +1,23 @@
-//! The plan checker.
+//! The plan checker, with a folder for each condition that takes long to judge (`check_root`,
+//! `check_loop`, `check_reach`), and one for whom a domain hits (`check_hit`).
 #![tactic(auto)]
 
 mod ancestor;
+pub mod check_hit;
+pub mod check_loop;
+pub mod check_reach;
+pub mod check_root;
 mod hits;
 mod judging;
 mod order;
 mod roots;
 mod text;
 
-// Handed on to crates above.
+use crate::check_root::TimingBreach;
 pub use judging::check;
-pub use sd_check_hit as check_hit;
-pub use sd_check_root as check_root;
-use sd_check_root::TimingBreach;
-use sd_domain::DomainId;
 use sd_plan::DeviceList;
-use sd_topo::Thing;
+use sd_plan::domain::DomainId;
+use sd_plan::topo::Thing;
 pub use text::{accepted_line, refused_line};
 
 /// The first condition that a plan breaks, with what shows it.

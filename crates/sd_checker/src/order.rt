@@ -1,12 +1,12 @@
 //! The fault domains in their order: the listed ones, each device alone, each link alone.
 ghost use Rattle.std.specs.Prelude.{◌≡◌, ◌<◌, length, Some};
 ghost use Rattle.std.specs.List.{slice_get};
-ghost use Rattle.sd_domain.specs.Domains.{domains};
-ghost use Rattle.sd_domain.specs.Lone.{IsDomain};
-ghost use Rattle.sd_topo.specs.Topologies.{network};
+ghost use Rattle.sd_plan.specs.domain.Domains.{domains};
+ghost use Rattle.sd_plan.specs.domain.Lone.{IsDomain};
+ghost use Rattle.sd_plan.specs.topo.Topologies.{network};
 
-use sd_domain::DomainId;
-use sd_topo::Topology;
+use sd_plan::domain::DomainId;
+use sd_plan::topo::Topology;
 
 /// How many domains there are.
 pub(crate) fn domain_count(topo: &Topology) -> u32

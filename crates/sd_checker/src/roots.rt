@@ -3,13 +3,13 @@ ghost use Rattle.std.specs.Prelude.{MatchOption};
 ghost use Rattle.sd_checker.specs.Conditions.{Holds, Shows};
 ghost use Rattle.sd_checker.specs.Conditions as condition;
 ghost use Rattle.sd_checker.specs.declared.Breach.TheVariants as breach;
-ghost use Rattle.sd_topo.specs.Topologies.{network};
+ghost use Rattle.sd_plan.specs.topo.Topologies.{network};
 
+use crate::check_root::root_breach_in;
 use crate::order::{domain_at, domain_count};
-use sd_check_root::root_breach_in;
-use sd_domain::DomainId;
 use sd_plan::IndexedPlan;
-use sd_topo::Thing;
+use sd_plan::domain::DomainId;
+use sd_plan::topo::Thing;
 
 /// The first domain that breaks the condition, with the thing that shows it.
 pub(crate) fn first_root_breach(planned: IndexedPlan<'_>) -> Option<(DomainId, Thing)>

@@ -3,13 +3,13 @@ ghost use Rattle.std.specs.Prelude.{◌≡◌, ◌++◌, ◌∷◌, [], IfOk, On
 ghost use Rattle.sd_checker.specs.Text as text;
 ghost use Rattle.sd_checker.specs.Named.{named};
 ghost use Rattle.sd_checker.specs.Showing.{refused_by};
-ghost use Rattle.sd_topo.specs.Network as names;
-ghost use Rattle.sd_topo.specs.Topologies.{network};
+ghost use Rattle.sd_plan.specs.topo.Network as names;
+ghost use Rattle.sd_plan.specs.topo.Topologies.{network};
 
 use crate::Breach;
 use crate::order::domain_count;
-use sd_domain::DomainId;
-use sd_topo::{Thing, Topology};
+use sd_plan::domain::DomainId;
+use sd_plan::topo::{Thing, Topology};
 use std::alloc::{AllocError, Global};
 
 /// The name of a device. A number past the last one has none.
@@ -97,7 +97,7 @@ fn thing_named(topo: &Topology, thing: Thing) -> Named<'_>
     }
 }
 
-/// Adds the names of devices to a line, each behind a space.
+/// Adds the names of devices to a line, each after a space.
 fn add_names(line: &mut String, topo: &Topology, devices: &[u32]) -> Result<(), AllocError>
     ensures { OnOk result (string_bytes line.new ≡ string_bytes line.old
         ++ named (network topo.now) devices.now) }

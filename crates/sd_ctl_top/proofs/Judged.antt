@@ -1,18 +1,18 @@
 -- What is written of a plan that was judged.
 use Rattle.std.proofs.Common.{◌≡◌, Result, Ok, Err}
-use Rattle.sd_topo.specs.Network.{Network}
+use Rattle.sd_plan.specs.topo.Network.{Network}
 use Rattle.sd_plan.specs.declared.Plan.{Plan}
-use Rattle.sd_cmd_files.specs.Answering.{Allowed}
-use Rattle.sd_cmd_files.specs.Checker.Text.{refused_line}
-use Rattle.sd_cmd_files.specs.Checker.Verdicts.{IsVerdict}
-use Rattle.sd_cmd_files.specs.Checker.declared.Breach.{Breach}
-use Rattle.sd_cmd_files.specs.Checker.declared.Verdict.TheVariants.{Accepted, Refused}
-use Rattle.sd_cmd_files.specs.Writes.{IsAllowed}
-use Rattle.sd_cmd_files.specs.declared.Status.TheVariants.{PlanRefused}
-use Rattle.sd_cmd_files.specs.declared.command_error.Answer.{Answer}
-use Rattle.sd_cmd_files.specs.declared.command_error.CommandError.{CommandError}
-use Rattle.sd_cmd_files.specs.declared.command_error.CommandError.TheVariants as ended
-use Rattle.sd_cmd_files.specs.planfiles.PlanFiles.{AfterJudged}
+use Rattle.sd_files.specs.Answering.{Allowed}
+use Rattle.sd_checker.specs.Text.{refused_line}
+use Rattle.sd_checker.specs.Verdicts.{IsVerdict}
+use Rattle.sd_checker.specs.declared.Breach.{Breach}
+use Rattle.sd_checker.specs.declared.Verdict.TheVariants.{Accepted, Refused}
+use Rattle.sd_files.specs.Writes.{IsAllowed}
+use Rattle.sd_files.specs.declared.Status.TheVariants.{PlanRefused}
+use Rattle.sd_files.specs.declared.command_error.Answer.{Answer}
+use Rattle.sd_files.specs.declared.command_error.CommandError.{CommandError}
+use Rattle.sd_files.specs.declared.command_error.CommandError.TheVariants as ended
+use Rattle.sd_files.specs.planfiles.PlanFiles.{AfterJudged}
 
 module _ (net : Network) (plan : Plan) (Then : Allowed) where
   -- what may be written of an accepted plan

@@ -1,15 +1,15 @@
 -- What a search finds is what may be written.
 use Rattle.std.proofs.Common.{◌≡◌, ℕ, Option, Result, Ok, Err}
 use Rattle.std.specs.Prelude.{IfErr, IfOk}
-use Rattle.sd_topo.specs.Network.{Network}
+use Rattle.sd_plan.specs.topo.Network.{Network}
 use Rattle.sd_plan.specs.declared.Absent.{Absent}
-use Rattle.sd_cmd_files.specs.Writes.{IsAllowed}
-use Rattle.sd_cmd_files.specs.declared.command_error.Answer.{Answer}
-use Rattle.sd_cmd_files.specs.declared.command_error.CommandError.{CommandError}
-use Rattle.sd_cmd_files.specs.declared.command_error.CommandError.TheVariants as ended
-use Rattle.sd_ctl_search.specs.Finds.{IsFound}
-use Rattle.sd_ctl_search.specs.declared.found.Found.{Found}
-use Rattle.sd_ctl_search.specs.declared.found.Found.TheVariants as found
+use Rattle.sd_files.specs.Writes.{IsAllowed}
+use Rattle.sd_files.specs.declared.command_error.Answer.{Answer}
+use Rattle.sd_files.specs.declared.command_error.CommandError.{CommandError}
+use Rattle.sd_files.specs.declared.command_error.CommandError.TheVariants as ended
+use Rattle.sd_search.specs.Finds.{IsFound}
+use Rattle.sd_search.specs.declared.found.Found.{Found}
+use Rattle.sd_search.specs.declared.found.Found.TheVariants as found
 use Rattle.sd_ctl_top.specs.Findings.{FitsFound, IsFinding, found_status, found_text}
 
 -- a plan that was found fits

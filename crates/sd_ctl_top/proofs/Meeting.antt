@@ -1,25 +1,26 @@
 -- What a command leaves at the sink is what it answers, and then what the run answers.
 use Rattle.std.proofs.Common.{◌≡◌, ℕ, ◌∙◌, false, List, Option, Some, None, Result, Ok, Err, ap, arith, refl, sym, subst}
 use Rattle.std.specs.Prelude.{IfSome, IsTrue}
-use Rattle.sd_outside.specs.Causes.{RisesFor}
-use Rattle.sd_outside.specs.Pieces.{Pieces, piece_of}
-use Rattle.sd_cmd_files.proofs.work.Leaving.{at_once, leaves_once}
-use Rattle.sd_cmd_files.specs.Answering.{Allowed, AtOnce, InWrites}
-use Rattle.sd_cmd_files.specs.Statuses.{is_among, stop_of}
-use Rattle.sd_cmd_files.specs.Stops.{status_of}
-use Rattle.sd_cmd_files.specs.Texts.{Texts, texts_of}
-use Rattle.sd_cmd_files.specs.Writes.{IsAllowed, HasOutput, WritesOnce}
-use Rattle.sd_cmd_files.specs.declared.Status.{Status}
-use Rattle.sd_cmd_files.specs.declared.Status.TheVariants.{ShelfFault, SinkFault, Memory}
-use Rattle.sd_cmd_files.specs.declared.command_error.Answer.{Answer}
-use Rattle.sd_cmd_files.specs.declared.command_error.CommandError.{CommandError}
-use Rattle.sd_cmd_files.specs.declared.command_error.IoError.{IoError}
-use Rattle.sd_cmd_files.specs.declared.command_error.IoError.TheVariants as stop
-use Rattle.sd_cmd_files.specs.work.Ending.{LeavesAt}
-use Rattle.sd_cmd_files.specs.work.Leaving.{Leaves}
-use Rattle.sd_ctl_top.specs.Promise.{IsUsageLine, MeetsOutcome, MeetsResult, task_of}
+use Rattle.sd_io.specs.outside.Causes.{RisesFor}
+use Rattle.sd_io.specs.outside.Pieces.{Pieces, piece_of}
+use Rattle.sd_drill_text.proofs.Commands.{leaves_written}
+use Rattle.sd_files.proofs.work.Leaving.{at_once, leaves_once}
+use Rattle.sd_files.specs.Answering.{Allowed, AtOnce, InWrites}
+use Rattle.sd_files.specs.Statuses.{is_among, stop_of}
+use Rattle.sd_files.specs.Stops.{status_of}
+use Rattle.sd_files.specs.Texts.{Texts, texts_of}
+use Rattle.sd_files.specs.Writes.{IsAllowed, HasOutput, WritesOnce}
+use Rattle.sd_files.specs.declared.Status.{Status}
+use Rattle.sd_files.specs.declared.Status.TheVariants.{ShelfFault, SinkFault, Memory}
+use Rattle.sd_files.specs.declared.command_error.Answer.{Answer}
+use Rattle.sd_files.specs.declared.command_error.CommandError.{CommandError}
+use Rattle.sd_files.specs.declared.command_error.IoError.{IoError}
+use Rattle.sd_files.specs.declared.command_error.IoError.TheVariants as stop
+use Rattle.sd_files.specs.work.Ending.{LeavesAt}
+use Rattle.sd_files.specs.work.Leaving.{Leaves}
+use Rattle.sd_ctl_top.specs.Promise.{IsUsageLine, IsVersionLine, MeetsOutcome, MeetsResult, task_of}
 use Rattle.sd_ctl_top.specs.Words.{Command, command_of}
-use Rattle.sd_ctl_top.specs.Words.Command.{Search, Renew, Bounds, Resume, Record, Merge}
+use Rattle.sd_ctl_top.specs.Words.Command.{Search, Renew, Bounds, Resume, Record, Merge, Version}
 
 -- the command of the words meets its task
 pub meets : (held : Option (List ℕ → Option (List ℕ))) (words : List (List ℕ)) (command : Option Command) (old new : Option Pieces)
@@ -37,21 +38,22 @@ pub made_once : (held : Option (List ℕ → Option (List ℕ))) (Answers : Text
 made_once None Answers made old new result makes writes = tt
 made_once (Some h) Answers made old new result makes writes = leaves_once (Answers (texts_of h)) made old new result makes writes
 
-usage_leaves : (old new : Option Pieces) (result : Result Status IoError) → WritesOnce IsUsageLine old new result
-    → LeavesAt false (InWrites AtOnce IsUsageLine) old new result
-usage_leaves old new (Ok status) (bytes, written, added) = (piece_of bytes, at_once IsUsageLine bytes status written, added)
-usage_leaves old new (Err stop.Shelf) kept = kept
-usage_leaves old new (Err stop.Sink) (bytes, status, written, front) = (piece_of bytes, status, at_once IsUsageLine bytes status written, front)
-usage_leaves old new (Err stop.Memory) kept = kept
+-- a line that no file has a part in
+line_once : (held : Option (List ℕ → Option (List ℕ))) (IsLine : Allowed) (old new : Option Pieces) (result : Result Status IoError)
+    → WritesOnce IsLine old new result
+    → IfSome held (λ h. LeavesAt false (InWrites AtOnce IsLine) old new result)
+line_once None IsLine old new result writes = tt
+line_once (Some h) IsLine old new result writes = leaves_written IsLine old new result writes
 
 -- words that are no command
 pub usage_meets : (held : Option (List ℕ → Option (List ℕ))) (words : List (List ℕ)) (old new : Option Pieces) (result : Result Status IoError)
     → None ≡ command_of words → WritesOnce IsUsageLine old new result → MeetsResult held words old new result
-usage_meets held words old new result is writes = meets held words None old new result is (by held)
-  where
-    by : (o : Option (List ℕ → Option (List ℕ))) → IfSome o (λ h. LeavesAt false (InWrites AtOnce IsUsageLine) old new result)
-    by None = tt
-    by (Some h) = usage_leaves old new result writes
+usage_meets held words old new result is writes = meets held words None old new result is (line_once held IsUsageLine old new result writes)
+
+pub version_meets : (held : Option (List ℕ → Option (List ℕ))) (words : List (List ℕ)) (old new : Option Pieces) (result : Result Status IoError)
+    → Some Version ≡ command_of words → WritesOnce IsVersionLine old new result → MeetsResult held words old new result
+version_meets held words old new result is writes =
+    meets held words (Some Version) old new result is (line_once held IsVersionLine old new result writes)
 
 -- no command answers a status of a run that was stopped
 pub never_stopped : (command : Option Command) (status : Status) → IsTrue (is_among (task_of command).gives status) → stop_of status ≡ None
@@ -76,6 +78,9 @@ never_stopped (Some (Record topology plans log)) Memory among = cc
 never_stopped (Some (Merge logs feed)) ShelfFault among = cc
 never_stopped (Some (Merge logs feed)) SinkFault among = cc
 never_stopped (Some (Merge logs feed)) Memory among = cc
+never_stopped (Some Version) ShelfFault among = cc
+never_stopped (Some Version) SinkFault among = cc
+never_stopped (Some Version) Memory among = cc
 never_stopped _ _ among = refl
 
 -- a run that ended

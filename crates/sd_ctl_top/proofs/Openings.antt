@@ -1,4 +1,4 @@
--- The words of an opening: where the slash stands, and which words lie before it and behind it.
+-- The words of an opening: where the slash stands, and which words lie before it and after it.
 use Rattle.std.proofs.Common.{◌≡◌, ◌∙◌, ◌<◌, ◌≤◌, ◌+◌, ◌-◌, ℕ, Bool, true, false, List, [], ◌∷◌, Option, Some, None, ap, arith, drop, get_or, length, map, refl, sym, take}
 use Rattle.std.specs.Prelude.{◌||◌, codes, nat_lt, if◌then◌else◌}
 use Rattle.std.specs.Str.{bytes_eq}
@@ -21,7 +21,7 @@ module _ {A : Type 0} (bytes : A → List ℕ) where
   slash_here words place word within is same =
       at_drop_more (λ (ws : List A). slash_from place (map bytes ws)) words place word within ∙ rw (sym is, same) refl
 
-  -- behind the last word
+  -- after the last word
   pub no_slash : (words : List A) (place : ℕ) → length words ≤ place → slash_from place (map bytes (drop place words)) ≡ None
   no_slash words place all = at_drop_all (λ (ws : List A). slash_from place (map bytes ws)) words place all
 
@@ -61,7 +61,7 @@ module _ {A : Type 0} (bytes : A → List ℕ) where
       ∙ get_or-map bytes words (length words - 1) word [] (omega (arith, some))
       ∙ ap bytes (sym is))
 
-  -- of the words before the slash and behind it
+  -- of the words before the slash and after it
   before_is : (words : List A) (place : ℕ) → map bytes (take place words) ≡ take place (map bytes words)
   before_is words place = sym (take-map bytes place words)
 

@@ -26,7 +26,7 @@ module _ (Serves : List ℕ → Type 0) (names : List (List ℕ)) where
   all_behind [] ys all = all
   all_behind (x ∷ xs) ys all = all_behind xs ys (All-tail Serves x (xs ++ ys) all)
 
-  -- so is each in the middle, and each of the two behind them
+  -- so is each in the middle, and each of the two after them
   module _ (first : List ℕ) (middle : List (List ℕ)) (name last : List ℕ) (is : first ∷ (middle ++ name ∷ last ∷ []) ≡ names) (all : All Serves names) where
     pub middle_served : All Serves middle
     middle_served = all_before middle (name ∷ last ∷ []) (behind_first first (middle ++ name ∷ last ∷ []) is all)
@@ -40,7 +40,7 @@ module _ (Serves : List ℕ → Type 0) (names : List (List ℕ)) where
     pub last_served : Serves last
     last_served = All-head Serves last [] (All-tail Serves name (last ∷ []) others)
 
-  -- so is each in the middle, and the one behind them
+  -- so is each in the middle, and the one after them
   module _ (first : List ℕ) (middle : List (List ℕ)) (last : List ℕ) (is : first ∷ (middle ++ last ∷ []) ≡ names) (all : All Serves names) where
     pub inner_served : All Serves middle
     inner_served = all_before middle (last ∷ []) (behind_first first (middle ++ last ∷ []) is all)

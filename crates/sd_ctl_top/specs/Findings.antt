@@ -1,19 +1,19 @@
 -- What `search` and `renew` of the second program write and answer for the texts of their files.
 use Rattle.std.specs.Prelude.{◌≡◌, ℕ, List, [], not, Option, None, Some, if◌then◌else◌}
 use Rattle.sd_num.specs.Lists.{has}
-use Rattle.sd_topo.specs.Network.{Network}
+use Rattle.sd_plan.specs.topo.Network.{Network}
 use Rattle.sd_plan.specs.declared.Absent.{Absent}
 use Rattle.sd_plan.specs.declared.Plan.{Plan}
 use Rattle.sd_plantext.specs.Printed.{plan_text}
 use Rattle.sd_plan.specs.Plans.{Fits}
-use Rattle.sd_ctl_search.specs.Finds.{IsFound}
-use Rattle.sd_ctl_search.specs.declared.found.Found.{Found}
-use Rattle.sd_ctl_search.specs.declared.found.Found.TheVariants as found
-use Rattle.sd_cmd_files.specs.Checker.Text.{refused_line}
-use Rattle.sd_cmd_files.specs.Answering.{Allowed, After}
-use Rattle.sd_cmd_files.specs.Inputs.{topology_of, plan_in_file, absent_in_file}
-use Rattle.sd_cmd_files.specs.declared.Status.{Status}
-use Rattle.sd_cmd_files.specs.declared.Status.TheVariants.{Done, PlanRefused}
+use Rattle.sd_search.specs.Finds.{IsFound}
+use Rattle.sd_search.specs.declared.found.Found.{Found}
+use Rattle.sd_search.specs.declared.found.Found.TheVariants as found
+use Rattle.sd_checker.specs.Text.{refused_line}
+use Rattle.sd_files.specs.Answering.{Allowed, After}
+use Rattle.sd_files.specs.Inputs.{topology_of, plan_in_file, absent_in_file}
+use Rattle.sd_files.specs.declared.Status.{Status}
+use Rattle.sd_files.specs.declared.Status.TheVariants.{Done, PlanRefused}
 
 -- the text of a plan that was found, or the line of the breach of the best that there was
 abbrev pub found_text : Network → Found → List ℕ

@@ -3,3 +3,4 @@ pub mod Parsed
 pub mod Findings
 pub mod Bounded
 pub mod Promise
+pub mod bounding

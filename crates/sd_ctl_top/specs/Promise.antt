@@ -1,28 +1,32 @@
 -- What `run` of the second program promises.
 use Rattle.std.specs.Prelude.{◌≡◌, ℕ, Bool, true, false, List, [], ◌∷◌, map, Option, None, Some, IfSome, Result, codes}
-use Rattle.sd_outside.specs.Pieces.{Pieces}
-use Rattle.sd_cmd_files.specs.Answering.{Allowed, AtOnce, InWrites, MayWrite}
-use Rattle.sd_cmd_files.specs.Statuses.{stop_of}
-use Rattle.sd_cmd_files.specs.Texts.{Texts, texts_of}
-use Rattle.sd_cmd_files.specs.declared.Status.{Status}
-use Rattle.sd_cmd_files.specs.declared.Status.TheVariants.{Done, PlanRefused, Usage, InputRefused, Broken}
-use Rattle.sd_cmd_files.specs.declared.command_error.IoError.{IoError}
-use Rattle.sd_cmd_files.specs.work.Ending.{LeavesAt}
-use Rattle.sd_cmd_files.specs.work.Leaving.{Leaves}
-use Rattle.sd_ctl_merge.specs.Works.{IsMerging}
-use Rattle.sd_ctl_record.specs.Recordings.{IsRecording}
-use Rattle.sd_ctl_resume.specs.Resumes.{IsResuming}
+use Rattle.sd_io.specs.outside.Pieces.{Pieces}
+use Rattle.sd_files.specs.Answering.{Allowed, AtOnce, InWrites, MayWrite}
+use Rattle.sd_files.specs.Statuses.{stop_of}
+use Rattle.sd_files.specs.Texts.{Texts, texts_of}
+use Rattle.sd_files.specs.declared.Status.{Status}
+use Rattle.sd_files.specs.declared.Status.TheVariants.{Done, PlanRefused, Usage, InputRefused, Broken}
+use Rattle.sd_files.specs.declared.command_error.IoError.{IoError}
+use Rattle.sd_files.specs.work.Ending.{LeavesAt}
+use Rattle.sd_files.specs.work.Leaving.{Leaves}
+use Rattle.sd_record.specs.merge.Works.{IsMerging}
+use Rattle.sd_record.specs.Recordings.{IsRecording}
+use Rattle.sd_resume.specs.command.Resumes.{IsResuming}
 use Rattle.sd_ctl_top.specs.Bounded.{IsBounding}
 use Rattle.sd_ctl_top.specs.Findings.{IsRenewing, IsSearch}
 use Rattle.sd_ctl_top.specs.Words.{Command, command_of}
-use Rattle.sd_ctl_top.specs.Words.Command.{Search, Renew, Bounds, Resume, Record, Merge}
+use Rattle.sd_ctl_top.specs.Words.Command.{Search, Renew, Bounds, Resume, Record, Merge, Version}
 
 -- the usage line, with its status
 abbrev pub IsUsageLine : Allowed
 IsUsageLine bytes status =
     (bytes
-    ≡ codes "usage: sundialctl search TOPOLOGY BASE HOLD SEED STEPS | renew TOPOLOGY PLAN ABSENT BASE HOLD SEED STEPS | bounds TOPOLOGY PLAN BASE HOLD | resume TOPOLOGY PLAN.. SCHEDULE / PLAN.. OPENING | record TOPOLOGY PLAN.. LOG | merge LOGS FEED\n")
+    ≡ codes "usage: sundialctl search TOPOLOGY BASE HOLD SEED STEPS | renew TOPOLOGY PLAN ABSENT BASE HOLD SEED STEPS | bounds TOPOLOGY PLAN BASE HOLD | resume TOPOLOGY PLAN.. SCHEDULE / PLAN.. OPENING | record TOPOLOGY PLAN.. LOG | merge LOGS FEED | version\n")
     × (status ≡ Usage)
+
+-- the version of both programs
+abbrev pub IsVersionLine : Allowed
+IsVersionLine bytes status = (bytes ≡ codes "version 1.0.0\n") × (status ≡ Done)
 
 -- what is promised of a command
 pub record Task : Type 1 where
@@ -37,9 +41,9 @@ pub record Task : Type 1 where
 abbrev pub once : List Status → (Texts → Allowed) → Task
 once statuses Answers = record { Writes = λ texts. InWrites AtOnce (Answers texts); gives = statuses; in_steps = false }
 
--- a command that reads its last file line by line, and writes as it goes
-abbrev pub line_by_line : List Status → (Texts → MayWrite) → Task
-line_by_line statuses Writes = record { Writes = Writes; gives = statuses; in_steps = true }
+-- a command that writes as it goes: for each line of its last file, or for each domain of its plan
+abbrev pub step_by_step : List Status → (Texts → MayWrite) → Task
+step_by_step statuses Writes = record { Writes = Writes; gives = statuses; in_steps = true }
 
 -- each command, and words that are none
 abbrev pub task_of : Option Command → Task
@@ -48,13 +52,14 @@ task_of (Some (Search topology settings)) = once (Done ∷ PlanRefused ∷ Input
 task_of (Some (Renew topology plan absent settings)) =
     once (Done ∷ PlanRefused ∷ InputRefused ∷ []) (λ texts. IsRenewing (texts topology) (texts plan) (texts absent))
 task_of (Some (Bounds topology plan budget)) =
-    once (Done ∷ PlanRefused ∷ InputRefused ∷ []) (λ texts. IsBounding (texts topology) (texts plan) budget)
+    step_by_step (Done ∷ PlanRefused ∷ InputRefused ∷ []) (λ texts. IsBounding (texts topology) (texts plan) budget)
 task_of (Some (Resume topology plans left schedule opening)) =
     once (Done ∷ PlanRefused ∷ InputRefused ∷ Broken ∷ [])
     (λ texts. IsResuming (texts topology) (map texts plans) left (texts schedule) (texts opening))
 task_of (Some (Record topology plans log)) =
-    line_by_line (Done ∷ PlanRefused ∷ InputRefused ∷ []) (λ texts. IsRecording (texts topology) (map texts plans) (texts log))
-task_of (Some (Merge logs feed)) = line_by_line (InputRefused ∷ Done ∷ []) (λ texts. IsMerging logs (texts feed))
+    step_by_step (Done ∷ PlanRefused ∷ InputRefused ∷ []) (λ texts. IsRecording (texts topology) (map texts plans) (texts log))
+task_of (Some (Merge logs feed)) = step_by_step (InputRefused ∷ Done ∷ []) (λ texts. IsMerging logs (texts feed))
+task_of (Some Version) = once (Done ∷ []) (λ texts. IsVersionLine)
 
 -- what a run wrote, with its status, is what the task allows
 abbrev pub Meets : Task → Texts → Option Pieces → Option Pieces → Status → Type 0

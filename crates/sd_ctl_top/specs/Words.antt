@@ -4,9 +4,9 @@ use Rattle.std.specs.Str.{bytes_eq}
 use Rattle.sd_num.specs.Decimals.{number}
 use Rattle.sd_num.specs.Lists.{map_or}
 use Rattle.sd_num.specs.declared.NumFault.{NumFault}
-use Rattle.sd_ctl_search.specs.Drill.declared.Budget.{Budget}
-use Rattle.sd_ctl_search.specs.declared.searching.Settings.{Settings}
-use Rattle.sd_ctl_merge.specs.Feeds.{from_one}
+use Rattle.sd_drill.specs.declared.Budget.{Budget}
+use Rattle.sd_search.specs.declared.searching.Settings.{Settings}
+use Rattle.sd_record.specs.merge.Feeds.{from_one}
 
 -- a command, with the names of its files and its settings or its budget, or how many plans an opening leaves out
 pub data Command : Type 0 where
@@ -16,6 +16,7 @@ pub data Command : Type 0 where
   Resume : (topology : List ℕ) (plans : List (List ℕ)) (left : ℕ) (schedule opening : List ℕ) → Command
   Record : (topology : List ℕ) (plans : List (List ℕ)) (log : List ℕ) → Command
   Merge : (logs : ℕ) (feed : List ℕ) → Command
+  Version : Command
 
 -- the number that was read, where it is not above the greatest
 abbrev pub if_at_most : ℕ → Result ℕ NumFault → Option ℕ
@@ -108,7 +109,7 @@ resume_over topology plans schedule later opening =
     else if same_words (drop (length plans - length later) plans) later then Some (Resume topology plans (length plans - length later) schedule opening)
     else None
 
--- of the words before the slash and behind it: plans, and then a text
+-- of the words before the slash and after it: plans, and then a text
 abbrev pub resume_parts : (topology : List ℕ) (before behind : List (List ℕ)) → Option Command
 resume_parts topology before behind =
     if nat_lt (length before) 2 || nat_lt (length behind) 2 then None
@@ -142,6 +143,11 @@ abbrev pub merge_of : List (List ℕ) → Option Command
 merge_of (count ∷ feed ∷ []) = map_or (log_count count) None (λ logs. Some (Merge logs feed))
 merge_of _ = None
 
+-- the version, where no word follows
+abbrev pub version_of : List (List ℕ) → Option Command
+version_of [] = Some Version
+version_of (word ∷ others) = None
+
 -- the command of the words, if they are in the table
 abbrev pub command_of : List (List ℕ) → Option Command
 command_of [] = None
@@ -152,6 +158,7 @@ command_of (word ∷ others) =
     else if bytes_eq word (codes "resume") then resume_of others
     else if bytes_eq word (codes "record") then record_of others
     else if bytes_eq word (codes "merge") then merge_of others
+    else if bytes_eq word (codes "version") then version_of others
     else None
 
 -- the names of the files that a command reads, in the order of its work
@@ -163,3 +170,4 @@ names_of (Some (Bounds topology plan budget)) = topology ∷ plan ∷ []
 names_of (Some (Resume topology plans left schedule opening)) = topology ∷ (plans ++ schedule ∷ opening ∷ [])
 names_of (Some (Record topology plans log)) = topology ∷ (plans ++ log ∷ [])
 names_of (Some (Merge logs feed)) = feed ∷ []
+names_of (Some Version) = []

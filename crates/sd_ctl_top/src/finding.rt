@@ -1,17 +1,17 @@
 //! A search, and what is written of what it found.
 ghost use Rattle.std.specs.Prelude.{◌≡◌, ◌<◌, [], ◌∷◌, length, IsTrue, IfErr, IfOk, IfSome};
-ghost use Rattle.sd_cmd_files.specs.Statuses.{is_among};
-ghost use Rattle.sd_cmd_files.specs.Writes.{IsAllowed};
-ghost use Rattle.sd_ctl_search.specs.Drill.Budgets.{IsBudget};
-ghost use Rattle.sd_ctl_search.specs.Planner.Absences.{IsAbsentOf};
+ghost use Rattle.sd_files.specs.Statuses.{is_among};
+ghost use Rattle.sd_files.specs.Writes.{IsAllowed};
+ghost use Rattle.sd_drill.specs.Budgets.{IsBudget};
+ghost use Rattle.sd_planner.specs.Absences.{IsAbsentOf};
 ghost use Rattle.sd_ctl_top.specs.Findings.{FitsFound, IsFinding, found_status, found_text};
-ghost use Rattle.sd_topo.specs.Topologies.{network};
+ghost use Rattle.sd_plan.specs.topo.Topologies.{network};
 
-use sd_cmd_files::{Answer, CommandError, Status, refused_plan};
-use sd_ctl_search::{Found, Settings, search};
+use sd_files::{Answer, CommandError, Status, refused_plan};
 use sd_plan::Absent;
+use sd_plan::topo::Topology;
 use sd_plantext::plan_text;
-use sd_topo::Topology;
+use sd_search::{Found, Settings, search};
 use std::alloc::Global;
 
 /// The text of a plan that was found, or the line of the breach of the best one.

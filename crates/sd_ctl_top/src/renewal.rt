@@ -1,24 +1,24 @@
 //! `renew`: a plan that goes on from an old one, without what is absent.
 ghost use Rattle.std.specs.Prelude.{◌≡◌, [], ◌∷◌, Some, Err, IsTrue, IfErr, IfOk, IfSome};
 ghost use Rattle.sd_num.specs.Lists.{ascends};
-ghost use Rattle.sd_outside.specs.Shelves.{KeepsShelf};
-ghost use Rattle.sd_cmd_files.specs.Answering.{After};
-ghost use Rattle.sd_cmd_files.specs.Inputs.{absent_in_file, plan_in_file};
-ghost use Rattle.sd_cmd_files.specs.Statuses.{is_among};
-ghost use Rattle.sd_cmd_files.specs.Texts.{texts_of};
-ghost use Rattle.sd_cmd_files.specs.Writes.{IsAllowed};
-ghost use Rattle.sd_ctl_search.specs.Drill.Budgets.{IsBudget};
+ghost use Rattle.sd_io.specs.outside.Shelves.{KeepsShelf};
+ghost use Rattle.sd_files.specs.Answering.{After};
+ghost use Rattle.sd_files.specs.Inputs.{absent_in_file, plan_in_file};
+ghost use Rattle.sd_files.specs.Statuses.{is_among};
+ghost use Rattle.sd_files.specs.Texts.{texts_of};
+ghost use Rattle.sd_files.specs.Writes.{IsAllowed};
+ghost use Rattle.sd_drill.specs.Budgets.{IsBudget};
 ghost use Rattle.sd_ctl_top.specs.Findings as findings;
 ghost use Rattle.sd_ctl_top.specs.Findings.{IsFinding, IsRenewing};
-ghost use Rattle.sd_topo.specs.Topologies.{network};
+ghost use Rattle.sd_plan.specs.topo.Topologies.{network};
 
 use crate::finding::finding;
-use sd_cmd_files::{Answer, CommandError, Status, load_absent, load_plan, load_topology};
-use sd_ctl_search::Settings;
+use sd_files::{Answer, CommandError, Status, load_absent, load_plan, load_topology};
+use sd_io::outside::Shelf;
 use sd_num::contains;
-use sd_outside::Shelf;
+use sd_plan::topo::Topology;
 use sd_plan::{Absent, Plan};
-use sd_topo::Topology;
+use sd_search::Settings;
 use std::alloc::Global;
 
 /// The files of a renewal, by their names.

@@ -1,30 +1,30 @@
 //! `run`: the command of the words.
-ghost use Rattle.std.specs.Prelude.{◌≡◌, ◌⊎◌, ℕ, false, All, Err, IfOk, IsTrue, None, Ok, map, string_bytes};
-ghost use Rattle.sd_outside.specs.Causes.{RisesFor, Rose};
-ghost use Rattle.sd_outside.specs.Shelves.{KeepsShelf};
-ghost use Rattle.sd_cmd_files.specs.Statuses.{is_among, stop_of};
-ghost use Rattle.sd_cmd_files.specs.Writes.{WritesOnce};
-ghost use Rattle.sd_ctl_merge.specs.Laws.{FeedIsMerged};
-ghost use Rattle.sd_ctl_record.specs.Lawful.{LogIsRecorded};
-ghost use Rattle.sd_ctl_top.specs.Promise.{IsUsageLine, MeetsOutcome, MeetsResult, task_of};
+ghost use Rattle.std.specs.Prelude.{◌≡◌, ◌⊎◌, ℕ, false, All, Err, IfErr, IfOk, IsTrue, None, Ok, map, string_bytes};
+ghost use Rattle.sd_io.specs.outside.Causes.{RisesFor, Rose};
+ghost use Rattle.sd_io.specs.outside.Shelves.{KeepsShelf};
+ghost use Rattle.sd_files.specs.Statuses.{is_among, stop_of};
+ghost use Rattle.sd_files.specs.Writes.{WritesOnce};
+ghost use Rattle.sd_record.specs.merge.Laws.{FeedIsMerged};
+ghost use Rattle.sd_record.specs.Lawful.{LogIsRecorded};
+ghost use Rattle.sd_ctl_top.specs.Promise.{IsUsageLine, IsVersionLine, MeetsOutcome, MeetsResult, task_of};
 ghost use Rattle.sd_ctl_top.specs.Words as meaning;
 ghost use Rattle.sd_ctl_top.specs.Words.{names_of};
 
-use crate::bounds::bounds_answer;
+use crate::bounding::{BoundsLines, print_texts};
 use crate::renewal::{RenewalFiles, renewal_answer};
 use crate::whole::whole_answer;
 use crate::words::{Command, command_of};
-use sd_cmd_files::{IoError, Status, write_answer};
-use sd_ctl_merge::merge_feed;
-use sd_ctl_record::record_files;
-use sd_ctl_resume::resume;
-use sd_outside::{Shelf, Sink};
+use sd_files::{IoError, Status, write_answer};
+use sd_io::outside::{Shelf, Sink};
+use sd_record::merge::merge_feed;
+use sd_record::record_files;
+use sd_resume::command::resume;
 use std::alloc::Global;
 
 /// Does the work of the words that follow the program's name, and answers how it ended.
 ///
 /// The files that the words name are begun on the shelf, and what is printed goes to the sink by one
-/// write, or, of a recording or a merge, each step by one.
+/// write, or, of `bounds`, a recording or a merge, each step by one.
 pub fn run<S: Shelf, O: Sink>(alloc: Global, words: &[String], shelf: &mut S, out: &mut O) -> Status
     requires fresh { S.begun shelf.old ≡ false }
     requires serves { All (λ name. IsTrue (S.serves shelf.old name))
@@ -34,7 +34,7 @@ pub fn run<S: Shelf, O: Sink>(alloc: Global, words: &[String], shelf: &mut S, ou
     // where the checker accepts it, and it leaves out just what is absent. No plan is printed only
     // where the checker refuses the greedy one too: what `sundial plan` prints, or `sundial renew`.
     // It is printed that an opening agrees only where all later events that may follow both are the
-    // same behind both, and what breaks behind the opening is broken behind the schedule. Of a
+    // same after both, and what breaks after the opening is broken after the schedule. Of a
     // recording each line of the log has its lines of the schedule by one write, and of a merge
     // each line of the feed the lines of logs that it has settled.
     ensures outcome { MeetsOutcome (S.held shelf.old) (map string_bytes words.now)
@@ -56,7 +56,7 @@ pub fn run<S: Shelf, O: Sink>(alloc: Global, words: &[String], shelf: &mut S, ou
         → (stop_of result ≡ None) ⊎ (result ≡ Status.Memory) }
 
     // Of the schedule that a recording writes: each line of a log that is accepted is recorded by
-    // its event, behind losses alone, and each event is accepted behind those before it.
+    // its event, after losses alone, and each event is accepted after those before it.
     ensures lawful { LogIsRecorded }
 
     // Of what a merge writes: it is the merge of the logs, and what is settled stays so, however the
@@ -115,18 +115,39 @@ fn perform<S: Shelf, O: Sink>(
                 plan,
                 budget,
             },
-        ) => {
-            let made = bounds_answer(alloc, shelf, topology, plan, budget);
-            write_answer(alloc, &made, out)
-        }
+        ) => print_texts::<BoundsLines, S, O>(alloc, shelf, topology, plan, budget, out),
         Some(Command::Resume { files }) => {
             let made = resume(alloc, shelf, files);
             write_answer(alloc, &made, out)
         }
         Some(Command::Record { files }) => record_files(alloc, shelf, files, out),
         Some(Command::Merge { logs, feed }) => merge_feed(alloc, shelf, logs as usize, feed, out),
+        Some(Command::Version) => version(out),
         None => usage(out),
     }
+}
+
+/// Writes a line.
+fn write_line<O: Sink>(out: &mut O, line: &[u8], status: Status) -> Result<Status, IoError>
+    ensures outcome { WritesOnce (λ bytes answer. (bytes ≡ line.now) × (answer ≡ status))
+        (O.written out.old) (O.written out.new) result }
+    ensures either { (result ≡ Ok status) ⊎ (result ≡ Err IoError.Sink) }
+    ensures sink { RisesFor (result ≡ Err IoError.Sink) (O.faults out.old) (O.faults out.new) }
+{
+    match out.write(line) {
+        Ok(()) => Ok(status),
+        Err(_) => Err(IoError::Sink),
+    }
+}
+
+/// Writes the version of both programs.
+fn version<O: Sink>(out: &mut O) -> Result<Status, IoError>
+    ensures outcome { WritesOnce IsVersionLine (O.written out.old) (O.written out.new) result }
+    ensures done { IfOk result (λ status. status ≡ Status.Done) }
+    ensures only { IfErr result (λ why. why ≡ IoError.Sink) }
+    ensures sink { RisesFor (result ≡ Err IoError.Sink) (O.faults out.old) (O.faults out.new) }
+{
+    write_line(out, b"version 1.0.0\n", Status::Done)
 }
 
 /// Writes the usage line.
@@ -135,10 +156,9 @@ fn usage<O: Sink>(out: &mut O) -> Result<Status, IoError>
     ensures usage { (result ≡ Ok Status.Usage) ⊎ (result ≡ Err IoError.Sink) }
     ensures sink { RisesFor (result ≡ Err IoError.Sink) (O.faults out.old) (O.faults out.new) }
 {
-    match out.write(
-        b"usage: sundialctl search TOPOLOGY BASE HOLD SEED STEPS | renew TOPOLOGY PLAN ABSENT BASE HOLD SEED STEPS | bounds TOPOLOGY PLAN BASE HOLD | resume TOPOLOGY PLAN.. SCHEDULE / PLAN.. OPENING | record TOPOLOGY PLAN.. LOG | merge LOGS FEED\n",
-    ) {
-        Ok(()) => Ok(Status::Usage),
-        Err(_) => Err(IoError::Sink),
-    }
+    write_line(
+        out,
+        b"usage: sundialctl search TOPOLOGY BASE HOLD SEED STEPS | renew TOPOLOGY PLAN ABSENT BASE HOLD SEED STEPS | bounds TOPOLOGY PLAN BASE HOLD | resume TOPOLOGY PLAN.. SCHEDULE / PLAN.. OPENING | record TOPOLOGY PLAN.. LOG | merge LOGS FEED | version\n",
+        Status::Usage,
+    )
 }

@@ -1,19 +1,19 @@
 //! `search`: a plan of a topology with all that there is.
 ghost use Rattle.std.specs.Prelude.{◌≡◌, [], ◌∷◌, None, Err, IsTrue, IfErr, IfOk, IfSome};
-ghost use Rattle.sd_outside.specs.Shelves.{KeepsShelf};
-ghost use Rattle.sd_cmd_files.specs.Statuses.{is_among};
-ghost use Rattle.sd_cmd_files.specs.Texts.{texts_of};
-ghost use Rattle.sd_cmd_files.specs.Writes.{IsAllowed};
-ghost use Rattle.sd_ctl_search.specs.Drill.Budgets.{IsBudget};
+ghost use Rattle.sd_io.specs.outside.Shelves.{KeepsShelf};
+ghost use Rattle.sd_files.specs.Statuses.{is_among};
+ghost use Rattle.sd_files.specs.Texts.{texts_of};
+ghost use Rattle.sd_files.specs.Writes.{IsAllowed};
+ghost use Rattle.sd_drill.specs.Budgets.{IsBudget};
 ghost use Rattle.sd_ctl_top.specs.Findings.{IsFinding, IsSearch};
-ghost use Rattle.sd_topo.specs.Topologies.{network};
+ghost use Rattle.sd_plan.specs.topo.Topologies.{network};
 
 use crate::finding::finding;
-use sd_cmd_files::{Answer, CommandError, Status, load_topology};
-use sd_ctl_search::Settings;
-use sd_outside::Shelf;
+use sd_files::{Answer, CommandError, Status, load_topology};
+use sd_io::outside::Shelf;
+use sd_plan::topo::Topology;
 use sd_plan::{Absent, DeviceList};
-use sd_topo::Topology;
+use sd_search::Settings;
 use std::alloc::Global;
 
 /// Makes the text of a plan that is searched for over a topology.

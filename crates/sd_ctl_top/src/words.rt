@@ -1,15 +1,15 @@
 //! What the words of the second program mean.
 ghost use Rattle.std.specs.Prelude.{◌≡◌, ◌≤◌, ◌<◌, ◌+◌, ◌^◌, Some, drop, length, map, option_map, string_bytes, take, IfSome};
 ghost use Rattle.std.specs.Str.{bytes_eq};
-ghost use Rattle.sd_ctl_search.specs.Drill.Budgets.{IsBudget};
+ghost use Rattle.sd_drill.specs.Budgets.{IsBudget};
 ghost use Rattle.sd_ctl_top.specs.Parsed.{IsGranted, named};
 ghost use Rattle.sd_ctl_top.specs.Words as meaning;
 
-use sd_ctl_record::RecordFiles;
-use sd_ctl_resume::Files;
-use sd_ctl_search::Settings;
-use sd_ctl_search::drill::Budget;
+use sd_drill::Budget;
 use sd_num::read_u64;
+use sd_record::RecordFiles;
+use sd_resume::command::Files;
+use sd_search::Settings;
 
 /// A command, with the names of its files and its numbers.
 #[derive(Clone, Copy)]
@@ -39,6 +39,7 @@ pub(crate) enum Command<'w> {
         logs: u64,
         feed: &'w str,
     },
+    Version,
 }
 
 /// How many logs are merged at most.
@@ -303,7 +304,7 @@ fn resume_over<'w>(
     Some(Command::Resume { files })
 }
 
-/// The opening of the words before a slash and behind it.
+/// The opening of the words before a slash and after it.
 fn resume_parts<'w>(
     topology: &'w str,
     before: &'w [String],
@@ -411,6 +412,18 @@ fn merge_of(words: &[String]) -> Option<Command<'_>>
     }
 }
 
+/// The version, if no word follows.
+fn version_of(words: &[String]) -> Option<Command<'_>>
+    ensures is { option_map named result ≡ meaning.version_of (map string_bytes words.now) }
+    ensures granted { IfSome result IsGranted }
+{
+    if words.is_empty() {
+        Some(Command::Version)
+    } else {
+        None
+    }
+}
+
 /// The command of the words, if they are in the table.
 pub(crate) fn command_of(words: &[String]) -> Option<Command<'_>>
     ensures is { option_map named result ≡ meaning.command_of (map string_bytes words.now) }
@@ -431,6 +444,8 @@ pub(crate) fn command_of(words: &[String]) -> Option<Command<'_>>
         record_of(others)
     } else if word.as_str() == "merge" {
         merge_of(others)
+    } else if word.as_str() == "version" {
+        version_of(others)
     } else {
         None
     }

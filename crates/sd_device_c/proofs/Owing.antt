@@ -1,7 +1,7 @@
 -- Why an answer that names a fault excludes the call.
 use Rattle.std.proofs.Common.{◌≡◌, ℕ, Some, sym, ◌∙◌, subst, inl, inr, arith}
 use Rattle.sd_plan.specs.declared.Duty.{Duty}
-use Rattle.sd_core.specs.Calls.{Started}
+use Rattle.sd_device.specs.Calls.{Started}
 use Rattle.sd_device_c.specs.declared.plain.PlainDevice.{PlainDevice}
 use Rattle.sd_device_c.specs.declared.plain.PlainDuty.{PlainDuty}
 use Rattle.sd_device_c.specs.declared.faults.Fault.{Fault}

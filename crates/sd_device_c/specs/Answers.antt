@@ -1,16 +1,16 @@
 -- What the answers of the exports say, and what a call makes of a struct.
 use Rattle.std.specs.Prelude.{◌≡◌, ◌≢◌, ◌≤◌, ◌+◌, ◌↔◌, ◌⊎◌, ℕ, Some, List}
 use Rattle.sd_plan.specs.declared.Duty.{Duty}
-use Rattle.sd_core.specs.declared.Effect.{Effect}
-use Rattle.sd_core.specs.declared.registers.Registers.{Registers}
-use Rattle.sd_core.specs.Calls.{Making, Started, Joined, Call, Give, Past}
-use Rattle.sd_core.specs.Living.{Life}
-use Rattle.sd_core.specs.Words.{effect_of}
-use Rattle.sd_core.specs.Limits.{IsDuty}
-use Rattle.sd_core.specs.Rules.{called, made}
-use Rattle.sd_core.specs.Lives.{past_of, longer}
-use Rattle.sd_core.specs.Standing.{StandsFor, alone}
-use Rattle.sd_core.specs.Rebases.{rebased, lowering, AnswersAlike, StandsLowered}
+use Rattle.sd_device.specs.declared.Effect.{Effect}
+use Rattle.sd_device.specs.declared.registers.Registers.{Registers}
+use Rattle.sd_device.specs.Calls.{Making, Started, Joined, Call, Give, Past}
+use Rattle.sd_device.specs.Living.{Life}
+use Rattle.sd_device.specs.Words.{effect_of}
+use Rattle.sd_device.specs.Limits.{IsDuty}
+use Rattle.sd_device.specs.Rules.{called, made}
+use Rattle.sd_device.specs.Lives.{past_of, longer}
+use Rattle.sd_device.specs.Standing.{StandsFor, alone}
+use Rattle.sd_device.specs.Rebases.{rebased, lowering, AnswersAlike, StandsLowered}
 use Rattle.sd_device_c.specs.declared.plain.PlainDevice.{PlainDevice}
 use Rattle.sd_device_c.specs.declared.faults.Fault.{Fault}
 use Rattle.sd_device_c.specs.declared.faults.Fault.TheVariants.{NoDevice, NoDuty}

@@ -1,14 +1,14 @@
 -- What a call owes, by the fault that is answered where it does not hold.
 use Rattle.std.specs.Prelude.{◌≡◌, ℕ, ◌≤◌, ◌<◌, ◌^◌, Some, option_map, IfSome}
-use Rattle.sd_plan.specs.Topo.Limits.{IsRates}
+use Rattle.sd_plan.specs.topo.Limits.{IsRates}
 use Rattle.sd_plan.specs.declared.Role.TheVariants as role
-use Rattle.sd_msg.specs.declared.Message.{Message}
-use Rattle.sd_msg.specs.declared.Stamp.{Stamp}
-use Rattle.sd_core.specs.declared.registers.Registers.{Registers}
-use Rattle.sd_core.specs.Calls.{Making, Started, Joined, Call, Tick, Receive, Fix, Give, Commit}
-use Rattle.sd_core.specs.Words.{counter_of}
-use Rattle.sd_core.specs.Rules.{floor_in, ceiling_in}
-use Rattle.sd_core.specs.Limits.{IsDuty}
+use Rattle.sd_device.specs.declared.msg.Message.{Message}
+use Rattle.sd_device.specs.declared.msg.Stamp.{Stamp}
+use Rattle.sd_device.specs.declared.registers.Registers.{Registers}
+use Rattle.sd_device.specs.Calls.{Making, Started, Joined, Call, Tick, Receive, Fix, Give, Commit}
+use Rattle.sd_device.specs.Words.{counter_of}
+use Rattle.sd_device.specs.Rules.{floor_in, ceiling_in}
+use Rattle.sd_device.specs.Limits.{IsDuty}
 use Rattle.sd_device_c.specs.declared.faults.Fault.{Fault}
 use Rattle.sd_device_c.specs.declared.faults.Fault.TheVariants.{NoDuty, RatesTooGreat, CounterFell, ClockTooGreat, EstimateTooGreat, StampTooGreat, MessageTooGreat, NotRoot}
 

@@ -1,20 +1,20 @@
 -- What the plain structs hold.
 use Rattle.std.specs.Prelude.{◌≡◌, ℕ, ◌+◌, ◌*◌, ◌^◌, Bool, not, nat_eq, Option, Some, None, option_map, option_and_then, if◌then◌else◌}
 use Rattle.sd_num.specs.declared.Rates.{Rates}
-use Rattle.sd_clock.specs.declared.Estimate.{Estimate}
-use Rattle.sd_clock.specs.declared.Report.{Report}
+use Rattle.sd_num.specs.declared.clock.Estimate.{Estimate}
+use Rattle.sd_num.specs.declared.clock.Report.{Report}
 use Rattle.sd_plan.specs.declared.Role.{Role}
 use Rattle.sd_plan.specs.declared.Role.TheVariants.{Root, BackupRoot, Ordinary}
 use Rattle.sd_plan.specs.declared.Edge.{Edge}
 use Rattle.sd_plan.specs.declared.Duty.{Duty}
-use Rattle.sd_msg.specs.declared.Stamp.{Stamp}
-use Rattle.sd_msg.specs.declared.Message.{Message}
-use Rattle.sd_core.specs.declared.Effect.{Effect}
-use Rattle.sd_core.specs.declared.Effect.TheVariants.{Quiet, Send}
-use Rattle.sd_core.specs.declared.registers.Registers.{Registers}
-use Rattle.sd_core.specs.declared.registers.Mode.{Mode}
-use Rattle.sd_core.specs.declared.registers.Mode.TheVariants.{Primary, Backup, Acting, Idle}
-use Rattle.sd_core.specs.Limits.{IsSound}
+use Rattle.sd_device.specs.declared.msg.Stamp.{Stamp}
+use Rattle.sd_device.specs.declared.msg.Message.{Message}
+use Rattle.sd_device.specs.declared.Effect.{Effect}
+use Rattle.sd_device.specs.declared.Effect.TheVariants.{Quiet, Send}
+use Rattle.sd_device.specs.declared.registers.Registers.{Registers}
+use Rattle.sd_device.specs.declared.registers.Mode.{Mode}
+use Rattle.sd_device.specs.declared.registers.Mode.TheVariants.{Primary, Backup, Acting, Idle}
+use Rattle.sd_device.specs.Limits.{IsSound}
 use Rattle.sd_device_c.specs.declared.plain.PlainWide.{PlainWide}
 use Rattle.sd_device_c.specs.declared.plain.PlainRates.{PlainRates}
 use Rattle.sd_device_c.specs.declared.plain.PlainEdge.{PlainEdge}

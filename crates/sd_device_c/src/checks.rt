@@ -1,11 +1,11 @@
 //! What the calls owe, tested.
 ghost use Rattle.std.specs.Prelude.{◌≡◌, ◌≤◌, ◌<◌, ◌^◌, ◌↔◌, Some, IsTrue, OnOk, IfOk, IfErr, option_map};
-ghost use Rattle.sd_plan.specs.Topo.Limits.{IsRates};
+ghost use Rattle.sd_plan.specs.topo.Limits.{IsRates};
 ghost use Rattle.sd_plan.specs.declared.Role.TheVariants as role;
-ghost use Rattle.sd_core.specs.Calls.{Making, Call, Tick, Receive, Fix, Commit};
-ghost use Rattle.sd_core.specs.Words.{counter_of};
-ghost use Rattle.sd_core.specs.Rules.{floor_in, ceiling_in};
-ghost use Rattle.sd_core.specs.Limits.{IsDuty};
+ghost use Rattle.sd_device.specs.Calls.{Making, Call, Tick, Receive, Fix, Commit};
+ghost use Rattle.sd_device.specs.Words.{counter_of};
+ghost use Rattle.sd_device.specs.Rules.{floor_in, ceiling_in};
+ghost use Rattle.sd_device.specs.Limits.{IsDuty};
 ghost use Rattle.sd_device_c.specs.Plain.{Holds, duty_from};
 ghost use Rattle.sd_device_c.specs.Owed.{Owes, OwesToReport, OwesToMake, SetsTo, IsCountable, IsModest, IsSetting};
 ghost use Rattle.sd_device_c.specs.Answers.{IsDevice, IsNoDuty};
@@ -14,8 +14,8 @@ use crate::faults::Fault;
 use crate::limits::{ceiling, floor, is_duty, is_rates, is_sound};
 use crate::plain::{PlainDevice, PlainDuty};
 use crate::reading;
-use sd_core::Registers;
-use sd_msg::{Message, Stamp};
+use sd_device::Registers;
+use sd_device::msg::{Message, Stamp};
 use sd_num::Rates;
 use sd_plan::{Duty, Role};
 

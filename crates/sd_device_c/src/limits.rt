@@ -1,10 +1,10 @@
 //! Whether what a struct says is within the limits.
 ghost use Rattle.std.specs.Prelude.{◌≡◌, ◌↔◌, IsTrue, IfSome};
-ghost use Rattle.sd_plan.specs.Topo.Limits.{IsRates};
-ghost use Rattle.sd_core.specs.Rules.{floor_in, ceiling_in};
-ghost use Rattle.sd_core.specs.Limits.{IsDuty, IsEdge, IsSound};
+ghost use Rattle.sd_plan.specs.topo.Limits.{IsRates};
+ghost use Rattle.sd_device.specs.Rules.{floor_in, ceiling_in};
+ghost use Rattle.sd_device.specs.Limits.{IsDuty, IsEdge, IsSound};
 
-use sd_core::{Mode, Registers};
+use sd_device::{Mode, Registers};
 use sd_num::Rates;
 use sd_plan::{Duty, Edge};
 

@@ -1,7 +1,7 @@
 //! The calls that make a device.
 ghost use Rattle.std.specs.Prelude.{◌≡◌, ◌≢◌, Some, OnOk, IfOk, IfErr};
 ghost use Rattle.sd_plan.specs.declared.Duty.{Duty};
-ghost use Rattle.sd_core.specs.Calls.{Started, Joined};
+ghost use Rattle.sd_device.specs.Calls.{Started, Joined};
 ghost use Rattle.sd_device_c.specs.Plain.{wide_from, duty_from, rates_from};
 ghost use Rattle.sd_device_c.specs.Answers.{IsAnswerFor, MayStart, HasStartFault, MayJoin, HasJoinFault, IsMade, IsDevice, IsNoDevice};
 
@@ -10,7 +10,7 @@ use crate::faults::{DONE, Fault};
 use crate::plain::{PlainDevice, PlainDuty, PlainRates, PlainWide};
 use crate::reading;
 use crate::writing::plain_device;
-use sd_core::Device;
+use sd_device::Device;
 
 /// Whether the struct holds a device that was made.
 #[unsafe(no_mangle)]

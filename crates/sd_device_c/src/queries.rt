@@ -1,10 +1,10 @@
 //! The calls that ask a device, and leave it as it is.
 ghost use Rattle.std.specs.Prelude.{◌≡◌, ◌≢◌, Some, OnOk, IfOk, IfErr};
-ghost use Rattle.sd_core.specs.Living.{Life};
-ghost use Rattle.sd_core.specs.declared.registers.Registers.{Registers};
-ghost use Rattle.sd_core.specs.Words.{report_at, parent_now, is_acting, epoch_now};
-ghost use Rattle.sd_core.specs.Lives.{past_of};
-ghost use Rattle.sd_core.specs.Rules.{report_in, parent_in, acts_in, epoch_in};
+ghost use Rattle.sd_device.specs.Living.{Life};
+ghost use Rattle.sd_device.specs.declared.registers.Registers.{Registers};
+ghost use Rattle.sd_device.specs.Words.{report_at, parent_now, is_acting, epoch_now};
+ghost use Rattle.sd_device.specs.Lives.{past_of};
+ghost use Rattle.sd_device.specs.Rules.{report_in, parent_in, acts_in, epoch_in};
 ghost use Rattle.sd_device_c.specs.Plain.{Holds, report_from, parent_from, flag_from};
 ghost use Rattle.sd_device_c.specs.Answers.{IsAnswerFor, MayReport, HasReportFault, IsDevice, IsNoDevice, IsToldOf};
 
@@ -12,7 +12,7 @@ use crate::checks::{check_report, held};
 use crate::faults::{DONE, Fault};
 use crate::plain::{PlainDevice, PlainParent, PlainReport};
 use crate::writing::{plain_flag, plain_parent, plain_report};
-use sd_core::{Device, Node};
+use sd_device::{Device, Node};
 
 /// What the device takes the reference time for while its counter shows this many ps.
 #[unsafe(no_mangle)]

@@ -6,9 +6,9 @@ use crate::plain::{
     PlainDevice, PlainDuty, PlainEdge, PlainEstimate, PlainMessage, PlainRates, PlainStamp,
     PlainWide,
 };
-use sd_clock::Estimate;
-use sd_core::{Mode, Registers};
-use sd_msg::{Message, Stamp};
+use sd_device::msg::{Message, Stamp};
+use sd_device::{Mode, Registers};
+use sd_num::clock::Estimate;
 use sd_num::{Bounds, Rates};
 use sd_plan::{Duty, Edge, Role};
 

@@ -6,7 +6,7 @@ use crate::checks::{check_report, held};
 use crate::faults::{DONE, Fault};
 use crate::plain::PlainDevice;
 use crate::writing::plain_device;
-use sd_core::Device;
+use sd_device::Device;
 
 /// The device lowers the counters that it keeps by as much as it can, while its counter shows this
 /// many ps. From now on its counter is to be given as that much less.

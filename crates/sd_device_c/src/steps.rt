@@ -1,8 +1,8 @@
 //! The calls that change a device.
 ghost use Rattle.std.specs.Prelude.{◌≡◌, ◌≢◌, Some, OnOk, IfOk, IfErr};
 ghost use Rattle.sd_plan.specs.declared.Duty.{Duty};
-ghost use Rattle.sd_core.specs.declared.Effect.TheVariants.{Quiet};
-ghost use Rattle.sd_core.specs.Calls.{Tick, Receive, Fix, Give, Commit, Seal};
+ghost use Rattle.sd_device.specs.declared.Effect.TheVariants.{Quiet};
+ghost use Rattle.sd_device.specs.Calls.{Tick, Receive, Fix, Give, Commit, Seal};
 ghost use Rattle.sd_device_c.specs.Plain.{wide_from, message_from, effect_from, duty_from};
 ghost use Rattle.sd_device_c.specs.Answers.{IsAnswerFor, MayCall, HasFault, IsCalled, MayGive, HasGiveFault, IsDevice};
 
@@ -11,8 +11,8 @@ use crate::faults::{DONE, Fault};
 use crate::plain::{PlainDevice, PlainDuty, PlainEffect, PlainMessage, PlainWide};
 use crate::reading;
 use crate::writing::{plain_device, plain_effect};
-use sd_core::{Device, Node};
-use sd_msg::Message;
+use sd_device::msg::Message;
+use sd_device::{Device, Node};
 
 /// A tick of the device's own timer, while its counter shows this many ps.
 #[unsafe(no_mangle)]

@@ -1,16 +1,16 @@
 //! From what a device keeps and sends to plain structs.
 ghost use Rattle.std.specs.Prelude.{◌≡◌, Some};
-ghost use Rattle.sd_clock.specs.declared.Report.{Report};
+ghost use Rattle.sd_num.specs.declared.clock.Report.{Report};
 ghost use Rattle.sd_device_c.specs.Plain.{wide_from, flag_from, rates_from, stamp_from, estimate_from, report_from, message_from, effect_from, parent_from, role_from, mode_from, edge_from, duty_from, held_from, kept};
 
 use crate::plain::{
     PlainDevice, PlainDuty, PlainEdge, PlainEffect, PlainEstimate, PlainMessage, PlainParent,
     PlainRates, PlainReport, PlainStamp, PlainWide,
 };
-use sd_clock::{Estimate, Report};
-use sd_core::{Effect, Mode, Registers};
-use sd_msg::{Message, Stamp};
+use sd_device::msg::{Message, Stamp};
+use sd_device::{Effect, Mode, Registers};
 use sd_num::Rates;
+use sd_num::clock::{Estimate, Report};
 use sd_plan::{Duty, Edge, Role};
 
 const TWO_64: u128 = 1 << 64;

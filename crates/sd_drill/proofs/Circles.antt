@@ -6,14 +6,14 @@ use Rattle.std.proofs.lemmas.List.{length-map, get_or-map}
 use Rattle.std.proofs.lemmas.List.Elements.{Contains-append_left, Contains-append_right}
 use Rattle.std.proofs.lemmas.Option.{slice_get-get_or}
 use Rattle.sd_num.specs.Lists.{below}
-use Rattle.sd_topo.specs.Network.{Network, Each, device_numbers, link_numbers}
-use Rattle.sd_domain.specs.Domains.{domains, listed_domains}
-use Rattle.sd_domain.specs.Lone.{IsDomain}
-use Rattle.sd_domain.specs.declared.DomainId.{DomainId}
-use Rattle.sd_domain.specs.declared.DomainId.TheVariants as domain
+use Rattle.sd_plan.specs.topo.Network.{Network, Each, device_numbers, link_numbers}
+use Rattle.sd_plan.specs.domain.Domains.{domains, listed_domains}
+use Rattle.sd_plan.specs.domain.Lone.{IsDomain}
+use Rattle.sd_plan.specs.declared.domain.DomainId.{DomainId}
+use Rattle.sd_plan.specs.declared.domain.DomainId.TheVariants as domain
 use Rattle.sd_plan.specs.declared.Plan.{Plan}
 use Rattle.sd_plan.proofs.Numbered.{length-below, get_or-below}
-use Rattle.sd_checker.specs.CheckLoop.Loops.{HasNoCycle}
+use Rattle.sd_checker.specs.check_loop.Loops.{HasNoCycle}
 use Rattle.sd_checker.specs.Verdicts.{IsAccepted}
 
 -- what is made of each number below a bound

@@ -3,16 +3,16 @@ use Rattle.std.specs.Prelude.{◌≡◌, ℕ, zero, suc, ◌+◌, ◌-◌, ◌*�
 use Rattle.std.proofs.Common.{arith, refl, ap, ◌∙◌, subst}
 use Rattle.std.proofs.lemmas.List.{length_push}
 use Rattle.sd_num.specs.declared.Rates.{Rates}
-use Rattle.sd_topo.specs.Network.{Network, rates_of}
-use Rattle.sd_topo.specs.Limits.{IsNetwork}
-use Rattle.sd_topo.proofs.Laws.{rates_law}
-use Rattle.sd_domain.specs.declared.DomainId.{DomainId}
+use Rattle.sd_plan.specs.topo.Network.{Network, rates_of}
+use Rattle.sd_plan.specs.topo.Limits.{IsNetwork}
+use Rattle.sd_plan.proofs.topo.Laws.{rates_law}
+use Rattle.sd_plan.specs.declared.domain.DomainId.{DomainId}
 use Rattle.sd_plan.specs.declared.Hop.{Hop}
 use Rattle.sd_plan.specs.declared.Plan.{Plan}
 use Rattle.sd_plan.specs.Plans.{Fits}
 use Rattle.sd_plan.specs.Structure.{structure_breach}
 use Rattle.sd_plan.proofs.Rules.{keeps_rules}
-use Rattle.sd_checker.specs.CheckLoop.Loops.{HasNoCycle}
+use Rattle.sd_checker.specs.check_loop.Loops.{HasNoCycle}
 use Rattle.sd_drill.specs.ages.Ages.{IsOldest, ageing}
 use Rattle.sd_drill.proofs.ages.Division.{oldest_is}
 use Rattle.sd_drill.specs.recovery.Recoveries.{IsRecovery}

@@ -2,9 +2,9 @@
 use Rattle.std.specs.Prelude.{◌≡◌, ℕ, ◌<◌, List, length, Option, None, true, nat_eq}
 use Rattle.std.proofs.Common.{get_or, ap, ◌∙◌}
 use Rattle.std.proofs.lemmas.Bool.{and_parts, eqb-true}
-use Rattle.sd_topo.proofs.Laws.{found_at}
+use Rattle.sd_plan.proofs.topo.Laws.{found_at}
 use Rattle.sd_plan.specs.declared.Hop.{Hop}
-use Rattle.sd_checker.specs.CheckLoop.Loops.{same_hop}
+use Rattle.sd_checker.specs.check_loop.Loops.{same_hop}
 use Rattle.sd_drill.specs.Bounds.{bound_at}
 
 -- a bound at a place

@@ -1,10 +1,10 @@
 -- Bounds, and the lines that are printed of them, are the same over a network with each version.
 use Rattle.std.specs.Prelude.{ℕ, List, [], ◌∷◌, Option, Some, None}
-use Rattle.sd_topo.specs.Network.{Network}
-use Rattle.sd_topo.proofs.Versions.{with_version}
-use Rattle.sd_domain.specs.declared.DomainId.{DomainId}
+use Rattle.sd_plan.specs.topo.Network.{Network}
+use Rattle.sd_plan.proofs.topo.Versions.{with_version}
+use Rattle.sd_plan.specs.declared.domain.DomainId.{DomainId}
 use Rattle.sd_plan.specs.declared.Plan.{Plan}
-use Rattle.sd_checker.proofs.CheckReach.Versions.{Fed-with_version}
+use Rattle.sd_checker.proofs.check_reach.Versions.{Fed-with_version}
 use Rattle.sd_drill.specs.Bounds.{AreBounds, bound_at}
 use Rattle.sd_drill.specs.Drill.{IsWorst, IsListed}
 use Rattle.sd_drill.specs.Printed.{IsLinesOf, AreLines, IsDrill}

@@ -1,6 +1,6 @@
 -- The halves along a walk, one hop after another.
 use Rattle.std.proofs.Common.{◌≡◌, ℕ, zero, suc, ◌+◌, ◌-◌, ◌≤◌, Bool, true, false, List, [], ◌∷◌, Option, None, Some, if◌then◌else◌, refl, ap, ◌∙◌, sym, subst, arith}
-use Rattle.sd_topo.specs.Network.{Network, bounds_of}
+use Rattle.sd_plan.specs.topo.Network.{Network, bounds_of}
 use Rattle.sd_plan.specs.Plans.{primary_of, is_root}
 use Rattle.sd_plan.specs.Walks.{hops}
 use Rattle.sd_plan.specs.declared.Hop.{Hop}
@@ -22,7 +22,7 @@ step root found more hop is =
     by_root true = refl
     by_root false = refl
 
--- what is left of a walk is its next hop and what is left behind it
+-- what is left of a walk is its next hop and what is left after it
 hops_on : (plan : Plan) (left here : ℕ) (hop : Hop) → 1 ≤ left → is_root plan here ≡ false → primary_of plan here ≡ Some hop
     → hops_left plan left here ≡ hop ∷ hops_left plan (left - 1) hop.parent
 hops_on plan zero here hop some other primary = absurd (omega (arith, some))
@@ -34,10 +34,6 @@ hops_on plan (suc n) here hop some other primary =
 pub halves_on : (net : Network) (plan : Plan) (left here : ℕ) (hop : Hop) → 1 ≤ left → is_root plan here ≡ false → primary_of plan here ≡ Some hop
     → halves net here (hops_left plan left here) ≡ (bounds_of net hop.link here).half + halves net hop.parent (hops_left plan (left - 1) hop.parent)
 halves_on net plan left here hop some other primary = ap (halves net here) (hops_on plan left here hop some other primary)
-
--- a walk ends at the root, with no hop left, and without a row
-pub none_at_root : (net : Network) (plan : Plan) (left here : ℕ) → is_root plan here ≡ true → halves net here (hops_left plan left here) ≡ 0
-none_at_root net plan left here root = subst (λ (c : Bool). halves net here (if c then [] else hops (is_root plan) plan left here) ≡ 0) (sym root) refl
 
 pub none_left : (net : Network) (plan : Plan) (left here : ℕ) → left ≡ 0 → halves net here (hops_left plan left here) ≡ 0
 none_left net plan left here none = subst (λ (n : ℕ). halves net here (hops_left plan n here) ≡ 0) (sym none) (by_root (is_root plan here))

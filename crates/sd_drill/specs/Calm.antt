@@ -1,10 +1,10 @@
 -- The number of a healthy fabric, for each device: it speaks of the root's uncertainty, the halves of the device's path, and how long a device with a whole
 -- path hears nothing.
 use Rattle.std.specs.Prelude.{◌≡◌, ℕ, ◌+◌, ◌*◌, ◌^◌, ◌<◌, ◌≤◌, List, length, slice_index_or}
-use Rattle.sd_topo.specs.Network.{Network, rates_of, greatest_delay}
+use Rattle.sd_plan.specs.topo.Network.{Network, rates_of, greatest_delay}
 use Rattle.sd_plan.specs.declared.Plan.{Plan}
 use Rattle.sd_plan.specs.Walks.{walk}
-use Rattle.sd_checker.specs.CheckRoot.Timing.{round_gap}
+use Rattle.sd_checker.specs.check_root.Timing.{round_gap}
 use Rattle.sd_drill.specs.ages.Ages.{IsOldest, ageing}
 use Rattle.sd_drill.specs.recovery.Walks.{halves}
 use Rattle.sd_drill.specs.Tight.{next_rounds}

@@ -1,13 +1,13 @@
 -- The greatest epsilon that a device can report when the things of one domain fail at once.
 use Rattle.std.specs.Prelude.{◌≡◌, ℕ, ◌+◌, ◌*◌, ◌≤◌, ◌∷◌, length, max, Option, Some, None}
 use Rattle.sd_num.specs.Lists.{map_or}
-use Rattle.sd_topo.specs.Network.{Network, rates_of, greatest_up}
-use Rattle.sd_domain.specs.declared.DomainId.{DomainId}
+use Rattle.sd_plan.specs.topo.Network.{Network, rates_of, greatest_up}
+use Rattle.sd_plan.specs.declared.domain.DomainId.{DomainId}
 use Rattle.sd_plan.specs.declared.Plan.{Plan}
 use Rattle.sd_plan.specs.Plans.{backup_of}
 use Rattle.sd_plan.specs.Walks.{walk}
-use Rattle.sd_checker.specs.CheckRoot.Timing.{silence}
-use Rattle.sd_checker.specs.CheckReach.Reach.{Fed}
+use Rattle.sd_checker.specs.check_root.Timing.{silence}
+use Rattle.sd_checker.specs.check_reach.Reach.{Fed}
 use Rattle.sd_drill.specs.ages.Ages.{IsOldest, ageing}
 use Rattle.sd_drill.specs.recovery.Walks.{halves, IsGreatestOfWalks}
 use Rattle.sd_drill.specs.declared.Budget.{Budget}

@@ -1,13 +1,13 @@
 -- How the bounds of the drill are printed.
 use Rattle.std.specs.Prelude.{◌≡◌, ℕ, List, [], ◌∷◌, ◌++◌, length, flat_map, Option, Some, None, codes, decimal}
 use Rattle.sd_num.specs.Texts.{text_of}
-use Rattle.sd_topo.specs.Network.{Network}
-use Rattle.sd_domain.specs.Domains.{domains}
-use Rattle.sd_domain.specs.declared.DomainId.{DomainId}
+use Rattle.sd_plan.specs.topo.Network.{Network}
+use Rattle.sd_plan.specs.domain.Domains.{domains}
+use Rattle.sd_plan.specs.declared.domain.DomainId.{DomainId}
 use Rattle.sd_plan.specs.declared.Plan.{Plan}
 use Rattle.sd_plan.specs.Plans.{members}
 use Rattle.sd_checker.specs.Text.{domain_words}
-use Rattle.sd_topo.specs.Network.{device_name}
+use Rattle.sd_plan.specs.topo.Network.{device_name}
 use Rattle.sd_drill.specs.Bounds.{AreBounds, bound_at}
 use Rattle.sd_drill.specs.declared.Budget.{Budget}
 

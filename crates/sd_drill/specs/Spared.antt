@@ -1,8 +1,8 @@
 -- The bounds of devices under the domains that spare them: each of these leaves a device the same bound.
 use Rattle.std.specs.Prelude.{◌≡◌, ℕ, Bool, ◌&&◌, not, List, length, slice_index_or, Option, Some, None, IsTrue}
-use Rattle.sd_topo.specs.Network.{Network}
-use Rattle.sd_domain.specs.Domains.{holds_device}
-use Rattle.sd_domain.specs.declared.DomainId.{DomainId}
+use Rattle.sd_plan.specs.topo.Network.{Network}
+use Rattle.sd_plan.specs.domain.Domains.{holds_device}
+use Rattle.sd_plan.specs.declared.domain.DomainId.{DomainId}
 use Rattle.sd_plan.specs.declared.Plan.{Plan}
 use Rattle.sd_plan.specs.Walks.{is_hit}
 use Rattle.sd_drill.specs.Drill.{IsWorst}

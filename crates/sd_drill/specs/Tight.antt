@@ -2,12 +2,12 @@
 -- round to come down.
 use Rattle.std.specs.Prelude.{◌≡◌, ℕ, ◌+◌, ◌*◌, ◌^◌, ◌<◌, ◌≤◌, List, length, max, Option, Some, None}
 use Rattle.sd_num.specs.declared.Rates.{Rates}
-use Rattle.sd_topo.specs.Network.{Network, rates_of, greatest_up, greatest_delay}
-use Rattle.sd_domain.specs.declared.DomainId.{DomainId}
+use Rattle.sd_plan.specs.topo.Network.{Network, rates_of, greatest_up, greatest_delay}
+use Rattle.sd_plan.specs.declared.domain.DomainId.{DomainId}
 use Rattle.sd_plan.specs.declared.Plan.{Plan}
-use Rattle.sd_checker.specs.CheckHit.Outages.{HasRoom as HasImpactRoom}
-use Rattle.sd_checker.specs.CheckReach.Reach.{Fed}
-use Rattle.sd_checker.specs.CheckRoot.Timing.{round_gap}
+use Rattle.sd_checker.specs.check_hit.Outages.{HasRoom as HasImpactRoom}
+use Rattle.sd_checker.specs.check_reach.Reach.{Fed}
+use Rattle.sd_checker.specs.check_root.Timing.{round_gap}
 use Rattle.sd_drill.specs.ages.Ages.{IsOldest, ageing}
 use Rattle.sd_drill.specs.recovery.Searches.{HasRoom as HasRecoveryRoom}
 use Rattle.sd_drill.specs.recovery.Walks.{halves, IsGreatestOfWalks}

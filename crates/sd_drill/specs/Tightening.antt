@@ -1,10 +1,10 @@
 -- What is wanted before the tight number of a device is looked for, and what is had after.
 use Rattle.std.specs.Prelude.{ℕ, List, Option, IfOk, OnOk, Result}
 use Rattle.sd_num.specs.declared.NoMemory.{NoMemory}
-use Rattle.sd_topo.specs.Network.{Network}
-use Rattle.sd_domain.specs.declared.DomainId.{DomainId}
+use Rattle.sd_plan.specs.topo.Network.{Network}
+use Rattle.sd_plan.specs.declared.domain.DomainId.{DomainId}
 use Rattle.sd_plan.specs.declared.Plan.{Plan}
-use Rattle.sd_checker.specs.CheckLoop.Loops.{HasNoCycle}
+use Rattle.sd_checker.specs.check_loop.Loops.{HasNoCycle}
 use Rattle.sd_drill.specs.Tight.{AreTight, AreTightTimes, IsTightListed}
 use Rattle.sd_drill.specs.declared.Budget.{Budget}
 use Rattle.sd_drill.specs.declared.recovery.search.Recoveries.{Recoveries}

@@ -1,9 +1,9 @@
 -- What the bounds of all domains share, and a drill that is ready.
 use Rattle.std.specs.Prelude.{◌≡◌, ℕ, ◌+◌, ◌^◌, ◌≤◌, List, length, slice_index_or, Option, Some, None}
-use Rattle.sd_topo.specs.Network.{Network, rates_of}
+use Rattle.sd_plan.specs.topo.Network.{Network, rates_of}
 use Rattle.sd_plan.specs.declared.Plan.{Plan}
-use Rattle.sd_checker.specs.CheckRoot.Timing.{silence}
-use Rattle.sd_checker.specs.CheckHit.Outages.{HasRoom as HasImpactRoom}
+use Rattle.sd_checker.specs.check_root.Timing.{silence}
+use Rattle.sd_checker.specs.check_hit.Outages.{HasRoom as HasImpactRoom}
 use Rattle.sd_drill.specs.recovery.Searches.{HasRoom as HasRecoveryRoom}
 use Rattle.sd_drill.specs.ages.Ages.{IsOldest, ageing}
 use Rattle.sd_drill.specs.declared.recovery.reach.Reach.{Reach}

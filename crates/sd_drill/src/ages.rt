@@ -3,7 +3,7 @@
 ghost use Rattle.std.specs.Prelude.{◌≡◌, ◌≤◌, ◌+◌, ◌*◌, ◌^◌};
 ghost use Rattle.sd_drill.specs.ages.Ages as ages;
 ghost use Rattle.sd_drill.specs.ages.Ages.{IsOldest};
-ghost use Rattle.sd_topo.specs.Limits.{IsRates};
+ghost use Rattle.sd_plan.specs.topo.Limits.{IsRates};
 
 use sd_num::Rates;
 

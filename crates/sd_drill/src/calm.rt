@@ -3,7 +3,7 @@ ghost use Rattle.std.specs.Prelude.{◌≡◌, ◌≤◌, ◌<◌, ◌^◌, leng
 ghost use Rattle.sd_drill.specs.Budgets.{IsBudget};
 ghost use Rattle.sd_drill.specs.Calm as words;
 ghost use Rattle.sd_drill.specs.Calm.{AreCalm, AreCalmTimes, IsCalm};
-ghost use Rattle.sd_topo.specs.Topologies.{network};
+ghost use Rattle.sd_plan.specs.topo.Topologies.{network};
 
 use crate::Budget;
 use crate::ages::{ageing, oldest};
@@ -12,7 +12,7 @@ use crate::times::held;
 use sd_checker::check_root::greatest_up;
 use sd_num::NoMemory;
 use sd_plan::IndexedPlan;
-use sd_topo::Topology;
+use sd_plan::topo::Topology;
 use std::alloc::Global;
 
 /// What the calm numbers of all devices share, in ps.

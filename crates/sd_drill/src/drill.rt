@@ -6,8 +6,8 @@ ghost use Rattle.sd_drill.specs.Budgets.{IsBudget};
 ghost use Rattle.sd_drill.specs.Drill.{IsListed};
 ghost use Rattle.sd_drill.specs.Spared as words;
 ghost use Rattle.sd_drill.specs.Times.{AreGrowths, AreKnown, AreTimes, IsBoundOf};
-ghost use Rattle.sd_checker.specs.CheckHit.Outages.{net_of, plan_of};
-ghost use Rattle.sd_checker.specs.CheckLoop.Loops.{HasNoCycle};
+ghost use Rattle.sd_checker.specs.check_hit.Outages.{net_of, plan_of};
+ghost use Rattle.sd_checker.specs.check_loop.Loops.{HasNoCycle};
 ghost use Rattle.sd_drill.specs.recovery.Recoveries.{IsRecovery};
 
 use crate::Budget;
@@ -17,10 +17,10 @@ use crate::recovery::{Reach, Recoveries, Recovery};
 use crate::spared::{SparedBounds, is_spared};
 use crate::times::Times;
 use sd_checker::check_hit::{Impact, Outage};
-use sd_domain::DomainId;
 use sd_num::NoMemory;
 use sd_plan::IndexedPlan;
-use sd_topo::Topology;
+use sd_plan::domain::DomainId;
+use sd_plan::topo::Topology;
 use std::alloc::Global;
 
 /// What is known of devices from the domains before, and room for how they recover from the next.
@@ -188,7 +188,7 @@ fn bounds_under(
 impl BoundCache {
     ghost use Rattle.sd_plan.specs.declared.Plan.{Plan};
     ghost use Rattle.sd_drill.specs.declared.Budget.{Budget as BudgetSeen};
-    ghost use Rattle.sd_topo.specs.Topologies.{network};
+    ghost use Rattle.sd_plan.specs.topo.Topologies.{network};
 
     /// Nothing is known of the devices of a topology.
     fn new(alloc: Global, topo: &Topology) -> Result<BoundCache, NoMemory>
@@ -207,9 +207,9 @@ impl BoundCache {
 }
 
 impl Drill {
-    ghost use Rattle.sd_domain.specs.Lone.{IsDomain};
+    ghost use Rattle.sd_plan.specs.domain.Lone.{IsDomain};
     ghost use Rattle.sd_drill.specs.Times.{IsDrillOf};
-    ghost use Rattle.sd_topo.specs.Topologies.{network};
+    ghost use Rattle.sd_plan.specs.topo.Topologies.{network};
 
     /// A drill of a plan.
     pub fn new(alloc: Global, planned: IndexedPlan<'_>, budget: Budget) -> Result<Drill, NoMemory>

@@ -4,7 +4,7 @@ ghost use Rattle.std.specs.Prelude.{◌≡◌, None, replicate, IfOk};
 use crate::times::Times;
 use sd_num::NoMemory;
 use sd_plan::IndexedPlan;
-use sd_topo::Topology;
+use sd_plan::topo::Topology;
 use std::alloc::Global;
 
 /// How much a device's estimate has grown, over walks of some length.
@@ -22,7 +22,7 @@ pub(crate) struct GrowthCache {
     known: Vec<Option<Growth>>,
 }
 
-/// Nothing is known of so many devices.
+/// Nothing is known of this many devices.
 fn none_known(alloc: Global, count: u32) -> Result<Vec<Option<Growth>>, NoMemory>
     ensures { IfOk result (λ known. known.items ≡ replicate count None) }
 {
@@ -36,7 +36,7 @@ impl GrowthCache {
     ghost use Rattle.std.specs.Prelude.{◌+◌, ◌≤◌, ◌<◌, length};
     ghost use Rattle.sd_drill.specs.Times.{AreGrowths, AreTimes, IsGrowth};
     ghost use Rattle.sd_plan.specs.declared.Plan.{Plan};
-    ghost use Rattle.sd_topo.specs.Topologies.{network};
+    ghost use Rattle.sd_plan.specs.topo.Topologies.{network};
 
     /// Nothing is known of the devices of a topology.
     pub(crate) fn new(alloc: Global, topo: &Topology) -> Result<GrowthCache, NoMemory>
@@ -47,8 +47,8 @@ impl GrowthCache {
         Ok(GrowthCache { known })
     }
 
-    /// The growth of a device whose walks have so many hops at most. It is computed where the one that
-    /// is known is of another length.
+    /// The growth of a device whose walks have this many hops at most. It is computed where the one
+    /// that is known is of another length.
     pub(crate) fn of(&mut self, times: Times, planned: IndexedPlan<'_>, d: u32, long: u32) -> u128
         requires times { AreTimes (network planned.topo.now) planned.plan.now times }
         requires growths { AreGrowths (network planned.topo.now) planned.plan.now self.old }

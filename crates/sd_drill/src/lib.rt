@@ -4,11 +4,11 @@
 
 ghost use Rattle.std.specs.Prelude.{◌≡◌, ◌^◌, ◌≤◌, IfOk};
 ghost use Rattle.sd_checker.specs.Verdicts.{IsAccepted};
-ghost use Rattle.sd_domain.specs.Lone.{IsDomain};
+ghost use Rattle.sd_plan.specs.domain.Lone.{IsDomain};
 ghost use Rattle.sd_drill.specs.Bounds.{AreBounds};
 ghost use Rattle.sd_drill.specs.Budgets.{IsBudget};
 ghost use Rattle.sd_plan.specs.Plans.{Fits};
-ghost use Rattle.sd_topo.specs.Topologies.{network};
+ghost use Rattle.sd_plan.specs.topo.Topologies.{network};
 
 pub mod ages;
 mod bounds;
@@ -24,10 +24,10 @@ mod times;
 pub use bounds::WorstList;
 pub use calm::calm_numbers;
 pub use drill::Drill;
-use sd_domain::DomainId;
 use sd_num::NoMemory;
+use sd_plan::domain::DomainId;
+use sd_plan::topo::Topology;
 use sd_plan::{IndexedPlan, Plan, WalkIndex};
-use sd_topo::Topology;
 use std::alloc::Global;
 pub use tight::TightDrill;
 

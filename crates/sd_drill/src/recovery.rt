@@ -1,7 +1,7 @@
 //! How devices recover from a fault domain: which come to hear the acting end again, and what the
 //! walks reach on which they may be meanwhile.
 ghost use Rattle.std.specs.Prelude.{◌≡◌, ◌<◌, length, IfSome};
-ghost use Rattle.sd_checker.specs.CheckHit.Outages.{net_of, plan_of};
+ghost use Rattle.sd_checker.specs.check_hit.Outages.{net_of, plan_of};
 ghost use Rattle.sd_drill.specs.recovery.Hops as words;
 ghost use Rattle.sd_drill.specs.recovery.Hops.{BothAre, IsRightHop};
 ghost use Rattle.sd_drill.specs.recovery.Reaches.{BeginsWith, ReachesOf};

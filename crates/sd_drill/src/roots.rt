@@ -4,11 +4,11 @@ ghost use Rattle.sd_drill.specs.Drill as words;
 ghost use Rattle.sd_plan.specs.Tables.{EndsAt};
 ghost use Rattle.sd_plan.specs.Walks.{walk};
 ghost use Rattle.sd_drill.specs.recovery.Walks.{halves};
-ghost use Rattle.sd_topo.specs.Network as network_words;
-ghost use Rattle.sd_topo.specs.Topologies.{network};
+ghost use Rattle.sd_plan.specs.topo.Network as network_words;
+ghost use Rattle.sd_plan.specs.topo.Topologies.{network};
 
+use sd_plan::topo::Topology;
 use sd_plan::{Hop, IndexedPlan, backup_of, primary_of};
-use sd_topo::Topology;
 
 /// The half of a hop of a device.
 fn half_of(topo: &Topology, d: u32, hop: Hop) -> u64

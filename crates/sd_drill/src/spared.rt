@@ -1,11 +1,11 @@
 //! The bounds of devices under the domains that spare them, as far as they are known.
 ghost use Rattle.std.specs.Prelude.{◌≡◌, ◌<◌, None, length, replicate, IfOk};
-ghost use Rattle.sd_checker.specs.CheckHit.Outages.{net_of, plan_of};
+ghost use Rattle.sd_checker.specs.check_hit.Outages.{net_of, plan_of};
 ghost use Rattle.sd_drill.specs.Spared as words;
 
 use sd_checker::check_hit::Outage;
 use sd_num::NoMemory;
-use sd_topo::Topology;
+use sd_plan::topo::Topology;
 use std::alloc::Global;
 
 /// Of each device, its bound under every domain that spares it, if it is known. No such domain
@@ -24,7 +24,7 @@ pub(crate) fn is_spared(outage: &Outage<'_>, d: u32) -> bool
     !outage.hits(d) && !outage.holds_device(d)
 }
 
-/// No bound is known of so many devices.
+/// No bound is known of this many devices.
 fn no_bounds(alloc: Global, count: u32) -> Result<Vec<Option<u128>>, NoMemory>
     ensures { IfOk result (λ known. known.items ≡ replicate count None) }
 {
@@ -39,7 +39,7 @@ impl SparedBounds {
     ghost use Rattle.sd_drill.specs.Spared.{AreSparedBounds, spared_at};
     ghost use Rattle.sd_drill.specs.declared.Budget.{Budget};
     ghost use Rattle.sd_plan.specs.declared.Plan.{Plan};
-    ghost use Rattle.sd_topo.specs.Topologies.{network};
+    ghost use Rattle.sd_plan.specs.topo.Topologies.{network};
 
     /// Nothing is known of the devices of a topology.
     pub(crate) fn new(alloc: Global, topo: &Topology) -> Result<SparedBounds, NoMemory>

@@ -1,7 +1,7 @@
 //! A tighter number of each device, beside its bound: no report is above it either.
 ghost use Rattle.std.specs.Prelude.{◌≡◌, ◌≤◌, ◌<◌, ◌+◌, ◌*◌, ◌^◌, length, IfOk};
-ghost use Rattle.sd_checker.specs.CheckHit.Outages.{net_of, plan_of};
-ghost use Rattle.sd_checker.specs.CheckLoop.Loops.{HasNoCycle};
+ghost use Rattle.sd_checker.specs.check_hit.Outages.{net_of, plan_of};
+ghost use Rattle.sd_checker.specs.check_loop.Loops.{HasNoCycle};
 ghost use Rattle.sd_drill.specs.Budgets.{IsBudget};
 ghost use Rattle.sd_drill.specs.Tight as words;
 ghost use Rattle.sd_drill.specs.Tight.{AreTight, AreTightTimes, IsTightListed};
@@ -9,8 +9,8 @@ ghost use Rattle.sd_drill.specs.Tightening.{CanTighten, HasNumber, HasNumbers};
 ghost use Rattle.sd_drill.specs.recovery.Recoveries.{IsRecovery};
 ghost use Rattle.sd_drill.specs.recovery.Searches.{HasRoom as HasRecoveryRoom};
 ghost use Rattle.sd_plan.specs.Plans.{Fits};
-ghost use Rattle.sd_topo.specs.Network.{rates_of};
-ghost use Rattle.sd_topo.specs.Topologies.{network};
+ghost use Rattle.sd_plan.specs.topo.Network.{rates_of};
+ghost use Rattle.sd_plan.specs.topo.Topologies.{network};
 
 use crate::Budget;
 use crate::ages::{ageing, oldest};
@@ -20,10 +20,10 @@ use crate::roots::root_halves;
 use crate::times::Times;
 use sd_checker::check_hit::{Impact, Outage};
 use sd_checker::check_root::greatest_up;
-use sd_domain::DomainId;
 use sd_num::NoMemory;
+use sd_plan::domain::DomainId;
+use sd_plan::topo::Topology;
 use sd_plan::{IndexedPlan, Plan};
-use sd_topo::Topology;
 use std::alloc::Global;
 
 /// What the tight numbers of all domains share, in ps.
@@ -183,7 +183,7 @@ fn numbers_under(
 }
 
 impl TightDrill {
-    ghost use Rattle.sd_domain.specs.Lone.{IsDomain};
+    ghost use Rattle.sd_plan.specs.domain.Lone.{IsDomain};
     ghost use Rattle.sd_drill.specs.Tight.{IsTightDrillOf};
 
     /// A drill of a plan.

@@ -5,15 +5,15 @@ ghost use Rattle.sd_drill.specs.Budgets.{IsBudget};
 ghost use Rattle.sd_drill.specs.Drill as words;
 ghost use Rattle.sd_drill.specs.Times.{AreTimes, IsGrowth};
 ghost use Rattle.sd_plan.specs.Plans.{Fits};
-ghost use Rattle.sd_topo.specs.Network.{rates_of};
-ghost use Rattle.sd_topo.specs.Topologies.{network};
+ghost use Rattle.sd_plan.specs.topo.Network.{rates_of};
+ghost use Rattle.sd_plan.specs.topo.Topologies.{network};
 
 use crate::Budget;
 use crate::ages::{ageing, oldest};
 use crate::roots::root_halves;
 use sd_checker::check_root::{greatest_up, silence_and_tick};
+use sd_plan::topo::Topology;
 use sd_plan::{IndexedPlan, Plan};
-use sd_topo::Topology;
 
 /// The times of a plan and a budget, in ps.
 #[derive(Clone, Copy)]
@@ -71,7 +71,7 @@ impl Times {
         }
     }
 
-    /// By how much the estimate of a device has grown once it hears again, over walks of so many hops.
+    /// By how much the estimate of a device has grown once it hears again, by walks of this length.
     pub(crate) fn growth(self, planned: IndexedPlan<'_>, d: u32, long: u32) -> u128
         requires times { AreTimes (network planned.topo.now) planned.plan.now self }
         requires device { d < length (network planned.topo.now).devices }

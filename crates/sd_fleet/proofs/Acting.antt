@@ -4,36 +4,36 @@ use Rattle.std.proofs.Common.{sym, ◌∙◌, ap, subst}
 use Rattle.std.proofs.lemmas.Bool.{leb-true, eqb-true, and_parts, not-false}
 use Rattle.std.proofs.lemmas.Option.{same_Some}
 use Rattle.sd_num.specs.Lists.{at_place, map_or, same_number}
-use Rattle.sd_topo.specs.Network.{Each}
+use Rattle.sd_plan.specs.topo.Network.{Each}
 use Rattle.sd_plan.specs.declared.Duty.{Duty}
 use Rattle.sd_plan.specs.declared.Role.TheVariants as role
-use Rattle.sd_msg.specs.declared.Flight.{Flight}
-use Rattle.sd_core.specs.declared.node.Node.{Ghosts}
+use Rattle.sd_device.specs.declared.msg.Flight.{Flight}
+use Rattle.sd_device.specs.declared.node.Node.{Ghosts}
 use Rattle.sd_sched.specs.declared.Event.{Event}
 use Rattle.sd_sched.specs.declared.Event.TheVariants as event
 use Rattle.sd_sched.specs.Events.{device_of}
 use Rattle.sd_sched.specs.Spelled.{is_within}
-use Rattle.sd_fleet.specs.History.Things.{failure_of, mended}
-use Rattle.sd_fleet.specs.History.Refusals.{makes_some}
-use Rattle.sd_fleet.specs.FleetState.world.Registers.{up_at, reading_at, is_open}
-use Rattle.sd_fleet.specs.FleetState.declared.membership.plans.NumberedPlan.{NumberedPlan}
-use Rattle.sd_fleet.specs.FleetState.declared.membership.AnswerSummary.{AnswerSummary}
-use Rattle.sd_fleet.specs.FleetState.membership.Plans.{row_numbered, root_numbered, is_member_numbered}
-use Rattle.sd_fleet.specs.FleetState.membership.Memberships as membership
-use Rattle.sd_fleet.specs.FleetState.membership.Memberships.{staged_number, holds_given}
-use Rattle.sd_fleet.specs.History.flights.Flights.{says_unknown, says_spent}
-use Rattle.sd_msg.specs.declared.TakeFault.{TakeFault}
-use Rattle.sd_msg.specs.declared.TakeFault.TheVariants as fault
-use Rattle.sd_msg.specs.Books.{found, has_number, is_given}
+use Rattle.sd_history.specs.Things.{failure_of, mended}
+use Rattle.sd_history.specs.Refusals.{makes_some}
+use Rattle.sd_world.specs.world.Registers.{up_at, reading_at, is_open}
+use Rattle.sd_world.specs.declared.membership.plans.NumberedPlan.{NumberedPlan}
+use Rattle.sd_world.specs.declared.membership.AnswerSummary.{AnswerSummary}
+use Rattle.sd_world.specs.membership.Plans.{row_numbered, root_numbered, is_member_numbered}
+use Rattle.sd_world.specs.membership.Memberships as membership
+use Rattle.sd_world.specs.membership.Memberships.{staged_number, holds_given}
+use Rattle.sd_history.specs.flights.Flights.{says_unknown, says_spent}
+use Rattle.sd_device.specs.declared.msg.TakeFault.{TakeFault}
+use Rattle.sd_device.specs.declared.msg.TakeFault.TheVariants as fault
+use Rattle.sd_device.specs.msg.Books.{found, has_number, is_given}
 use Rattle.sd_plan.specs.Tables.{TableRow}
-use Rattle.sd_topo.proofs.Laws.{rates_law}
+use Rattle.sd_plan.proofs.topo.Laws.{rates_law}
 use Rattle.sd_plan.proofs.Shared.{found_passes}
-use Rattle.sd_core.specs.Calls as calls
+use Rattle.sd_device.specs.Calls as calls
 use Rattle.sd_fleet.specs.Registers.{Registers}
 use Rattle.sd_fleet.specs.Sound.{IsSound}
 use Rattle.sd_fleet.specs.Causes.{refusal_in, causes_in, past_preparing_in}
-use Rattle.sd_core.specs.Calls.{Call}
-use Rattle.sd_fleet.specs.History.Steps as steps
+use Rattle.sd_device.specs.Calls.{Call}
+use Rattle.sd_history.specs.Steps as steps
 use Rattle.sd_fleet.specs.Doing.{act_in, receipt, given_in}
 use Rattle.sd_fleet.proofs.Admitted.{none_holds, device_known, message_known, message_unspent, counter_rises, device_up, started_member, given_member}
 use Rattle.sd_fleet.specs.Calling.{IsNode, IsMessage, IsEstimate, CanCall}
@@ -60,15 +60,7 @@ up_asked (event.Give reference device) calls = refl
 up_asked (event.Commit reference device counter) calls = refl
 up_asked (event.Seal reference device) calls = refl
 up_asked (event.Ask reference device counter) calls = refl
-up_asked (event.Start reference device counter clock eps) calls = cc
-up_asked (event.Join reference device counter clock eps) calls = cc
-up_asked (event.Lose reference message) calls = cc
-up_asked (event.FailDevice reference device) calls = cc
-up_asked (event.FailLink reference link) calls = cc
-up_asked (event.MendDevice reference device) calls = cc
-up_asked (event.MendLink reference link) calls = cc
-up_asked (event.Stage reference) calls = cc
-up_asked (event.End reference) calls = cc
+up_asked _ calls = cc
 
 -- the number of a given duty is known
 given_kept : {N : Type 0} (g : Ghosts N) (r : Registers) (d : ℕ) (n : N) → IsKept g r d n
@@ -292,10 +284,4 @@ module _ {N : Type 0} (g : Ghosts N) (r : Registers) (nodes : List (Option N)) (
             (subst (λ (o : Option ℕ). same_number o (staged_number r.membership) ≡ true) (sym (given_kept g r d n kept))
             (held r.membership (staged_number r.membership) d it.1)) kept.duty),
       ))
-  can_act (event.Lose reference message) accepted within = tt
-  can_act (event.FailDevice reference d) accepted within = tt
-  can_act (event.FailLink reference l) accepted within = tt
-  can_act (event.Stage reference) accepted within = tt
-  can_act (event.MendDevice reference d) accepted within = tt
-  can_act (event.MendLink reference l) accepted within = tt
-  can_act (event.End reference) accepted within = tt
+  can_act _ accepted within = tt

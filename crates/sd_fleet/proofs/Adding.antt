@@ -3,16 +3,16 @@ use Rattle.std.specs.Prelude.{◌≡◌, ℕ, zero, suc, ◌+◌, ◌<◌, ◌�
 use Rattle.std.proofs.Common.{arith, sym, ◌∙◌, ap, add-one, inl, inr}
 use Rattle.std.proofs.lemmas.Bool.{or_cases, eqb-true, ne_eqb}
 use Rattle.std.proofs.lemmas.List.{length-take-le}
-use Rattle.sd_topo.specs.Network.{Network, link_of}
-use Rattle.sd_topo.specs.Limits.{IsNetwork}
-use Rattle.sd_topo.specs.Places.{is_end_of}
-use Rattle.sd_topo.specs.declared.LinkEntry.{LinkEntry}
-use Rattle.sd_topo.proofs.Laws.{link_law}
+use Rattle.sd_plan.specs.topo.Network.{Network, link_of}
+use Rattle.sd_plan.specs.topo.Limits.{IsNetwork}
+use Rattle.sd_plan.specs.topo.Places.{is_end_of}
+use Rattle.sd_plan.specs.declared.topo.LinkEntry.{LinkEntry}
+use Rattle.sd_plan.proofs.topo.Laws.{link_law}
 use Rattle.sd_plan.specs.declared.End.{End}
-use Rattle.sd_msg.specs.declared.Flight.{Flight}
-use Rattle.sd_msg.specs.Books.{Book, AreGiven, with_sent}
-use Rattle.sd_fleet_state.specs.world.Registers as worlds
-use Rattle.sd_fleet_state.specs.membership.Plans.{IsEnd}
+use Rattle.sd_device.specs.declared.msg.Flight.{Flight}
+use Rattle.sd_device.specs.msg.Books.{Book, AreGiven, with_sent}
+use Rattle.sd_world.specs.world.Registers as worlds
+use Rattle.sd_world.specs.membership.Plans.{IsEnd}
 use Rattle.sd_history.proofs.flights.Booking.{sent_more}
 use Rattle.sd_fleet.specs.declared.messages.Sending.{Sending}
 use Rattle.sd_fleet.specs.declared.messages.Sent.{Sent}
@@ -20,17 +20,6 @@ use Rattle.sd_fleet.specs.Outcomes.{first_number}
 use Rattle.sd_fleet.specs.Sending.{flight_over, flights_over}
 
 -- an end is one of the network's devices, and the delay towards it is limited
-
-end_by : (link : LinkEntry) (d n : ℕ) → link.end_a < n → link.end_b < n → is_end_of link d ≡ true → d < n
-end_by link d n a b is = elim (or_cases (nat_eq d link.end_a) (nat_eq d link.end_b) is) [
-  | inl one ↦ (let same = eqb-true d link.end_a one in omega arith)
-  | inr two ↦ (let same = eqb-true d link.end_b two in omega arith)
-]
-
-pub end_within : (net : Network) (e : End) → IsNetwork net → IsEnd net e → e.device < length net.devices
-end_within net e law is =
-    let link = link_law net e.link law is.link in
-    end_by (link_of net e.link) e.device (length net.devices) link.first link.second is.device
 
 -- one more of the ends
 

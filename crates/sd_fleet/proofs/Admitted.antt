@@ -9,8 +9,8 @@ use Rattle.sd_sched.specs.Events.{reference_of, device_of, counter_of, link_of, 
 use Rattle.sd_history.specs.Things.{failure_of, mended}
 use Rattle.sd_history.specs.Refusals.{makes_some}
 use Rattle.sd_history.specs.flights.Flights.{says_unknown, says_spent}
-use Rattle.sd_fleet_state.specs.world.Registers.{up_at, reading_at, is_open}
-use Rattle.sd_fleet_state.specs.membership.Memberships.{is_in_force, is_in_staged}
+use Rattle.sd_world.specs.world.Registers.{up_at, reading_at, is_open}
+use Rattle.sd_world.specs.membership.Memberships.{is_in_force, is_in_staged}
 use Rattle.sd_fleet.specs.Registers.{Registers}
 use Rattle.sd_fleet.specs.Causes.{Cause, first_of, causes_in, refusal_in, flight_at, is_for_another}
 use Rattle.sd_fleet.proofs.Alike.{in_range}

@@ -3,8 +3,8 @@ use Rattle.std.specs.Prelude.{◌≡◌, ℕ, ◌<◌, Bool, true, false, List, 
 use Rattle.std.proofs.Common.{◌∙◌, ap, subst}
 use Rattle.std.proofs.lemmas.Bool.{leb-false}
 use Rattle.sd_num.specs.Lists.{map_or}
-use Rattle.sd_topo.specs.declared.Thing.{Thing}
-use Rattle.sd_topo.specs.declared.Thing.TheVariants as thing
+use Rattle.sd_plan.specs.declared.topo.Thing.{Thing}
+use Rattle.sd_plan.specs.declared.topo.Thing.TheVariants as thing
 use Rattle.sd_sched.specs.declared.Event.{Event}
 use Rattle.sd_sched.specs.declared.Event.TheVariants as event
 use Rattle.sd_sched.specs.Events.{device_of, link_of, started, joined, given}

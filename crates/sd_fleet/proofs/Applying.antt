@@ -1,25 +1,25 @@
 -- What a fleet stands for before any event, and after one that is accepted or refused.
 use Rattle.std.specs.Prelude.{◌≡◌, ◌≢◌, ℕ, zero, suc, ◌+◌, ◌^◌, ◌<◌, ◌≤◌, Bool, true, false, List, [], ◌∷◌, ◌++◌, length, replicate, Option, Some, None, option_map, IsTrue, IfSome, refl}
 use Rattle.std.proofs.Common.{arith, sym, ◌∙◌, ap, subst, inl, inr, add-one}
-use Rattle.sd_topo.specs.Network.{Network, Each}
-use Rattle.sd_msg.specs.declared.Flight.{Flight}
+use Rattle.sd_plan.specs.topo.Network.{Network, Each}
+use Rattle.sd_device.specs.declared.msg.Flight.{Flight}
 use Rattle.std.proofs.lemmas.Option.{same_Some}
 use Rattle.sd_num.specs.Lists.{map_or}
 use Rattle.sd_plan.specs.declared.Duty.{Duty}
 use Rattle.sd_plan.specs.Tables.{TableRow}
-use Rattle.sd_core.specs.declared.node.Node.{Ghosts}
-use Rattle.sd_fleet.specs.FleetState.membership.Plans.{row_numbered}
+use Rattle.sd_device.specs.declared.node.Node.{Ghosts}
+use Rattle.sd_world.specs.membership.Plans.{row_numbered}
 use Rattle.sd_sched.specs.declared.Event.{Event}
 use Rattle.sd_sched.specs.declared.Event.TheVariants as event
-use Rattle.sd_fleet.specs.History.declared.ApplyFault.{ApplyFault}
-use Rattle.sd_fleet.specs.History.declared.ApplyFault.TheVariants.{Memory}
-use Rattle.sd_fleet.specs.History.World.{Setting}
-use Rattle.sd_fleet.specs.History.Steps.{Step}
-use Rattle.sd_fleet.specs.History.Steps as steps
-use Rattle.sd_fleet.specs.History.Nodes.{NodeStep, IsRun, steps_of, node_in}
-use Rattle.sd_fleet.proofs.FleetState.world.Answers.{up_stands}
-use Rattle.sd_fleet.specs.FleetState.membership.Memberships as membership
-use Rattle.sd_fleet.specs.FleetState.membership.Standing as standing
+use Rattle.sd_history.specs.declared.ApplyFault.{ApplyFault}
+use Rattle.sd_history.specs.declared.ApplyFault.TheVariants.{Memory}
+use Rattle.sd_history.specs.World.{Setting}
+use Rattle.sd_history.specs.Steps.{Step}
+use Rattle.sd_history.specs.Steps as steps
+use Rattle.sd_history.specs.Nodes.{NodeStep, IsRun, steps_of, node_in}
+use Rattle.sd_world.proofs.world.Answers.{up_stands}
+use Rattle.sd_world.specs.membership.Memberships as membership
+use Rattle.sd_world.specs.membership.Standing as standing
 use Rattle.sd_fleet.specs.declared.Reply.{Reply}
 use Rattle.sd_fleet.specs.declared.Outcome.{Outcome}
 use Rattle.sd_fleet.specs.Registers.{Registers}
@@ -30,7 +30,7 @@ use Rattle.sd_fleet.specs.Outcomes.{outcome_of}
 use Rattle.sd_fleet.specs.FabricStanding.{Stands}
 use Rattle.sd_fleet.specs.Stepping.{IsAfter, OnlyRoomGrew}
 use Rattle.sd_fleet.specs.Sound.{IsSound}
-use Rattle.sd_fleet.specs.History.Steps.{Act}
+use Rattle.sd_history.specs.Steps.{Act}
 use Rattle.sd_fleet.proofs.Admitted.{device_known}
 use Rattle.sd_sched.specs.Events.{device_of}
 use Rattle.sd_sched.specs.Spelled.{is_within}
@@ -79,44 +79,11 @@ nodes_first {N = N} g r nodes setting stands places none =
 
 -- Where only room grew
 
-pub same_refusal : (old new : Registers) (e : Event) → OnlyRoomGrew old new → refusal_in new e ≡ refusal_in old e
-same_refusal old new e grew =
-    ap (λ (n : Network). refusal_in (record { net = n; membership = new.membership; book = new.book }) e) grew.net
-    ∙ ap (λ (r : membership.Registers). refusal_in (record { net = old.net; membership = r; book = new.book }) e) grew.membership
-    ∙ ap (λ (fs : List Flight). refusal_in
-    (record { net = old.net; membership = old.membership; book = record new.book { flights = fs } }) e) grew.flights
-    ∙ ap (λ (n : ℕ). refusal_in
-    (record { net = old.net; membership = old.membership; book = record new.book { flights = old.book.flights; last = n } }) e) grew.last
-
-pub stands_roomy : (old new : Registers) (setting : Setting) (earlier : List Step) → OnlyRoomGrew old new → Stands old setting earlier
-    → Stands new setting earlier
-stands_roomy old new setting earlier grew stands =
-    record {
-      accepted = stands.accepted;
-      net = grew.net ∙ stands.net;
-      membership = subst (λ (r : membership.Registers). standing.Stands r setting earlier) (sym grew.membership) stands.membership;
-      flights = grew.flights ∙ stands.flights;
-      sent = grew.last ∙ stands.sent;
-    }
-
 -- only a tick or a receipt may send
 pub may_send_some : (r : Registers) (e : Event) → most_sent_in r e ≢ 0 → IsTrue (may_send e)
 may_send_some r (event.Tick reference d counter) some = refl
 may_send_some r (event.Recv reference d counter message) some = refl
-may_send_some r (event.Start reference d counter clock eps) some = absurd (some refl)
-may_send_some r (event.Lose reference message) some = absurd (some refl)
-may_send_some r (event.FailDevice reference d) some = absurd (some refl)
-may_send_some r (event.FailLink reference l) some = absurd (some refl)
-may_send_some r (event.Fix reference d counter clock eps) some = absurd (some refl)
-may_send_some r (event.Ask reference d counter) some = absurd (some refl)
-may_send_some r (event.Stage reference) some = absurd (some refl)
-may_send_some r (event.Give reference d) some = absurd (some refl)
-may_send_some r (event.Commit reference d counter) some = absurd (some refl)
-may_send_some r (event.Seal reference d) some = absurd (some refl)
-may_send_some r (event.Join reference d counter clock eps) some = absurd (some refl)
-may_send_some r (event.MendDevice reference d) some = absurd (some refl)
-may_send_some r (event.MendLink reference l) some = absurd (some refl)
-may_send_some r (event.End reference) some = absurd (some refl)
+may_send_some r _ some = absurd (some refl)
 
 -- The faults
 

@@ -2,13 +2,13 @@
 use Rattle.std.specs.Prelude.{◌≡◌, ℕ, ◌^◌, ◌<◌, true, false, not, List, [], ◌∷◌, length, nat_eq, nat_le, nat_lt, Some, None, Result, Ok, Err, refl}
 use Rattle.std.proofs.Common.{arith, sym, ap}
 use Rattle.std.proofs.lemmas.Bool.{and_parts, ltb-true, leb-true, eqb-true, eq-eqb, le-ltb, lt-leb, not-true}
-use Rattle.sd_topo.specs.declared.Thing.TheVariants as thing
-use Rattle.sd_msg.specs.declared.Flight.{Flight}
-use Rattle.sd_msg.specs.declared.TakeFault.{TakeFault}
+use Rattle.sd_plan.specs.declared.topo.Thing.TheVariants as thing
+use Rattle.sd_device.specs.declared.msg.Flight.{Flight}
+use Rattle.sd_device.specs.declared.msg.TakeFault.{TakeFault}
 use Rattle.sd_sched.specs.declared.Event.{Event}
 use Rattle.sd_sched.specs.declared.Event.TheVariants as event
 use Rattle.sd_history.specs.flights.Flights.{says_unknown, says_spent}
-use Rattle.sd_fleet_state.specs.world.Registers.{up_at, failed_at, reading_at, admits_call}
+use Rattle.sd_world.specs.world.Registers.{up_at, failed_at, reading_at, admits_call}
 use Rattle.sd_fleet.specs.Registers.{Registers}
 use Rattle.sd_fleet.specs.Causes.{Cause, first_of, causes_in, refusal_in, flight_at, is_for_another}
 use Rattle.sd_fleet.specs.Calm.{is_on_time, is_calm}
@@ -79,14 +79,6 @@ receipt_accepted r reference d counter message a timed =
 pub calm_tick : (r : Registers) (reference d counter : ℕ) → IsSound r → admits_call r.membership.world reference d counter ≡ true
     → refusal_in r (event.Tick reference d counter) ≡ None
 calm_tick r reference d counter sound admits = tick_accepted r reference d counter (admitted r reference d counter sound admits)
-
--- nothing refuses a calm event
-pub calm_accepted : (r : Registers) (e : Event) → IsSound r → is_calm r e ≡ true → refusal_in r e ≡ None
-calm_accepted r (event.Tick reference d counter) sound calm = calm_tick r reference d counter sound calm
-calm_accepted r (event.Recv reference d counter message) sound calm =
-    let parts = and_parts (admits_call r.membership.world reference d counter) (is_on_time reference d (flight_at r message)) calm in
-    receipt_accepted r reference d counter message (admitted r reference d counter sound parts.0) parts.1
-calm_accepted r _ sound calm = cc
 
 -- what is admitted goes by the world and the network alone
 pub as_tick : (r : Registers) (reference d counter message : ℕ) → refusal_in r (event.Recv reference d counter message) ≡ None

@@ -3,33 +3,33 @@ use Rattle.std.specs.Prelude.{◌≡◌, ◌≢◌, ℕ, ◌+◌, ◌<◌, Bool,
 use Rattle.std.proofs.Common.{sym, ◌∙◌, ap, subst}
 use Rattle.std.proofs.lemmas.Bool.{eqb-true, and_parts}
 use Rattle.sd_num.specs.Lists.{map_or, same_number}
-use Rattle.sd_topo.specs.Network.{Network, Each}
-use Rattle.sd_topo.specs.declared.Thing.{Thing}
+use Rattle.sd_plan.specs.topo.Network.{Network, Each}
+use Rattle.sd_plan.specs.declared.topo.Thing.{Thing}
 use Rattle.sd_plan.specs.declared.End.{End}
 use Rattle.sd_plan.specs.Tables.{TableRow}
 use Rattle.sd_plan.proofs.Shared.{each_more}
-use Rattle.sd_msg.specs.declared.Flight.{Flight}
-use Rattle.sd_msg.specs.declared.Message.{Message}
-use Rattle.sd_msg.specs.declared.TakeFault.{TakeFault}
-use Rattle.sd_msg.specs.Books.{Book, is_current, is_swept, has_number}
-use Rattle.sd_core.specs.declared.Effect.{Effect}
-use Rattle.sd_core.specs.declared.Effect.TheVariants.{Quiet, Send}
-use Rattle.sd_core.specs.declared.node.Node.{Ghosts}
-use Rattle.sd_core.specs.Limits.{IfSent}
+use Rattle.sd_device.specs.declared.msg.Flight.{Flight}
+use Rattle.sd_device.specs.declared.msg.Message.{Message}
+use Rattle.sd_device.specs.declared.msg.TakeFault.{TakeFault}
+use Rattle.sd_device.specs.msg.Books.{Book, is_current, is_swept, has_number}
+use Rattle.sd_device.specs.declared.Effect.{Effect}
+use Rattle.sd_device.specs.declared.Effect.TheVariants.{Quiet, Send}
+use Rattle.sd_device.specs.declared.node.Node.{Ghosts}
+use Rattle.sd_device.specs.Limits.{IfSent}
 use Rattle.sd_sched.specs.declared.Event.{Event}
 use Rattle.sd_sched.specs.declared.Event.TheVariants as event
 use Rattle.sd_sched.specs.Events.{reference_of, device_of, message_of}
-use Rattle.sd_fleet.specs.History.Things.{failure_of}
-use Rattle.sd_fleet.specs.History.flights.Flights.{without_taken, without_swept}
-use Rattle.sd_fleet.specs.FleetState.declared.world.device.DeviceState.{DeviceState}
-use Rattle.sd_fleet.specs.FleetState.world.Registers as world
-use Rattle.sd_fleet.specs.FleetState.world.Registers.{up_at, is_open}
-use Rattle.sd_fleet.specs.FleetState.declared.membership.AnswerSummary.{AnswerSummary}
-use Rattle.sd_fleet.specs.FleetState.membership.Plans.{is_member_numbered}
-use Rattle.sd_fleet.specs.FleetState.membership.Memberships as membership
-use Rattle.sd_fleet.specs.FleetState.membership.Memberships.{staged_number, can_close_in, ends_below, registers_closed}
-use Rattle.sd_core.specs.Calls as calls
-use Rattle.sd_fleet.specs.History.Steps as steps
+use Rattle.sd_history.specs.Things.{failure_of}
+use Rattle.sd_history.specs.flights.Flights.{without_taken, without_swept}
+use Rattle.sd_world.specs.declared.world.device.DeviceState.{DeviceState}
+use Rattle.sd_world.specs.world.Registers as world
+use Rattle.sd_world.specs.world.Registers.{up_at, is_open}
+use Rattle.sd_world.specs.declared.membership.AnswerSummary.{AnswerSummary}
+use Rattle.sd_world.specs.membership.Plans.{is_member_numbered}
+use Rattle.sd_world.specs.membership.Memberships as membership
+use Rattle.sd_world.specs.membership.Memberships.{staged_number, can_close_in, ends_below, registers_closed}
+use Rattle.sd_device.specs.Calls as calls
+use Rattle.sd_history.specs.Steps as steps
 use Rattle.sd_fleet.specs.declared.Reply.{Reply}
 use Rattle.sd_fleet.specs.Registers.{Registers}
 use Rattle.sd_fleet.specs.Sound.{IsSound}
@@ -132,20 +132,17 @@ there_named g old (event.Recv reference d counter message) reply nodes after are
     (message_unspent old e accepted message refl) in
     let called = subst (λ (o : Result Flight TakeFault). Acts g nodes (receipt o d counter) (context_of old e) reply after) at acts in
     λ up. placed_there g old e reply nodes after are_nodes sound d called.node (device_known old e accepted d refl) called.placed
-there_named g old (event.Lose reference message) reply nodes after are_nodes sound accepted acts = tt
 there_named g old (event.FailDevice reference d) reply nodes after are_nodes sound accepted acts =
     let e = event.FailDevice reference d in
     let down : up_at (happened old e reply).membership.world d ≡ false =
     ap (λ (s : DeviceState). s.up) (state_named g old e reply nodes after are_nodes sound d (device_known old e accepted d refl) refl) in
     λ up. cc
-there_named g old (event.FailLink reference l) reply nodes after are_nodes sound accepted acts = tt
 there_named g old (event.Fix reference d counter clock eps) reply nodes after are_nodes sound accepted acts =
     let e = event.Fix reference d counter clock eps in
     λ up. placed_there g old e reply nodes after are_nodes sound d acts.node (device_known old e accepted d refl) acts.placed
 there_named g old (event.Ask reference d counter) reply nodes after are_nodes sound accepted acts =
     let e = event.Ask reference d counter in
     λ up. stays_there g old e reply nodes after are_nodes sound d (device_known old e accepted d refl) acts.1 (device_up old e accepted d refl refl)
-there_named g old (event.Stage reference) reply nodes after are_nodes sound accepted acts = tt
 there_named g old (event.Give reference d) reply nodes after are_nodes sound accepted acts =
     let e = event.Give reference d in
     let parts = and_parts (is_open old.membership.world.window) (is_member_numbered old.membership.plans (staged_number old.membership) d)
@@ -167,8 +164,7 @@ there_named g old (event.MendDevice reference d) reply nodes after are_nodes sou
     let same : up_at (happened old e reply).membership.world d ≡ up_at old.membership.world d =
     ap (λ (s : DeviceState). s.up) (state_named g old e reply nodes after are_nodes sound d known refl) in
     λ up. stays_there g old e reply nodes after are_nodes sound d known acts.1 (sym same ∙ up)
-there_named g old (event.MendLink reference l) reply nodes after are_nodes sound accepted acts = tt
-there_named g old (event.End reference) reply nodes after are_nodes sound accepted acts = tt
+there_named g old _ reply nodes after are_nodes sound accepted acts = tt
 
 -- The nodes
 

@@ -1,10 +1,10 @@
--- A fleet of devices stands for the chronicle of its events.
-use Rattle.sd_fleet.proofs.History.Devices.{devices_run, devices_have_history}
-use Rattle.sd_fleet.specs.Devices.{DevicesKeepChronicle}
+-- A fleet of exact nodes, as devices are, stands for the chronicle of its events.
+use Rattle.sd_device.specs.declared.node.Node.{Ghosts}
+use Rattle.sd_device.specs.Living.{Life}
+use Rattle.sd_device.specs.Exact.{IsExact}
+use Rattle.sd_history.proofs.Exactness.{exact_run, exact_history}
+use Rattle.sd_fleet.specs.Devices.{NodesKeepChronicle}
 
-pub devices_keep_chronicle : DevicesKeepChronicle
-devices_keep_chronicle fleet setting run stands =
-    record {
-      history = devices_have_history setting run stands.is_run;
-      chronicle = devices_run setting run stands.is_run;
-    }
+pub nodes_keep_chronicle : {N : Type 0} {g : Ghosts N} {stands : N → Life → Type 0} → IsExact g stands → NodesKeepChronicle g
+nodes_keep_chronicle exact fleet setting run stands =
+    record { history = exact_history exact setting run stands.is_run; chronicle = exact_run exact setting run stands.is_run }

@@ -1,6 +1,6 @@
 -- What holds of each element of a list, by place.
 use Rattle.std.specs.Prelude.{suc, Bool, true, false, List, [], ◌∷◌, ◌++◌, filter, refl, if◌then◌else◌}
-use Rattle.sd_topo.specs.Network.{Each}
+use Rattle.sd_plan.specs.topo.Network.{Each}
 use Rattle.sd_plan.proofs.Shared.{each_more}
 
 pub each_rest : {A : Type 0} (P : A → Type 0) (x : A) (xs : List A) → Each P (x ∷ xs) → Each P xs

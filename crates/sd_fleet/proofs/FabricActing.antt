@@ -3,12 +3,12 @@ use Rattle.std.specs.Prelude.{◌≡◌, ℕ, ◌<◌, true, false, List, length
 use Rattle.std.proofs.Common.{sym, ◌∙◌, ap, subst}
 use Rattle.std.proofs.lemmas.Bool.{and_parts}
 use Rattle.sd_num.specs.Lists.{map_or}
-use Rattle.sd_topo.specs.Network.{rates_of}
+use Rattle.sd_plan.specs.topo.Network.{rates_of}
 use Rattle.sd_plan.specs.declared.Plan.{Plan}
 use Rattle.sd_plan.specs.Duties.{duty_of}
 use Rattle.sd_plan.specs.Tables.{TableRow}
-use Rattle.sd_msg.specs.declared.Flight.{Flight}
-use Rattle.sd_core.specs.Calls as calls
+use Rattle.sd_device.specs.declared.msg.Flight.{Flight}
+use Rattle.sd_device.specs.Calls as calls
 use Rattle.sd_sched.specs.declared.Event.{Event}
 use Rattle.sd_sched.specs.declared.Event.TheVariants as event
 use Rattle.sd_sched.specs.Events.{device_of, message_of}
@@ -16,10 +16,10 @@ use Rattle.sd_history.specs.World.{Setting, Seen, window_is_open, staged_epoch, 
 use Rattle.sd_history.specs.Steps.{Makes, Calls, Passes, Step, seen_of, flight_numbered, changed, act_by}
 use Rattle.sd_history.specs.Refusals.{refusal}
 use Rattle.sd_history.proofs.flights.Booking.{Takes, takes}
-use Rattle.sd_fleet_state.specs.world.Registers.{is_open}
-use Rattle.sd_fleet_state.specs.membership.Plans.{is_member_numbered}
-use Rattle.sd_fleet_state.specs.membership.Memberships.{staged_number}
-use Rattle.sd_fleet_state.proofs.membership.Queries.{staged_number_is, staged_when, member_row_numbered_is}
+use Rattle.sd_world.specs.world.Registers.{is_open}
+use Rattle.sd_world.specs.membership.Plans.{is_member_numbered}
+use Rattle.sd_world.specs.membership.Memberships.{staged_number}
+use Rattle.sd_world.proofs.membership.Queries.{staged_number_is, staged_when, member_row_numbered_is}
 use Rattle.sd_fleet.specs.Registers.{Registers}
 use Rattle.sd_fleet.specs.Causes.{refusal_in, flight_at}
 use Rattle.sd_fleet.specs.Doing.{act_in, receipt, changes}
@@ -79,20 +79,9 @@ module _ (setting : Setting) (r : Registers) (steps : List Step) (stands : Stand
   pub act_is : (e : Event) → refusal_in r e ≡ None → act_in r e ≡ act_by setting steps e
   act_is (event.Start ref d c clock eps) accepted = started_is ref d c clock eps accepted
   act_is (event.Join ref d c clock eps) accepted = ap (λ net. Makes d (calls.Joined (rates_of net d) c clock eps)) stands.net
-  act_is (event.Tick ref d c) accepted = refl
   act_is (event.Recv ref d c n) accepted = received_is ref d c n accepted
-  act_is (event.Lose ref n) accepted = refl
-  act_is (event.FailDevice ref d) accepted = refl
-  act_is (event.FailLink ref l) accepted = refl
-  act_is (event.Fix ref d c clock eps) accepted = refl
-  act_is (event.Ask ref d c) accepted = refl
-  act_is (event.Stage ref) accepted = refl
   act_is (event.Give ref d) accepted = given_is ref d accepted
-  act_is (event.Commit ref d c) accepted = refl
-  act_is (event.Seal ref d) accepted = refl
-  act_is (event.MendDevice ref d) accepted = refl
-  act_is (event.MendLink ref l) accepted = refl
-  act_is (event.End ref) accepted = refl
+  act_is _ accepted = refl
 
   -- the device that it makes or calls is the one that it names, if it makes or calls one
   pub changed_is : (e : Event) → refusal_in r e ≡ None → changes e ≡ true → changed (act_by setting steps e) ≡ device_of e

@@ -3,31 +3,31 @@ use Rattle.std.specs.Prelude.{◌≡◌, ℕ, ◌+◌, ◌^◌, ◌<◌, ◌≤�
 use Rattle.std.proofs.Common.{arith, sym, ◌∙◌, ap, subst, inl, inr}
 use Rattle.std.proofs.lemmas.Bool.{and_parts, or_cases, eqb-true, ne_eqb, leb-true, ltb-false, le-leb, lt-ltb, not-false}
 use Rattle.sd_num.specs.Lists.{map_or}
-use Rattle.sd_topo.specs.Network.{Network, Each}
-use Rattle.sd_topo.specs.Limits.{IsNetwork}
+use Rattle.sd_plan.specs.topo.Network.{Network, Each}
+use Rattle.sd_plan.specs.topo.Limits.{IsNetwork}
 use Rattle.sd_plan.specs.declared.End.{End}
 use Rattle.sd_plan.specs.Tables.{TableRow}
-use Rattle.sd_msg.specs.declared.Flight.{Flight}
-use Rattle.sd_msg.specs.declared.TakeFault.{TakeFault}
-use Rattle.sd_msg.specs.declared.TakeFault.TheVariants as take
-use Rattle.sd_msg.specs.Books.{Book, AreGiven, has_number, is_given, found, dismissed, is_current}
-use Rattle.sd_core.specs.declared.Effect.{Effect}
-use Rattle.sd_core.specs.declared.Effect.TheVariants.{Quiet, Send}
+use Rattle.sd_device.specs.declared.msg.Flight.{Flight}
+use Rattle.sd_device.specs.declared.msg.TakeFault.{TakeFault}
+use Rattle.sd_device.specs.declared.msg.TakeFault.TheVariants as take
+use Rattle.sd_device.specs.msg.Books.{Book, AreGiven, has_number, is_given, found, dismissed, is_current}
+use Rattle.sd_device.specs.declared.Effect.{Effect}
+use Rattle.sd_device.specs.declared.Effect.TheVariants.{Quiet, Send}
 use Rattle.sd_sched.specs.declared.Event.{Event}
 use Rattle.sd_sched.specs.declared.Event.TheVariants as event
 use Rattle.sd_sched.specs.Events.{reference_of, device_of, link_of}
 use Rattle.sd_sched.specs.Spelled.{is_within}
 use Rattle.sd_history.specs.World.{Setting}
-use Rattle.sd_fleet_state.specs.membership.Standing as standing
+use Rattle.sd_world.specs.membership.Standing as standing
 use Rattle.sd_history.specs.flights.Flights.{says_unknown, says_spent}
 use Rattle.sd_history.proofs.flights.Booking.{found_kept}
-use Rattle.sd_fleet_state.specs.world.Registers.{is_open, HasNamed}
-use Rattle.sd_fleet_state.proofs.world.Slots.{length_links}
-use Rattle.sd_fleet_state.specs.declared.membership.AnswerSummary.{AnswerSummary}
-use Rattle.sd_fleet_state.specs.membership.Plans.{IsNumber, IsEnd, IsSoundRow, AreTables, row_numbered}
-use Rattle.sd_fleet_state.specs.membership.Memberships as memberships
-use Rattle.sd_fleet_state.specs.membership.Memberships.{staged_number, is_current_number, ends_below, registers_closed, can_close_in}
-use Rattle.sd_fleet_state.proofs.membership.Observing.{length_answers}
+use Rattle.sd_world.specs.world.Registers.{is_open, HasNamed}
+use Rattle.sd_world.proofs.world.Slots.{length_links}
+use Rattle.sd_world.specs.declared.membership.AnswerSummary.{AnswerSummary}
+use Rattle.sd_world.specs.membership.Plans.{IsNumber, IsEnd, IsSoundRow, AreTables, row_numbered}
+use Rattle.sd_world.specs.membership.Memberships as memberships
+use Rattle.sd_world.specs.membership.Memberships.{staged_number, is_current_number, ends_below, registers_closed, can_close_in}
+use Rattle.sd_world.proofs.membership.Observing.{length_answers}
 use Rattle.sd_fleet.specs.declared.Reply.{Reply}
 use Rattle.sd_fleet.specs.Registers.{Registers, kept, size_of}
 use Rattle.sd_fleet.specs.Causes.{refusal_in, is_for_another}
@@ -52,43 +52,7 @@ named_answers r e sound accepted =
     if_some (device_of e) (λ d. d < length r.membership.answers) (λ d is. let within : d < length r.net.devices = device_known r e accepted d is in
     omega (arith, sound.answers, within))
 
-pub has_named : (r : Registers) (e : Event) → IsSound r → refusal_in r e ≡ None → HasNamed r.membership.world e
-has_named r e sound accepted =
-    record {
-      device = if_some (device_of e) (λ d. d < length r.membership.world.devices) (λ d is. let within : d < length r.net.devices =
-          device_known r e accepted d is in omega (arith, sound.answers, sound.membership.devices, within));
-      link = if_some (link_of e) (λ l. l < length r.membership.world.failed_links) (λ l is. let within : l < length r.net.links =
-          link_known r e accepted l is in omega (arith, sound.links, within));
-    }
-
 -- The message is on its way
-
-by_book : (reference d : ℕ) (b : Bool) (o : Option Flight)
-    → says_unknown (if b then ok_or o take.Spent else Err take.Unknown) ≡ false
-    → says_spent reference (if b then ok_or o take.Spent else Err take.Unknown) ≡ false
-    → is_for_another (Some d) (if b then ok_or o take.Spent else Err take.Unknown) ≡ false
-    → IsOkAnd (if b then ok_or o take.Spent else Err take.Unknown) (λ f. (reference ≤ f.last) × (f.receiver ≡ d))
-by_book reference d true (Some f) known fresh ours = (ltb-false f.last reference fresh, sym (eqb-true d f.receiver (not-false (nat_eq d f.receiver) ours)))
-by_book reference d true None known fresh ours = cc
-by_book reference d false o known fresh ours = cc
-
-lost_by_book : (reference : ℕ) (b : Bool) (o : Option Flight)
-    → says_unknown (if b then ok_or o take.Spent else Err take.Unknown) ≡ false
-    → says_spent reference (if b then ok_or o take.Spent else Err take.Unknown) ≡ false
-    → IsOkAnd (if b then ok_or o take.Spent else Err take.Unknown) (λ f. reference ≤ f.last)
-lost_by_book reference true (Some f) known fresh = ltb-false f.last reference fresh
-lost_by_book reference true None known fresh = cc
-lost_by_book reference false o known fresh = cc
-
-pub can_deliver : (r : Registers) (e : Event) → refusal_in r e ≡ None → CanDeliver r.book e
-can_deliver r (event.Recv ref d c n) accepted =
-    by_book ref d (is_given r.book.last n) (find (has_number n) r.book.flights) (message_known r (event.Recv ref d c n) accepted n refl)
-    (message_unspent r (event.Recv ref d c n) accepted n refl)
-    (message_ours r (event.Recv ref d c n) accepted n refl)
-can_deliver r (event.Lose ref n) accepted =
-    lost_by_book ref (is_given r.book.last n) (find (has_number n) r.book.flights) (message_known r (event.Lose ref n) accepted n refl)
-    (message_unspent r (event.Lose ref n) accepted n refl)
-can_deliver r _ accepted = tt
 
 -- it is found after what ended was left out, too
 
@@ -242,22 +206,6 @@ sound_next old new e reply sound accepted after good given =
       given = given;
       size = after.size ∙ sound.size ∙ ap size_of (sym after.net);
     }
-
--- nothing lies below in a plan that is not staged
-pub closed_none : (r : memberships.Registers) (d : ℕ) → is_open r.world.window ≡ false → 0 ≡ length (ends_below r (r.world.epoch + 1) d)
-closed_none r d closed =
-    ap length
-    (sym
-    (ap (λ b. if b || (nat_eq (r.world.epoch + 1) (staged_number r) && is_open r.world.window) then map_or (row_numbered r.plans (r.world.epoch + 1) d) []
-    (λ (row : TableRow). row.downstream) else [])
-    (ne_eqb (r.world.epoch + 1) r.world.epoch (λ same. omega arith))
-    ∙ ap (λ b. if nat_eq (r.world.epoch + 1) (staged_number r)
-    && b then map_or (row_numbered r.plans (r.world.epoch + 1) d) [] (λ (row : TableRow). row.downstream) else []) closed
-    ∙ by (nat_eq (r.world.epoch + 1) (staged_number r))))
-  where
-    by : (b : Bool) → (if b && false then map_or (row_numbered r.plans (r.world.epoch + 1) d) [] (λ (row : TableRow). row.downstream) else []) ≡ []
-    by true = refl
-    by false = refl
 
 -- a fabric before any event
 pub sound_first : (setting : Setting) (net : Network) (r : memberships.Registers) (book : Book) → net ≡ setting.net → IsNetwork net

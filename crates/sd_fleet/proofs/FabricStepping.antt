@@ -3,8 +3,8 @@ use Rattle.std.specs.Prelude.{◌≡◌, ℕ, ◌<◌, Bool, true, false, ◌&&�
 use Rattle.std.proofs.Common.{arith, sym, ◌∙◌, ap, subst}
 use Rattle.std.proofs.lemmas.Bool.{and_parts, or_parts, leb-false, both_ways}
 use Rattle.sd_num.proofs.Shared.{none_if_not_some}
-use Rattle.sd_msg.specs.declared.Flight.{Flight}
-use Rattle.sd_msg.specs.Books.{is_current}
+use Rattle.sd_device.specs.declared.msg.Flight.{Flight}
+use Rattle.sd_device.specs.msg.Books.{is_current}
 use Rattle.sd_sched.specs.declared.Event.{Event}
 use Rattle.sd_sched.specs.declared.Event.TheVariants as event
 use Rattle.sd_sched.specs.Events.{reference_of, device_of, message_of, is_stage}
@@ -20,16 +20,16 @@ use Rattle.sd_history.specs.flights.Flights.{without_taken, without_swept}
 use Rattle.sd_history.proofs.flights.Sending.{counted}
 use Rattle.sd_history.proofs.flights.Booking.{booked}
 use Rattle.sd_history.proofs.flights.Places.{changed_named}
-use Rattle.sd_fleet_state.specs.declared.world.window.Window.{Window}
-use Rattle.sd_fleet_state.specs.declared.world.window.Window.TheVariants.{Closed, Preparing, Committed}
-use Rattle.sd_fleet_state.specs.world.Registers.{is_open, is_committed}
-use Rattle.sd_fleet_state.specs.membership.Memberships as memberships
-use Rattle.sd_fleet_state.specs.membership.Memberships.{registers_closed, can_close_in}
-use Rattle.sd_fleet_state.specs.membership.Standing as standing
-use Rattle.sd_fleet_state.specs.membership.Standing.{IsTold, summary}
-use Rattle.sd_fleet_state.proofs.membership.Queries.{plan_count}
-use Rattle.sd_fleet_state.proofs.membership.Closing.{can_close_is}
-use Rattle.sd_fleet_state.proofs.membership.Going.{stands_observed, stands_shut}
+use Rattle.sd_world.specs.declared.world.window.Window.{Window}
+use Rattle.sd_world.specs.declared.world.window.Window.TheVariants.{Closed, Preparing, Committed}
+use Rattle.sd_world.specs.world.Registers.{is_open, is_committed}
+use Rattle.sd_world.specs.membership.Memberships as memberships
+use Rattle.sd_world.specs.membership.Memberships.{registers_closed, can_close_in}
+use Rattle.sd_world.specs.membership.Standing as standing
+use Rattle.sd_world.specs.membership.Standing.{IsTold, summary}
+use Rattle.sd_world.proofs.membership.Queries.{plan_count}
+use Rattle.sd_world.proofs.membership.Closing.{can_close_is}
+use Rattle.sd_world.proofs.membership.Going.{stands_observed, stands_shut}
 use Rattle.sd_fleet.specs.declared.Reply.{Reply}
 use Rattle.sd_fleet.specs.Registers.{Registers}
 use Rattle.sd_fleet.specs.Causes.{refusal_in}

@@ -2,18 +2,18 @@
 use Rattle.std.specs.Prelude.{◌≡◌, ℕ, ◌+◌, ◌≤◌, ◌&&◌, not, List, [], ◌++◌, length, filter, Option, Some, None, refl, if◌then◌else◌}
 use Rattle.std.proofs.Common.{arith, ◌∙◌, ap}
 use Rattle.sd_num.specs.Lists.{map_or}
-use Rattle.sd_topo.specs.Network.{Network}
-use Rattle.sd_msg.specs.declared.Flight.{Flight}
-use Rattle.sd_msg.specs.Books.{Book, AreGiven}
-use Rattle.sd_core.specs.declared.Effect.{Effect}
-use Rattle.sd_core.specs.declared.Effect.TheVariants.{Quiet, Send}
+use Rattle.sd_plan.specs.topo.Network.{Network}
+use Rattle.sd_device.specs.declared.msg.Flight.{Flight}
+use Rattle.sd_device.specs.msg.Books.{Book, AreGiven}
+use Rattle.sd_device.specs.declared.Effect.{Effect}
+use Rattle.sd_device.specs.declared.Effect.TheVariants.{Quiet, Send}
 use Rattle.sd_sched.specs.declared.Event.{Event}
 use Rattle.sd_sched.specs.Events.{reference_of, device_of}
 use Rattle.sd_history.specs.Things.{failure_of}
 use Rattle.sd_history.specs.flights.Flights.{without_swept}
-use Rattle.sd_fleet_state.specs.declared.membership.AnswerSummary.{AnswerSummary}
-use Rattle.sd_fleet_state.specs.membership.Memberships as memberships
-use Rattle.sd_fleet_state.specs.membership.Memberships.{ends_below, registers_after}
+use Rattle.sd_world.specs.declared.membership.AnswerSummary.{AnswerSummary}
+use Rattle.sd_world.specs.membership.Memberships as memberships
+use Rattle.sd_world.specs.membership.Memberships.{ends_below, registers_after}
 use Rattle.sd_fleet.specs.declared.Reply.{Reply}
 use Rattle.sd_fleet.specs.Registers.{Registers, kept}
 use Rattle.sd_fleet.specs.Causes.{refusal_in}

@@ -12,7 +12,7 @@ use Rattle.sd_fleet.specs.Registers.{Registers}
 use Rattle.sd_fleet.specs.Causes.{Cause, first_of, place_causes, message_causes, device_causes, window_causes, late_causes, refusal_in}
 use Rattle.sd_fleet.proofs.Admitted.{NoneHolds, none_holds}
 
--- it is the first, or one behind it
+-- it is the first, or one after it
 pub here : (f : ApplyFault) (b : Bool) (rest : List Cause) → b ≡ true → Some f ≡ first_of ((f, b) ∷ rest)
 here f b rest holds = sym (ap (λ t. option_map (λ (c : Cause). c.0) (cond t (Some (f, b)) (find (λ (c : Cause). c.1) rest))) holds)
 

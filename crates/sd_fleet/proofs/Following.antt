@@ -3,20 +3,20 @@ use Rattle.std.specs.Prelude.{◌≡◌, ℕ, ◌<◌, Bool, true, false, List, 
 use Rattle.std.proofs.Common.{sym, ◌∙◌, ap, subst}
 use Rattle.std.proofs.lemmas.Bool.{eqb-true}
 use Rattle.sd_num.specs.Lists.{map_or, same_number}
-use Rattle.sd_core.specs.declared.node.Node.{Ghosts}
+use Rattle.sd_device.specs.declared.node.Node.{Ghosts}
 use Rattle.sd_sched.specs.declared.Event.{Event}
 use Rattle.sd_sched.specs.declared.Event.TheVariants as event
 use Rattle.sd_sched.specs.Events.{device_of}
-use Rattle.sd_core.specs.Calls as calls
+use Rattle.sd_device.specs.Calls as calls
 use Rattle.sd_plan.specs.declared.Plan.{Plan}
 use Rattle.sd_plan.specs.Duties.{duty_of}
-use Rattle.sd_msg.specs.declared.Flight.{Flight}
-use Rattle.sd_fleet.specs.History.World.{Setting, staged, staged_epoch}
-use Rattle.sd_fleet.specs.History.Steps as steps
-use Rattle.sd_fleet.specs.History.Steps.{Calls, Passes, seen_of, flight_numbered, Told, tells_nothing, tells_made, tells_called, Step, changed, act_by, step_of}
-use Rattle.sd_fleet.specs.History.Lives.{tells_report}
-use Rattle.sd_fleet.specs.History.Nodes.{answers_of, NodeStep, steps_of, node_in, addressed, Allows, IsRun}
-use Rattle.sd_fleet.specs.History.Steps.{Act}
+use Rattle.sd_device.specs.declared.msg.Flight.{Flight}
+use Rattle.sd_history.specs.World.{Setting, staged, staged_epoch}
+use Rattle.sd_history.specs.Steps as steps
+use Rattle.sd_history.specs.Steps.{Calls, Passes, seen_of, flight_numbered, Told, tells_nothing, tells_made, tells_called, Step, changed, act_by, step_of}
+use Rattle.sd_history.specs.Lives.{tells_report}
+use Rattle.sd_history.specs.Nodes.{answers_of, NodeStep, steps_of, node_in, addressed, Allows, IsRun}
+use Rattle.sd_history.specs.Steps.{Act}
 use Rattle.sd_fleet.specs.declared.Reply.{Reply}
 use Rattle.sd_fleet.specs.Registers.{Registers}
 use Rattle.sd_fleet.specs.Causes.{refusal_in}
@@ -99,20 +99,14 @@ same_before f h (Some d) same = same d refl
 
 -- whom an act addresses or changes is the device that the event names
 named_only : (setting : Setting) (earlier : List Step) (e : Event) (d : ℕ) → addressed (act_by setting earlier e) ≡ Some d → device_of e ≡ Some d
-named_only setting earlier (event.Start reference m counter clock eps) d is = cc
-named_only setting earlier (event.Join reference m counter clock eps) d is = cc
 named_only setting earlier (event.Tick reference m counter) d is = is
 named_only setting earlier (event.Recv reference m counter message) d is = by (flight_numbered earlier message) is
   where
     by : (o : Option Flight) → addressed (map_or o Passes (λ f. Calls m (calls.Receive f.link f.message counter))) ≡ Some d → Some m ≡ Some d
     by None is' = cc
     by (Some f) is' = is'
-named_only setting earlier (event.Lose reference message) d is = cc
-named_only setting earlier (event.FailDevice reference m) d is = cc
-named_only setting earlier (event.FailLink reference l) d is = cc
 named_only setting earlier (event.Fix reference m counter clock eps) d is = is
 named_only setting earlier (event.Ask reference m counter) d is = is
-named_only setting earlier (event.Stage reference) d is = cc
 named_only setting earlier (event.Give reference m) d is = by (staged setting (seen_of earlier)) is
   where
     by : (o : Option Plan) → addressed (map_or o Passes (λ plan. Calls m (calls.Give (duty_of setting.net plan (staged_epoch (seen_of earlier)) m)))) ≡ Some d
@@ -121,9 +115,7 @@ named_only setting earlier (event.Give reference m) d is = by (staged setting (s
     by (Some plan) is' = is'
 named_only setting earlier (event.Commit reference m counter) d is = is
 named_only setting earlier (event.Seal reference m) d is = is
-named_only setting earlier (event.MendDevice reference m) d is = cc
-named_only setting earlier (event.MendLink reference l) d is = cc
-named_only setting earlier (event.End reference) d is = cc
+named_only setting earlier _ d is = cc
 
 module _ {N : Type 0} (g : Ghosts N) (setting : Setting) (run : List (NodeStep N)) (r : Registers) (e : Event) (reply : Reply) (nodes after : List (Option N))
     (earlier : IsRun g setting run) (stands : Stands r setting (steps_of run)) (places : length nodes ≡ length setting.net.devices)

@@ -5,19 +5,19 @@ use Rattle.std.proofs.lemmas.Bool.{eqb-false}
 use Rattle.std.proofs.lemmas.List.{get_or-set_same, get_or-set_other, length-set}
 use Rattle.sd_num.specs.Lists.{map_or, same_number}
 use Rattle.sd_plan.specs.Tables.{TableRow}
-use Rattle.sd_msg.specs.declared.Flight.{Flight}
-use Rattle.sd_msg.specs.declared.Message.{Message}
-use Rattle.sd_msg.specs.declared.TakeFault.{TakeFault}
-use Rattle.sd_core.specs.declared.node.Node.{Ghosts}
-use Rattle.sd_core.specs.Limits.{IfSent}
+use Rattle.sd_device.specs.declared.msg.Flight.{Flight}
+use Rattle.sd_device.specs.declared.msg.Message.{Message}
+use Rattle.sd_device.specs.declared.msg.TakeFault.{TakeFault}
+use Rattle.sd_device.specs.declared.node.Node.{Ghosts}
+use Rattle.sd_device.specs.Limits.{IfSent}
 use Rattle.sd_sched.specs.declared.Event.{Event}
 use Rattle.sd_sched.specs.declared.Event.TheVariants as event
 use Rattle.sd_sched.specs.Events.{device_of}
-use Rattle.sd_fleet.specs.FleetState.membership.Plans.{row_numbered}
-use Rattle.sd_fleet.specs.FleetState.membership.Memberships.{staged_number}
-use Rattle.sd_core.specs.Calls as calls
-use Rattle.sd_fleet.specs.History.Steps.{Act}
-use Rattle.sd_fleet.specs.History.Steps as steps
+use Rattle.sd_world.specs.membership.Plans.{row_numbered}
+use Rattle.sd_world.specs.membership.Memberships.{staged_number}
+use Rattle.sd_device.specs.Calls as calls
+use Rattle.sd_history.specs.Steps.{Act}
+use Rattle.sd_history.specs.Steps as steps
 use Rattle.sd_fleet.specs.declared.Reply.{Reply}
 use Rattle.sd_fleet.specs.Registers.{Registers}
 use Rattle.sd_fleet.specs.Causes.{flight_at}
@@ -98,12 +98,8 @@ actor_in r (event.Recv reference m counter message) d other = by (flight_at r me
     by : (o : Result Flight TakeFault) → same_number (actor (receipt o m counter)) d ≡ false
     by (Ok f) = other
     by (Err x) = refl
-actor_in r (event.Lose reference message) d other = refl
-actor_in r (event.FailDevice reference m) d other = refl
-actor_in r (event.FailLink reference l) d other = refl
 actor_in r (event.Fix reference m counter clock eps) d other = other
 actor_in r (event.Ask reference m counter) d other = other
-actor_in r (event.Stage reference) d other = refl
 actor_in r (event.Give reference m) d other = by (row_numbered r.membership.plans (staged_number r.membership) m)
   where
     by : (o : Option TableRow) → same_number (actor (map_or o steps.Passes (λ row. steps.Calls m (calls.Give row.duty)))) d ≡ false
@@ -111,6 +107,4 @@ actor_in r (event.Give reference m) d other = by (row_numbered r.membership.plan
     by (Some row) = other
 actor_in r (event.Commit reference m counter) d other = other
 actor_in r (event.Seal reference m) d other = other
-actor_in r (event.MendDevice reference m) d other = refl
-actor_in r (event.MendLink reference l) d other = refl
-actor_in r (event.End reference) d other = refl
+actor_in r _ d other = refl

@@ -7,27 +7,27 @@ use Rattle.sd_num.specs.Lists.{map_or, at_place, same_number}
 use Rattle.sd_num.proofs.Places.{at_written}
 use Rattle.sd_plan.specs.declared.Duty.{Duty}
 use Rattle.sd_plan.specs.Tables.{TableRow}
-use Rattle.sd_msg.specs.declared.Flight.{Flight}
-use Rattle.sd_msg.specs.declared.TakeFault.{TakeFault}
-use Rattle.sd_core.specs.declared.node.Node.{Ghosts}
+use Rattle.sd_device.specs.declared.msg.Flight.{Flight}
+use Rattle.sd_device.specs.declared.msg.TakeFault.{TakeFault}
+use Rattle.sd_device.specs.declared.node.Node.{Ghosts}
 use Rattle.sd_sched.specs.declared.Event.{Event}
 use Rattle.sd_sched.specs.declared.Event.TheVariants as event
 use Rattle.sd_sched.specs.Events.{device_of}
-use Rattle.sd_fleet.specs.History.Nodes.{answers_of}
-use Rattle.sd_fleet.specs.FleetState.declared.world.device.DeviceState.{DeviceState}
-use Rattle.sd_fleet.specs.FleetState.world.Registers.{reading_at, device_at, device_after, is_open}
-use Rattle.sd_fleet.proofs.FleetState.world.Slots.{slot_named, slot_other}
-use Rattle.sd_fleet.specs.FleetState.declared.membership.AnswerSummary.{AnswerSummary}
-use Rattle.sd_fleet.specs.FleetState.declared.membership.plans.NumberedPlan.{NumberedPlan}
-use Rattle.sd_fleet.specs.FleetState.membership.Plans.{row_numbered, is_member_numbered}
-use Rattle.sd_fleet.specs.FleetState.membership.Memberships.{staged_number, answers_after}
-use Rattle.sd_fleet.specs.FleetState.membership.Standing.{summary}
-use Rattle.sd_fleet.proofs.FleetState.membership.Observing.{other_answers}
-use Rattle.sd_core.specs.Calls.{Making}
-use Rattle.sd_core.specs.Calls as calls
-use Rattle.sd_core.specs.Calls.{Call}
-use Rattle.sd_core.specs.Words.{making_counter}
-use Rattle.sd_fleet.specs.History.Steps as steps
+use Rattle.sd_history.specs.Nodes.{answers_of}
+use Rattle.sd_world.specs.declared.world.device.DeviceState.{DeviceState}
+use Rattle.sd_world.specs.world.Registers.{reading_at, device_at, device_after, is_open}
+use Rattle.sd_world.proofs.world.Slots.{slot_named, slot_other}
+use Rattle.sd_world.specs.declared.membership.AnswerSummary.{AnswerSummary}
+use Rattle.sd_world.specs.declared.membership.plans.NumberedPlan.{NumberedPlan}
+use Rattle.sd_world.specs.membership.Plans.{row_numbered, is_member_numbered}
+use Rattle.sd_world.specs.membership.Memberships.{staged_number, answers_after}
+use Rattle.sd_world.specs.membership.Standing.{summary}
+use Rattle.sd_world.proofs.membership.Observing.{other_answers}
+use Rattle.sd_device.specs.Calls.{Making}
+use Rattle.sd_device.specs.Calls as calls
+use Rattle.sd_device.specs.Calls.{Call}
+use Rattle.sd_device.specs.Words.{making_counter}
+use Rattle.sd_history.specs.Steps as steps
 use Rattle.sd_fleet.specs.declared.Reply.{Reply}
 use Rattle.sd_fleet.specs.Registers.{Registers}
 use Rattle.sd_fleet.specs.Sound.{IsSound}
@@ -56,15 +56,11 @@ own_or_none plans d before after (inr none) own duty holds = cc
 
 own_after : (plans : List NumberedPlan) (d : ℕ) (c : Call) (before after : Option Duty) → GivenAfter c before after → HasRow plans d c → IsOwn plans d before
     → IsOwn plans d after
-own_after plans d (calls.Tick counter) before after given row own = own_or_none plans d before after given own
-own_after plans d (calls.Receive link message counter) before after given row own = own_or_none plans d before after given own
-own_after plans d (calls.Fix counter clock eps) before after given row own = own_or_none plans d before after given own
 own_after plans d (calls.Give mine) before after given row own =
     λ duty holds.
     (let same : mine ≡ duty = same_Some mine duty (sym given ∙ holds) in
     subst (λ (x : Duty). option_map (λ (row : TableRow). row.duty) (row_numbered plans x.epoch d) ≡ Some x) same row)
-own_after plans d (calls.Commit counter) before after given row own = own_or_none plans d before after given own
-own_after plans d calls.Seal before after given row own = own_or_none plans d before after given own
+own_after plans d _ before after given row own = own_or_none plans d before after given own
 
 -- the fabric once the event has happened, before its window closes
 abbrev pub happened : Registers → Event → Reply → Registers
@@ -198,14 +194,12 @@ kept_named g old (event.Recv reference d counter message) reply nodes after are_
     kept_called g old e reply nodes after are_nodes sound d (calls.Receive f.link f.message counter) known refl
     (subst (λ (o : Result Flight TakeFault). Acts g nodes (receipt o d counter) (context_of old e) reply after) at acts)
     (ap (λ (s : DeviceState). s.reading) (state_named g old e reply nodes after are_nodes sound d known refl)) tt
-kept_named g old (event.Lose reference message) reply nodes after are_nodes sound accepted acts = tt
 kept_named g old (event.FailDevice reference d) reply nodes after are_nodes sound accepted acts =
     let e = event.FailDevice reference d in
     let reads : reading_at (happened old e reply).membership.world d ≡ reading_at old.membership.world d =
     ap (λ (s : DeviceState). s.reading) (state_named g old e reply nodes after are_nodes sound d (device_known old e accepted d refl) refl)
     in
     kept_same g old e reply nodes after are_nodes sound d (ap (λ (x : Reply). x.answers) acts.0) acts.1 (omega arith)
-kept_named g old (event.FailLink reference l) reply nodes after are_nodes sound accepted acts = tt
 kept_named g old (event.Fix reference d counter clock eps) reply nodes after are_nodes sound accepted acts =
     let e = event.Fix reference d counter clock eps in
     let known = device_known old e accepted d refl in
@@ -217,7 +211,6 @@ kept_named g old (event.Ask reference d counter) reply nodes after are_nodes sou
     ap (λ (s : DeviceState). s.reading) (state_named g old e reply nodes after are_nodes sound d (device_known old e accepted d refl) refl) in
     let rises = counter_rises old e accepted d counter refl refl refl in
     kept_same g old e reply nodes after are_nodes sound d (ap (λ (x : Reply). x.answers) acts.0.replied) acts.1 (omega arith)
-kept_named g old (event.Stage reference) reply nodes after are_nodes sound accepted acts = tt
 kept_named g old (event.Give reference d) reply nodes after are_nodes sound accepted acts =
     let e = event.Give reference d in
     let known = device_known old e accepted d refl in
@@ -246,5 +239,4 @@ kept_named g old (event.MendDevice reference d) reply nodes after are_nodes soun
     ap (λ (s : DeviceState). s.reading) (state_named g old e reply nodes after are_nodes sound d (device_known old e accepted d refl) refl)
     in
     kept_same g old e reply nodes after are_nodes sound d (ap (λ (x : Reply). x.answers) acts.0) acts.1 (omega arith)
-kept_named g old (event.MendLink reference l) reply nodes after are_nodes sound accepted acts = tt
-kept_named g old (event.End reference) reply nodes after are_nodes sound accepted acts = tt
+kept_named g old _ reply nodes after are_nodes sound accepted acts = tt

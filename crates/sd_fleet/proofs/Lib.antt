@@ -30,6 +30,3 @@ pub mod NodeRests
 pub mod NodeKeeps
 pub mod Devices
 pub mod Shared
--- Handed on: what crates above name of those below.
-pub use Rattle.sd_history.proofs as History
-pub use Rattle.sd_fleet_state.proofs as FleetState

@@ -1,20 +1,20 @@
 -- The nodes where one of them was called and answers as before.
 use Rattle.std.specs.Prelude.{◌≡◌, ℕ, ◌<◌, false, List, length, Option, Some, None, Ok, refl}
 use Rattle.std.proofs.Common.{sym, subst}
-use Rattle.sd_msg.specs.declared.Flight.{Flight}
-use Rattle.sd_core.specs.declared.node.Node.{Ghosts}
-use Rattle.sd_core.specs.declared.Effect.{Effect}
-use Rattle.sd_core.specs.Calls as calls
-use Rattle.sd_core.specs.Calls.{Call}
+use Rattle.sd_device.specs.declared.msg.Flight.{Flight}
+use Rattle.sd_device.specs.declared.node.Node.{Ghosts}
+use Rattle.sd_device.specs.declared.Effect.{Effect}
+use Rattle.sd_device.specs.Calls as calls
+use Rattle.sd_device.specs.Calls.{Call}
 use Rattle.sd_num.specs.Lists.{at_place}
 use Rattle.sd_sched.specs.declared.Event.{Event}
 use Rattle.sd_sched.specs.declared.Event.TheVariants as event
-use Rattle.sd_fleet.specs.History.World.{Setting}
-use Rattle.sd_fleet.specs.History.Nodes.{NodeStep, IsRun, steps_of, node_in, answers_of}
-use Rattle.sd_fleet.specs.FleetState.world.Registers.{is_open}
-use Rattle.sd_fleet.specs.FleetState.declared.membership.AnswerSummary.{AnswerSummary}
-use Rattle.sd_fleet.specs.FleetState.membership.Memberships as membership
-use Rattle.sd_fleet.specs.FleetState.membership.Standing.{summary}
+use Rattle.sd_history.specs.World.{Setting}
+use Rattle.sd_history.specs.Nodes.{NodeStep, IsRun, steps_of, node_in, answers_of}
+use Rattle.sd_world.specs.world.Registers.{is_open}
+use Rattle.sd_world.specs.declared.membership.AnswerSummary.{AnswerSummary}
+use Rattle.sd_world.specs.membership.Memberships as membership
+use Rattle.sd_world.specs.membership.Standing.{summary}
 use Rattle.sd_fleet.specs.declared.Outcome.{Outcome}
 use Rattle.sd_fleet.specs.declared.Reply.{Reply}
 use Rattle.sd_fleet.specs.declared.messages.Sent.{Sent}

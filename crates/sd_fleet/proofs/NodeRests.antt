@@ -2,17 +2,17 @@
 use Rattle.std.specs.Prelude.{◌≡◌, ℕ, ◌<◌, ◌≤◌, false, List, length, Option, Some, None, refl}
 use Rattle.std.proofs.Common.{arith, sym, subst, set, inl}
 use Rattle.std.proofs.lemmas.List.{set-get_or}
-use Rattle.sd_core.specs.declared.node.Node.{Ghosts}
-use Rattle.sd_core.specs.declared.Effect.TheVariants.{Quiet}
-use Rattle.sd_core.specs.Calls as calls
+use Rattle.sd_device.specs.declared.node.Node.{Ghosts}
+use Rattle.sd_device.specs.declared.Effect.TheVariants.{Quiet}
+use Rattle.sd_device.specs.Calls as calls
 use Rattle.sd_num.specs.Lists.{at_place}
 use Rattle.sd_sched.specs.declared.Event.{Event}
 use Rattle.sd_sched.specs.declared.Event.TheVariants as event
-use Rattle.sd_fleet.specs.History.World.{Setting}
-use Rattle.sd_fleet.specs.History.Nodes.{NodeStep, IsRun, steps_of, node_in, answers_of}
-use Rattle.sd_fleet.specs.FleetState.world.Registers.{is_open, reading_at}
-use Rattle.sd_fleet.specs.FleetState.declared.membership.AnswerSummary.{AnswerSummary}
-use Rattle.sd_fleet.specs.FleetState.membership.Standing.{summary}
+use Rattle.sd_history.specs.World.{Setting}
+use Rattle.sd_history.specs.Nodes.{NodeStep, IsRun, steps_of, node_in, answers_of}
+use Rattle.sd_world.specs.world.Registers.{is_open, reading_at}
+use Rattle.sd_world.specs.declared.membership.AnswerSummary.{AnswerSummary}
+use Rattle.sd_world.specs.membership.Standing.{summary}
 use Rattle.sd_fleet.specs.Registers.{Registers}
 use Rattle.sd_fleet.specs.Causes.{refusal_in}
 use Rattle.sd_fleet.specs.Doing.{act_in, replied}

@@ -3,17 +3,17 @@ use Rattle.std.specs.Prelude.{◌≡◌, ℕ, ◌<◌, Bool, true, false, ◌&&�
 use Rattle.std.specs.Result.{result_ok}
 use Rattle.std.proofs.Common.{sym, ◌∙◌, ap}
 use Rattle.sd_num.specs.Lists.{map_or, same_number}
-use Rattle.sd_clock.specs.declared.Report.{Report}
+use Rattle.sd_num.specs.declared.clock.Report.{Report}
 use Rattle.sd_sched.specs.declared.Event.{Event}
 use Rattle.sd_sched.specs.declared.Event.TheVariants as event
 use Rattle.sd_sched.specs.Events.{device_of, is_stage}
 use Rattle.sd_history.specs.World.{Setting, Seen, window, window_is_open, staged_epoch}
 use Rattle.sd_history.specs.Steps.{Told, Step, seen_of, epoch_in, acts_in, taken_by, acted_by, activated_by, has_turned, first_step, step_of}
 use Rattle.sd_history.specs.Lines.{asked_report}
-use Rattle.sd_fleet_state.specs.membership.Memberships as memberships
-use Rattle.sd_fleet_state.specs.membership.Memberships.{staged_number, is_of, acts_at, can_close_in}
-use Rattle.sd_fleet_state.specs.membership.Standing as standing
-use Rattle.sd_fleet_state.proofs.membership.Queries.{is_of_is, acts_is, staged_number_is}
+use Rattle.sd_world.specs.membership.Memberships as memberships
+use Rattle.sd_world.specs.membership.Memberships.{staged_number, is_of, acts_at, can_close_in}
+use Rattle.sd_world.specs.membership.Standing as standing
+use Rattle.sd_world.proofs.membership.Queries.{is_of_is, acts_is, staged_number_is}
 use Rattle.sd_fleet.specs.declared.Reply.{Reply}
 use Rattle.sd_fleet.specs.declared.Outcome.{Outcome}
 use Rattle.sd_fleet.specs.Registers.{Registers}

@@ -3,12 +3,12 @@
 use Rattle.std.specs.Prelude.{◌≡◌, ℕ, ◌<◌, ◌^◌, Bool, true, false, ◌&&◌, ◌||◌, not, List, length, nat_eq, nat_le, nat_lt, Option, Some, None, is_some, Ok, Err, refl, if◌then◌else◌}
 use Rattle.std.proofs.Common.{sym, ◌∙◌, ap, subst}
 use Rattle.sd_num.specs.Lists.{map_or, same_number}
-use Rattle.sd_topo.specs.declared.Thing.{Thing}
-use Rattle.sd_topo.specs.declared.Thing.TheVariants as thing
+use Rattle.sd_plan.specs.declared.topo.Thing.{Thing}
+use Rattle.sd_plan.specs.declared.topo.Thing.TheVariants as thing
 use Rattle.sd_plan.specs.Plans.{is_member}
-use Rattle.sd_msg.specs.declared.Flight.{Flight}
-use Rattle.sd_msg.specs.declared.TakeFault.TheVariants as fault
-use Rattle.sd_msg.specs.Books.{found}
+use Rattle.sd_device.specs.declared.msg.Flight.{Flight}
+use Rattle.sd_device.specs.declared.msg.TakeFault.TheVariants as fault
+use Rattle.sd_device.specs.msg.Books.{found}
 use Rattle.sd_sched.specs.declared.Event.{Event}
 use Rattle.sd_sched.specs.Events.{reference_of, device_of, counter_of, link_of, message_of, received, started, joined, given, is_stage, is_commit, is_seal}
 use Rattle.sd_history.specs.Things.{failure_of, mended}
@@ -19,11 +19,11 @@ use Rattle.sd_history.specs.Open.{unspent}
 use Rattle.sd_history.specs.flights.Flights.{says_unknown, says_spent}
 use Rattle.sd_history.proofs.flights.Looks.{look_is, unknown_is, spent_is, spent_at}
 use Rattle.sd_history.proofs.Shared.{received_message}
-use Rattle.sd_fleet_state.specs.world.Registers.{failed_at, up_at, reading_at, made_at, is_open, is_committed}
-use Rattle.sd_fleet_state.specs.world.Standing as worlds
-use Rattle.sd_fleet_state.specs.membership.Plans.{root_numbered}
-use Rattle.sd_fleet_state.specs.membership.Memberships.{staged_number, is_of, holds_given, is_in_force, is_in_staged, is_counted_at}
-use Rattle.sd_fleet_state.proofs.membership.Queries.{plan_count, staged_number_is, is_of_is, holds_given_is, staged_root_is, in_force_is, in_staged_is, counted_is}
+use Rattle.sd_world.specs.world.Registers.{failed_at, up_at, reading_at, made_at, is_open, is_committed}
+use Rattle.sd_world.specs.world.Standing as worlds
+use Rattle.sd_world.specs.membership.Plans.{root_numbered}
+use Rattle.sd_world.specs.membership.Memberships.{staged_number, is_of, holds_given, is_in_force, is_in_staged, is_counted_at}
+use Rattle.sd_world.proofs.membership.Queries.{plan_count, staged_number_is, is_of_is, holds_given_is, staged_root_is, in_force_is, in_staged_is, counted_is}
 use Rattle.sd_fleet.specs.Registers.{Registers}
 use Rattle.sd_fleet.specs.Causes.{causes_in, refusal_in, flight_at, is_for_another, past_preparing_in}
 use Rattle.sd_fleet.specs.FabricStanding.{Stands}

@@ -5,14 +5,14 @@ use Rattle.std.proofs.lemmas.Bool.{eqb-true}
 use Rattle.std.proofs.lemmas.List.{nil_from_length}
 use Rattle.sd_num.specs.Lists.{map_or}
 use Rattle.sd_plan.specs.declared.End.{End}
-use Rattle.sd_msg.specs.declared.Message.{Message}
-use Rattle.sd_msg.specs.declared.Flight.{Flight}
-use Rattle.sd_core.specs.declared.Effect.{Effect}
-use Rattle.sd_core.specs.declared.Effect.TheVariants.{Quiet, Send}
+use Rattle.sd_device.specs.declared.msg.Message.{Message}
+use Rattle.sd_device.specs.declared.msg.Flight.{Flight}
+use Rattle.sd_device.specs.declared.Effect.{Effect}
+use Rattle.sd_device.specs.declared.Effect.TheVariants.{Quiet, Send}
 use Rattle.sd_sched.specs.declared.Event.{Event}
 use Rattle.sd_sched.specs.Events.{reference_of, device_of}
-use Rattle.sd_fleet_state.specs.declared.membership.AnswerSummary.{AnswerSummary}
-use Rattle.sd_fleet_state.specs.membership.Memberships.{ends_below}
+use Rattle.sd_world.specs.declared.membership.AnswerSummary.{AnswerSummary}
+use Rattle.sd_world.specs.membership.Memberships.{ends_below}
 use Rattle.sd_fleet.specs.declared.Reply.{Reply}
 use Rattle.sd_fleet.specs.Registers.{Registers}
 use Rattle.sd_fleet.specs.Sending.{Covers, flights_over, sent_by, sent_in}
@@ -71,6 +71,3 @@ pub sent_nowhere : (r : Registers) (reference d epoch : ℕ) (ends : List End) (
 sent_nowhere r reference d epoch ends effect m are sends none =
     nil_from_length (sent_by r reference d epoch effect)
     (sym (sent_size r reference d epoch ends effect m are sends) ∙ eqb-true (length ends) 0 none)
-
-pub covers_sound : (r : Registers) → IsSound r → Covers r.net r.membership.world
-covers_sound r sound = record { net = sound.net; devices = sound.membership.devices ∙ sound.answers; links = sound.links }

@@ -1,14 +1,14 @@
 -- What an accepted event reports and sends stays within its limits.
 use Rattle.std.specs.Prelude.{◌≡◌, ℕ, ◌+◌, ◌*◌, ◌^◌, ◌≤◌, List, Option, Some, None, option_map, IfSome, refl}
 use Rattle.std.proofs.Common.{arith, sym, ◌∙◌, ap, subst}
-use Rattle.sd_msg.specs.Clock.declared.Report.{Report}
-use Rattle.sd_core.specs.declared.node.Node.{Ghosts}
+use Rattle.sd_num.specs.declared.clock.Report.{Report}
+use Rattle.sd_device.specs.declared.node.Node.{Ghosts}
 use Rattle.sd_sched.specs.declared.Event.{Event}
 use Rattle.sd_sched.specs.declared.Event.TheVariants as event
 use Rattle.sd_sched.specs.Events.{is_ask}
-use Rattle.sd_fleet.specs.FleetState.membership.Memberships as membership
-use Rattle.sd_topo.specs.Network.{Network}
-use Rattle.sd_fleet.specs.History.Steps.{Act}
+use Rattle.sd_world.specs.membership.Memberships as membership
+use Rattle.sd_plan.specs.topo.Network.{Network}
+use Rattle.sd_history.specs.Steps.{Act}
 use Rattle.sd_fleet.specs.declared.Reply.{Reply}
 use Rattle.sd_fleet.specs.declared.Outcome.{Outcome}
 use Rattle.sd_fleet.specs.Registers.{Registers}
@@ -51,17 +51,6 @@ outcome_limited g r e given after context a reply outcome few is acts comes =
     (report_limited g given after context reply few r e (subst (λ (x : Act). Acts g given x context reply after) is acts))
 
 -- Messages
-
-pub same_most : (old new : Registers) (e : Event) → OnlyRoomGrew old new → most_sent_in new e ≡ most_sent_in old e
-same_most old new e grew =
-    ap (λ (n : Network). most_sent_in (record { net = n; membership = new.membership; book = new.book }) e) grew.net
-    ∙ ap (λ (r : membership.Registers). most_sent_in (record { net = old.net; membership = r; book = new.book }) e) grew.membership
-    ∙ forget e
-  where
-    forget : (e' : Event) → most_sent_in (record { net = old.net; membership = old.membership; book = new.book }) e' ≡ most_sent_in old e'
-    forget (event.Tick reference d counter) = refl
-    forget (event.Recv reference d counter message) = refl
-    forget e' = refl
 
 -- no more is sent than there was room for
 pub sent_most : (r : Registers) (e : Event) (reply : Reply) (outcome : Outcome) → refusal_in r e ≡ None → IsReplyTo e reply → outcome ≡ outcome_in r e reply

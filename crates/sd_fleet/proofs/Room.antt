@@ -3,7 +3,7 @@ use Rattle.std.specs.Prelude.{◌≡◌, ℕ, ◌+◌, ◌<◌, ◌≤◌, true,
 use Rattle.std.proofs.Common.{arith, sym, ◌∙◌, ap, subst, inl, inr}
 use Rattle.std.proofs.lemmas.Bool.{cases_lt, eq-eqb, ne_eqb, lt-ltb, le-ltb}
 use Rattle.sd_num.specs.Lists.{map_or}
-use Rattle.sd_topo.specs.Network.{Network}
+use Rattle.sd_plan.specs.topo.Network.{Network}
 use Rattle.sd_plan.specs.declared.Plan.{Plan}
 use Rattle.sd_plan.specs.declared.End.{End}
 use Rattle.sd_plan.specs.Duties.{ends_of}
@@ -11,11 +11,11 @@ use Rattle.sd_sched.specs.declared.Event.{Event}
 use Rattle.sd_sched.specs.declared.Event.TheVariants as event
 use Rattle.sd_history.specs.World.{Setting, Seen, window, epoch_in_force, staged_epoch, in_force, staged, plan_numbered}
 use Rattle.sd_history.specs.Steps.{Step, seen_of, ends_at}
-use Rattle.sd_fleet_state.specs.world.Registers.{is_open}
-use Rattle.sd_fleet_state.specs.membership.Plans.{IsFollowable}
-use Rattle.sd_fleet_state.specs.membership.Memberships.{ends_below}
-use Rattle.sd_fleet_state.proofs.membership.Queries.{staged_number_is}
-use Rattle.sd_fleet_state.proofs.membership.Below.{ends_below_is, followable, none_below_unknown}
+use Rattle.sd_world.specs.world.Registers.{is_open}
+use Rattle.sd_world.specs.membership.Plans.{IsFollowable}
+use Rattle.sd_world.specs.membership.Memberships.{ends_below}
+use Rattle.sd_world.proofs.membership.Queries.{staged_number_is}
+use Rattle.sd_world.proofs.membership.Below.{ends_below_is, followable, none_below_unknown}
 use Rattle.sd_fleet.specs.Registers.{Registers}
 use Rattle.sd_fleet.specs.Room.{ends_of_both, most_sent_of, ends_in, most_sent_in}
 use Rattle.sd_fleet.specs.FabricStanding.{Stands}

@@ -2,24 +2,24 @@
 use Rattle.std.specs.Prelude.{◌≡◌, ℕ, ◌+◌, ◌*◌, ◌<◌, ◌&&◌, not, List, [], ◌∷◌, length, Option, Some, None, is_some, option_map, refl}
 use Rattle.std.proofs.Common.{sym, ◌∙◌, ap, subst}
 use Rattle.sd_num.specs.Lists.{map_or}
-use Rattle.sd_topo.specs.Network.{Network, delay_of}
-use Rattle.sd_topo.specs.declared.Thing.TheVariants as thing
+use Rattle.sd_plan.specs.topo.Network.{Network, delay_of}
+use Rattle.sd_plan.specs.declared.topo.Thing.TheVariants as thing
 use Rattle.sd_plan.specs.declared.End.{End}
-use Rattle.sd_msg.specs.declared.Message.{Message}
-use Rattle.sd_msg.specs.declared.Flight.{Flight}
-use Rattle.sd_core.specs.declared.Effect.{Effect}
-use Rattle.sd_core.specs.declared.Effect.TheVariants.{Quiet, Send}
+use Rattle.sd_device.specs.declared.msg.Message.{Message}
+use Rattle.sd_device.specs.declared.msg.Flight.{Flight}
+use Rattle.sd_device.specs.declared.Effect.{Effect}
+use Rattle.sd_device.specs.declared.Effect.TheVariants.{Quiet, Send}
 use Rattle.sd_sched.specs.declared.Event.{Event}
 use Rattle.sd_sched.specs.Events.{reference_of, device_of}
 use Rattle.sd_history.specs.World.{Setting, Seen, link_has_failed, plan_numbered}
 use Rattle.sd_history.specs.Steps.{Answers, Told, Step, seen_of, changed, act_by, flight_count, flight_to, flights_to, ends_at, flights_by, flights_of}
 use Rattle.sd_history.proofs.Among.{Among, first, later}
 use Rattle.sd_history.proofs.flights.Places.{IsBelow, ends_planned, ends_below as end_is_below}
-use Rattle.sd_fleet_state.specs.world.Registers.{up_at, failed_at}
-use Rattle.sd_fleet_state.specs.world.Standing as worlds
-use Rattle.sd_fleet_state.specs.declared.membership.AnswerSummary.{AnswerSummary}
-use Rattle.sd_fleet_state.specs.membership.Standing.{summary}
-use Rattle.sd_fleet_state.proofs.membership.Below.{ends_below_is}
+use Rattle.sd_world.specs.world.Registers.{up_at, failed_at}
+use Rattle.sd_world.specs.world.Standing as worlds
+use Rattle.sd_world.specs.declared.membership.AnswerSummary.{AnswerSummary}
+use Rattle.sd_world.specs.membership.Standing.{summary}
+use Rattle.sd_world.proofs.membership.Below.{ends_below_is}
 use Rattle.sd_fleet.specs.declared.Reply.{Reply}
 use Rattle.sd_fleet.specs.declared.messages.Sending.{Sending}
 use Rattle.sd_fleet.specs.Registers.{Registers}

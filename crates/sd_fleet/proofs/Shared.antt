@@ -1,7 +1,7 @@
 -- Lemmas that several crates above share.
 use Rattle.std.specs.Prelude.{◌≡◌, List, ◌∷◌, filter, ℕ, zero, suc, ◌+◌, ◌<◌, [], length}
 use Rattle.std.proofs.Common.{ap, sym, ◌∙◌, arith, get_or}
-use Rattle.sd_msg.specs.declared.Flight.{Flight}
+use Rattle.sd_device.specs.declared.msg.Flight.{Flight}
 use Rattle.sd_history.specs.World.{Setting}
 use Rattle.sd_history.specs.Steps.{Step}
 use Rattle.sd_history.specs.Accepted.{AreSteps}

@@ -3,17 +3,17 @@ use Rattle.std.specs.Prelude.{◌≡◌, ℕ, Bool, true, false, ◌&&◌, not, 
 use Rattle.std.specs.List.{list_all}
 use Rattle.std.proofs.Common.{arith, sym, ◌∙◌, ap, subst}
 use Rattle.sd_num.specs.Lists.{below}
-use Rattle.sd_msg.specs.declared.Flight.{Flight}
-use Rattle.sd_msg.specs.Books.{has_number, without, is_current}
-use Rattle.sd_core.specs.declared.Effect.{Effect}
+use Rattle.sd_device.specs.declared.msg.Flight.{Flight}
+use Rattle.sd_device.specs.msg.Books.{has_number, without, is_current}
+use Rattle.sd_device.specs.declared.Effect.{Effect}
 use Rattle.sd_sched.specs.declared.Event.TheVariants as event
 use Rattle.sd_history.proofs.Filters.{both_tests, kept_alike}
-use Rattle.sd_fleet_state.specs.declared.membership.AnswerSummary.{AnswerSummary}
-use Rattle.sd_fleet_state.specs.declared.world.window.Window.{Window}
-use Rattle.sd_fleet_state.specs.declared.world.window.Window.TheVariants.{Closed, Preparing, Committed}
-use Rattle.sd_fleet_state.specs.world.Registers.{is_open, is_committed}
-use Rattle.sd_fleet_state.specs.membership.Memberships as memberships
-use Rattle.sd_fleet_state.specs.membership.Memberships.{staged_number, is_of, is_present, has_settled_at, can_close_in, registers_after, registers_closed}
+use Rattle.sd_world.specs.declared.membership.AnswerSummary.{AnswerSummary}
+use Rattle.sd_world.specs.declared.world.window.Window.{Window}
+use Rattle.sd_world.specs.declared.world.window.Window.TheVariants.{Closed, Preparing, Committed}
+use Rattle.sd_world.specs.world.Registers.{is_open, is_committed}
+use Rattle.sd_world.specs.membership.Memberships as memberships
+use Rattle.sd_world.specs.membership.Memberships.{staged_number, is_of, is_present, has_settled_at, can_close_in, registers_after, registers_closed}
 use Rattle.sd_fleet.specs.declared.Reply.{Reply}
 use Rattle.sd_fleet.specs.declared.messages.Sent.{Sent}
 use Rattle.sd_fleet.specs.Registers.{Registers, kept}

@@ -1,19 +1,19 @@
 -- What makes a fleet stand for one step more, where the fabric's registers and the outcome are told.
 use Rattle.std.specs.Prelude.{◌≡◌, ℕ, ◌<◌, ◌≤◌, ◌^◌, List, length, Option, None, IsTrue, Result, Ok, refl}
 use Rattle.std.proofs.Common.{arith, sym, ◌∙◌, ap, subst}
-use Rattle.sd_msg.specs.declared.Flight.{Flight}
-use Rattle.sd_msg.specs.declared.TakeFault.{TakeFault}
-use Rattle.sd_core.specs.declared.node.Node.{Ghosts}
-use Rattle.sd_core.specs.Calls as calls
+use Rattle.sd_device.specs.declared.msg.Flight.{Flight}
+use Rattle.sd_device.specs.declared.msg.TakeFault.{TakeFault}
+use Rattle.sd_device.specs.declared.node.Node.{Ghosts}
+use Rattle.sd_device.specs.Calls as calls
 use Rattle.sd_sched.specs.declared.Event.{Event}
 use Rattle.sd_sched.specs.declared.Event.TheVariants as event
 use Rattle.sd_sched.specs.Spelled.{is_within}
-use Rattle.sd_topo.specs.Network.{Network}
-use Rattle.sd_fleet.specs.FleetState.membership.Memberships as membership
-use Rattle.sd_fleet.specs.History.Steps as steps
-use Rattle.sd_fleet.specs.History.Steps.{act_by}
-use Rattle.sd_fleet.specs.History.World.{Setting}
-use Rattle.sd_fleet.specs.History.Nodes.{NodeStep, IsRun, steps_of, node_in}
+use Rattle.sd_plan.specs.topo.Network.{Network}
+use Rattle.sd_world.specs.membership.Memberships as membership
+use Rattle.sd_history.specs.Steps as steps
+use Rattle.sd_history.specs.Steps.{act_by}
+use Rattle.sd_history.specs.World.{Setting}
+use Rattle.sd_history.specs.Nodes.{NodeStep, IsRun, steps_of, node_in}
 use Rattle.sd_fleet.specs.declared.Reply.{Reply}
 use Rattle.sd_fleet.specs.declared.Outcome.{Outcome}
 use Rattle.sd_fleet.specs.Registers.{Registers, kept}
@@ -52,10 +52,6 @@ goes_further g r new e nodes given after left context reply outcome same acts en
       stands = stands_next setting r (steps_of run) stands e reply shown.told accepted shown.says tells new step;
       nodes = λ d within. ap (λ ns. node_at ns d) ends ∙ nodes_stand g setting run r e reply given after earlier stands size before accepted shown d within;
     }
-
--- a context is within the limits
-pub context_few : (r : Registers) (e : Event) (context : CallContext) → context ≡ context_of r e → IsSound r → context.events ≤ 2 ^ 26
-context_few r e context at sound = subst (λ (m : CallContext). m.events ≤ 2 ^ 26) (sym at) sound.events
 
 pub can_tick : {N : Type 0} (g : Ghosts N) (r : Registers) (reference d counter : ℕ) (nodes given : List (Option N)) (context : CallContext) → given ≡ nodes
     → context ≡ context_of r (event.Tick 0 d 0) → AreNodes g r nodes → IsSound r → refusal_in r (event.Tick reference d counter) ≡ None

@@ -4,20 +4,20 @@ use Rattle.std.proofs.Common.{sym, ◌∙◌, ap, subst}
 use Rattle.std.proofs.lemmas.Bool.{and_parts}
 use Rattle.sd_num.specs.Lists.{map_or}
 use Rattle.sd_plan.specs.Tables.{TableRow}
-use Rattle.sd_msg.specs.declared.Flight.{Flight}
-use Rattle.sd_msg.specs.declared.TakeFault.{TakeFault}
-use Rattle.sd_core.specs.declared.Effect.TheVariants.{Quiet}
-use Rattle.sd_core.specs.declared.node.Node.{Ghosts}
+use Rattle.sd_device.specs.declared.msg.Flight.{Flight}
+use Rattle.sd_device.specs.declared.msg.TakeFault.{TakeFault}
+use Rattle.sd_device.specs.declared.Effect.TheVariants.{Quiet}
+use Rattle.sd_device.specs.declared.node.Node.{Ghosts}
 use Rattle.sd_sched.specs.declared.Event.{Event}
 use Rattle.sd_sched.specs.declared.Event.TheVariants as event
 use Rattle.sd_sched.specs.Events.{is_ask}
-use Rattle.sd_fleet.specs.FleetState.world.Registers.{is_open}
-use Rattle.sd_fleet.specs.FleetState.membership.Plans.{is_member_numbered}
-use Rattle.sd_fleet.specs.FleetState.membership.Memberships.{staged_number}
-use Rattle.sd_core.specs.Calls.{Making}
-use Rattle.sd_core.specs.Calls as calls
-use Rattle.sd_core.specs.Calls.{Call}
-use Rattle.sd_fleet.specs.History.Steps as steps
+use Rattle.sd_world.specs.world.Registers.{is_open}
+use Rattle.sd_world.specs.membership.Plans.{is_member_numbered}
+use Rattle.sd_world.specs.membership.Memberships.{staged_number}
+use Rattle.sd_device.specs.Calls.{Making}
+use Rattle.sd_device.specs.Calls as calls
+use Rattle.sd_device.specs.Calls.{Call}
+use Rattle.sd_history.specs.Steps as steps
 use Rattle.sd_fleet.specs.declared.Reply.{Reply}
 use Rattle.sd_fleet.specs.Registers.{Registers}
 use Rattle.sd_fleet.specs.Causes.{refusal_in}

@@ -3,17 +3,17 @@ use Rattle.std.specs.Prelude.{◌≡◌, ℕ, zero, suc, ◌+◌, ◌<◌, ◌�
 use Rattle.std.proofs.Common.{arith, sym, ◌∙◌, ap, subst}
 use Rattle.std.proofs.lemmas.List.{append-nil}
 use Rattle.sd_num.specs.Lists.{at_place}
-use Rattle.sd_msg.specs.Books.{Book, AreGiven, is_current}
-use Rattle.sd_core.specs.declared.Effect.TheVariants.{Quiet}
+use Rattle.sd_device.specs.msg.Books.{Book, AreGiven, is_current}
+use Rattle.sd_device.specs.declared.Effect.TheVariants.{Quiet}
 use Rattle.sd_sched.specs.declared.Event.{Event}
 use Rattle.sd_sched.specs.declared.Event.TheVariants as event
-use Rattle.sd_fleet_state.specs.declared.membership.AnswerSummary.{AnswerSummary}
-use Rattle.sd_fleet_state.specs.declared.world.device.DeviceState.{DeviceState}
-use Rattle.sd_fleet_state.specs.world.Registers.{is_open, untouched, up_at, joins_at}
-use Rattle.sd_fleet_state.specs.membership.Plans.{AreTables}
-use Rattle.sd_fleet_state.specs.membership.Memberships as memberships
-use Rattle.sd_fleet_state.specs.membership.Memberships.{registers_after, registers_resting, is_in_force}
-use Rattle.sd_fleet_state.proofs.membership.Observing.{same_answers}
+use Rattle.sd_world.specs.declared.membership.AnswerSummary.{AnswerSummary}
+use Rattle.sd_world.specs.declared.world.device.DeviceState.{DeviceState}
+use Rattle.sd_world.specs.world.Registers.{is_open, untouched, up_at, joins_at}
+use Rattle.sd_world.specs.membership.Plans.{AreTables}
+use Rattle.sd_world.specs.membership.Memberships as memberships
+use Rattle.sd_world.specs.membership.Memberships.{registers_after, registers_resting, is_in_force}
+use Rattle.sd_world.proofs.membership.Observing.{same_answers}
 use Rattle.sd_fleet.specs.Registers.{Registers, kept}
 use Rattle.sd_fleet.specs.Causes.{refusal_in}
 use Rattle.sd_fleet.specs.Doing.{replied}

@@ -1,15 +1,15 @@
 -- What a fleet keeps of its nodes: that a device that is up has one, how great their numbers are, and whose duty they were given.
 use Rattle.std.specs.Prelude.{◌≡◌, ◌≢◌, ℕ, ◌<◌, List, length, true, Option, Some, None, option_map, option_and_then}
 use Rattle.sd_num.specs.Lists.{at_place, map_or}
-use Rattle.sd_topo.specs.Network.{Each}
+use Rattle.sd_plan.specs.topo.Network.{Each}
 use Rattle.sd_plan.specs.declared.Duty.{Duty}
-use Rattle.sd_core.specs.declared.node.Node.{Ghosts}
-use Rattle.sd_fleet.specs.History.Nodes.{answers_of}
-use Rattle.sd_fleet.specs.FleetState.world.Registers.{up_at, reading_at}
-use Rattle.sd_fleet.specs.FleetState.declared.membership.AnswerSummary.{AnswerSummary}
-use Rattle.sd_fleet.specs.FleetState.membership.Plans.{row_numbered}
-use Rattle.sd_fleet.specs.FleetState.membership.Memberships as membership
-use Rattle.sd_fleet.specs.FleetState.membership.Standing.{summary}
+use Rattle.sd_device.specs.declared.node.Node.{Ghosts}
+use Rattle.sd_history.specs.Nodes.{answers_of}
+use Rattle.sd_world.specs.world.Registers.{up_at, reading_at}
+use Rattle.sd_world.specs.declared.membership.AnswerSummary.{AnswerSummary}
+use Rattle.sd_world.specs.membership.Plans.{row_numbered}
+use Rattle.sd_world.specs.membership.Memberships as membership
+use Rattle.sd_world.specs.membership.Standing.{summary}
 use Rattle.sd_fleet.specs.Registers.{Registers}
 use Rattle.sd_fleet.specs.Doing.{given_in}
 use Rattle.sd_sched.specs.declared.Event.{Event}

@@ -1,17 +1,17 @@
 -- What a node owes and is owed where it is made or called: bounds of its numbers, and the duty that was given to it.
 use Rattle.std.specs.Prelude.{◌≡◌, ◌⊎◌, ℕ, ◌*◌, ◌^◌, ◌≤◌, ◌<◌, Option, Some, None, option_map}
-use Rattle.sd_topo.specs.Limits.{IsRates}
+use Rattle.sd_plan.specs.topo.Limits.{IsRates}
 use Rattle.sd_plan.specs.declared.Duty.{Duty}
 use Rattle.sd_plan.specs.declared.Role.TheVariants as role
-use Rattle.sd_msg.specs.Clock.declared.Report.{Report}
-use Rattle.sd_msg.specs.declared.Message.{Message}
-use Rattle.sd_core.specs.declared.Effect.{Effect}
-use Rattle.sd_core.specs.declared.Effect.TheVariants.{Quiet}
-use Rattle.sd_core.specs.declared.node.Node.{Ghosts}
-use Rattle.sd_core.specs.Limits.{IsDuty}
-use Rattle.sd_core.specs.Calls.{Making}
-use Rattle.sd_core.specs.Calls as calls
-use Rattle.sd_core.specs.Calls.{Call}
+use Rattle.sd_num.specs.declared.clock.Report.{Report}
+use Rattle.sd_device.specs.declared.msg.Message.{Message}
+use Rattle.sd_device.specs.declared.Effect.{Effect}
+use Rattle.sd_device.specs.declared.Effect.TheVariants.{Quiet}
+use Rattle.sd_device.specs.declared.node.Node.{Ghosts}
+use Rattle.sd_device.specs.Limits.{IsDuty}
+use Rattle.sd_device.specs.Calls.{Making}
+use Rattle.sd_device.specs.Calls as calls
+use Rattle.sd_device.specs.Calls.{Call}
 
 -- each event raises clocks and uncertainties by less than this
 abbrev pub rise : ℕ
@@ -22,14 +22,14 @@ pub record IsLimited (report : Report) : Type 0 where
   pub clock : report.clock < 2 ^ 93
   pub eps : report.eps < 2 ^ 93
 
--- a message after so many events
+-- a message after this many events
 pub record IsMessage (events : ℕ) (message : Message) : Type 0 where
   pub clock : message.clock ≤ events * rise
   pub eps : message.eps ≤ events * rise
   pub term : message.stamp.term ≤ events
   pub round : message.stamp.round ≤ events
 
--- a node after so many events, whose latest reading is this
+-- a node after this many events, whose latest reading is this
 pub record IsNode {N : Type 0} (g : Ghosts N) (events reading : ℕ) (n : N) : Type 0 where
   pub floor : g.floor n ≤ reading
   pub ceiling : g.ceiling n ≤ events * rise
@@ -55,7 +55,7 @@ reading_after (calls.Give duty) reading = reading
 reading_after (calls.Commit counter) reading = counter
 reading_after calls.Seal reading = reading
 
--- what a call asks of its numbers and of a node whose latest reading is this, after so many events
+-- what a call asks of its numbers and of a node whose latest reading is this, after this many events
 abbrev pub CanCall : {N : Type 0} (g : Ghosts N) → ℕ → ℕ → N → Call → Type 0
 CanCall g events reading n (calls.Tick counter) = (reading ≤ counter) × (counter ≤ 2 ^ 60)
 CanCall g events reading n (calls.Receive link message counter) = (reading ≤ counter) × (counter ≤ 2 ^ 60) × IsMessage events message

@@ -1,10 +1,10 @@
 -- Why a fabric refuses an event, by what it keeps: the same causes in the same order as those of a history.
 use Rattle.std.specs.Prelude.{ℕ, ◌^◌, Bool, false, ◌&&◌, ◌||◌, not, List, [], ◌∷◌, ◌++◌, length, find, nat_eq, nat_le, nat_lt, Option, is_some, option_map, Result, Ok, Err}
 use Rattle.sd_num.specs.Lists.{map_or, same_number}
-use Rattle.sd_topo.specs.declared.Thing.TheVariants as thing
-use Rattle.sd_msg.specs.declared.Flight.{Flight}
-use Rattle.sd_msg.specs.declared.TakeFault.{TakeFault}
-use Rattle.sd_msg.specs.Books.{found}
+use Rattle.sd_plan.specs.declared.topo.Thing.TheVariants as thing
+use Rattle.sd_device.specs.declared.msg.Flight.{Flight}
+use Rattle.sd_device.specs.declared.msg.TakeFault.{TakeFault}
+use Rattle.sd_device.specs.msg.Books.{found}
 use Rattle.sd_sched.specs.declared.Event.{Event}
 use Rattle.sd_sched.specs.Events.{reference_of, device_of, counter_of, link_of, message_of, received, started, joined, given, is_stage, is_commit, is_seal}
 use Rattle.sd_history.specs.declared.ApplyFault.{ApplyFault}
@@ -12,10 +12,10 @@ use Rattle.sd_history.specs.declared.ApplyFault.TheVariants as fault
 use Rattle.sd_history.specs.Things.{failure_of, mended}
 use Rattle.sd_history.specs.Refusals.{makes_some}
 use Rattle.sd_history.specs.flights.Flights.{says_unknown, says_spent}
-use Rattle.sd_fleet_state.specs.world.Registers.{up_at, failed_at, made_at, reading_at, is_open, is_committed}
+use Rattle.sd_world.specs.world.Registers.{up_at, failed_at, made_at, reading_at, is_open, is_committed}
 use Rattle.sd_fleet.specs.Registers.{Registers}
-use Rattle.sd_fleet_state.specs.membership.Memberships.{staged_number, is_of, holds_given, is_in_force, is_in_staged, is_counted_at}
-use Rattle.sd_fleet_state.specs.membership.Plans.{root_numbered}
+use Rattle.sd_world.specs.membership.Memberships.{staged_number, is_of, holds_given, is_in_force, is_in_staged, is_counted_at}
+use Rattle.sd_world.specs.membership.Plans.{root_numbered}
 
 -- a fault, and whether it is there
 abbrev pub Cause : Type 0

@@ -1,26 +1,26 @@
 -- What an event does to the device that it names, by what a fabric keeps.
 use Rattle.std.specs.Prelude.{◌≡◌, ℕ, Bool, true, false, Option, Some, None, is_some, option_map, option_and_then, Result, Ok, Err}
 use Rattle.sd_num.specs.Lists.{map_or}
-use Rattle.sd_topo.specs.Network.{rates_of}
+use Rattle.sd_plan.specs.topo.Network.{rates_of}
 use Rattle.sd_plan.specs.declared.Duty.{Duty}
-use Rattle.sd_msg.specs.declared.Flight.{Flight}
-use Rattle.sd_msg.specs.declared.TakeFault.{TakeFault}
-use Rattle.sd_core.specs.declared.Effect.{Effect}
-use Rattle.sd_core.specs.declared.Effect.TheVariants.{Quiet}
-use Rattle.sd_core.specs.Calls as calls
+use Rattle.sd_device.specs.declared.msg.Flight.{Flight}
+use Rattle.sd_device.specs.declared.msg.TakeFault.{TakeFault}
+use Rattle.sd_device.specs.declared.Effect.{Effect}
+use Rattle.sd_device.specs.declared.Effect.TheVariants.{Quiet}
+use Rattle.sd_device.specs.Calls as calls
 use Rattle.sd_sched.specs.declared.Event.{Event}
 use Rattle.sd_sched.specs.declared.Event.TheVariants as event
 use Rattle.sd_history.specs.Steps as steps
 use Rattle.sd_history.specs.Steps.{Makes, Calls, Asks, Passes}
 use Rattle.sd_fleet.specs.declared.Call.{Call}
 use Rattle.sd_fleet.specs.declared.Call.TheVariants as call
-use Rattle.sd_fleet_state.specs.declared.membership.AnswerSummary.{AnswerSummary}
-use Rattle.sd_fleet_state.specs.membership.Standing.{summary}
+use Rattle.sd_world.specs.declared.membership.AnswerSummary.{AnswerSummary}
+use Rattle.sd_world.specs.membership.Standing.{summary}
 use Rattle.sd_fleet.specs.declared.Reply.{Reply}
-use Rattle.sd_fleet_state.specs.membership.Plans.{row_numbered}
+use Rattle.sd_world.specs.membership.Plans.{row_numbered}
 use Rattle.sd_fleet.specs.Registers.{Registers}
 use Rattle.sd_sched.specs.Events.{device_of, is_ask}
-use Rattle.sd_fleet_state.specs.membership.Memberships.{staged_number, live_at}
+use Rattle.sd_world.specs.membership.Memberships.{staged_number, live_at}
 use Rattle.sd_fleet.specs.Causes.{flight_at}
 
 -- a call, in the words of histories

@@ -4,7 +4,7 @@ use Rattle.sd_history.specs.World.{Setting}
 use Rattle.sd_history.specs.Steps.{Step, flight_count}
 use Rattle.sd_history.specs.Open.{unspent}
 use Rattle.sd_history.specs.Accepted.{AreSteps}
-use Rattle.sd_fleet_state.specs.membership.Standing as membership
+use Rattle.sd_world.specs.membership.Standing as membership
 use Rattle.sd_fleet.specs.Registers.{Registers}
 
 -- The fabric keeps what the words on histories say of these steps: the network, devices and plans, and the flights that are not spent.

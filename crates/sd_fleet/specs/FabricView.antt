@@ -1,5 +1,5 @@
 -- What the fields of a fabric stand for.
-use Rattle.sd_topo.specs.Topologies.{network}
+use Rattle.sd_plan.specs.topo.Topologies.{network}
 use Rattle.sd_fleet.specs.Registers.{Registers, kept}
 use Rattle.sd_fleet.specs.Sound.{IsSound}
 use Rattle.sd_fleet.specs.declared.fabric.Fabric.TheInside.{Inside}

@@ -17,6 +17,3 @@ pub mod Keeping
 pub mod Bounds
 pub mod Standing
 pub mod Devices
--- Handed on: what crates above name of those below.
-pub use Rattle.sd_history.specs as History
-pub use Rattle.sd_fleet_state.specs as FleetState

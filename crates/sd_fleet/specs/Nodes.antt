@@ -1,18 +1,18 @@
 -- What a fleet does with its nodes, each at the place of its device.
 use Rattle.std.specs.Prelude.{◌≡◌, ◌≢◌, ℕ, ◌+◌, ◌*◌, ◌^◌, ◌≤◌, ◌<◌, List, length, slice_set, slice_index_or, Option, Some, None}
 use Rattle.sd_plan.specs.declared.Duty.{Duty}
-use Rattle.sd_msg.specs.Clock.declared.Report.{Report}
-use Rattle.sd_core.specs.declared.Effect.TheVariants.{Quiet}
-use Rattle.sd_core.specs.declared.node.Node.{Ghosts}
-use Rattle.sd_core.specs.Limits.{IfSent}
-use Rattle.sd_fleet.specs.History.Nodes.{answers_of}
-use Rattle.sd_fleet.specs.FleetState.membership.Standing.{summary}
-use Rattle.sd_core.specs.Calls.{Making}
-use Rattle.sd_core.specs.Calls.{Call}
-use Rattle.sd_core.specs.Calls as calls
-use Rattle.sd_core.specs.Words.{making_counter}
-use Rattle.sd_fleet.specs.History.Steps.{Act}
-use Rattle.sd_fleet.specs.History.Steps as steps
+use Rattle.sd_num.specs.declared.clock.Report.{Report}
+use Rattle.sd_device.specs.declared.Effect.TheVariants.{Quiet}
+use Rattle.sd_device.specs.declared.node.Node.{Ghosts}
+use Rattle.sd_device.specs.Limits.{IfSent}
+use Rattle.sd_history.specs.Nodes.{answers_of}
+use Rattle.sd_world.specs.membership.Standing.{summary}
+use Rattle.sd_device.specs.Calls.{Making}
+use Rattle.sd_device.specs.Calls.{Call}
+use Rattle.sd_device.specs.Calls as calls
+use Rattle.sd_device.specs.Words.{making_counter}
+use Rattle.sd_history.specs.Steps.{Act}
+use Rattle.sd_history.specs.Steps as steps
 use Rattle.sd_fleet.specs.declared.Reply.{Reply}
 use Rattle.sd_fleet.specs.declared.nodes.CallContext.{CallContext}
 use Rattle.sd_fleet.specs.Calling.{IsNode, IsMessage, CanMake, CanCall, GivenAfter, MaySend, reading_after, rise}

@@ -1,6 +1,6 @@
 -- What came of an accepted event, by its step.
 use Rattle.std.specs.Prelude.{ℕ, List, [], ◌∷◌, length}
-use Rattle.sd_msg.specs.declared.Flight.{Flight}
+use Rattle.sd_device.specs.declared.msg.Flight.{Flight}
 use Rattle.sd_sched.specs.Events.{is_end_event}
 use Rattle.sd_history.specs.Steps.{Step}
 use Rattle.sd_history.specs.Lines.{asked_report}

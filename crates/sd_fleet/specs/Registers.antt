@@ -1,8 +1,8 @@
 -- What a fabric keeps.
 use Rattle.std.specs.Prelude.{length}
-use Rattle.sd_topo.specs.Network.{Network}
-use Rattle.sd_msg.specs.Books.{Book, Size}
-use Rattle.sd_fleet_state.specs.membership.Memberships as memberships
+use Rattle.sd_plan.specs.topo.Network.{Network}
+use Rattle.sd_device.specs.msg.Books.{Book, Size}
+use Rattle.sd_world.specs.membership.Memberships as memberships
 
 -- the network, the membership and the book
 pub record Registers : Type 0 where

@@ -6,7 +6,7 @@ use Rattle.sd_sched.specs.declared.Event.{Event}
 use Rattle.sd_sched.specs.declared.Event.TheVariants as event
 use Rattle.sd_history.specs.World.{Setting, in_force, staged}
 use Rattle.sd_history.specs.Steps.{Step, seen_of}
-use Rattle.sd_fleet_state.specs.membership.Memberships.{ends_below}
+use Rattle.sd_world.specs.membership.Memberships.{ends_below}
 use Rattle.sd_fleet.specs.Registers.{Registers}
 
 -- By the history: a tick or a receipt may send over each end that its device has below it in the plan in force and, where one is staged, in

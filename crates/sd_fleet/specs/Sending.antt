@@ -1,18 +1,18 @@
 -- The flights of a message over the ends below its sender, by what a fabric keeps.
 use Rattle.std.specs.Prelude.{◌≡◌, ℕ, ◌+◌, ◌*◌, List, [], ◌∷◌, length, not, ◌&&◌}
 use Rattle.sd_num.specs.Lists.{map_or}
-use Rattle.sd_topo.specs.Network.{Network, delay_of}
-use Rattle.sd_topo.specs.Limits.{IsNetwork}
-use Rattle.sd_topo.specs.declared.Thing.TheVariants as thing
+use Rattle.sd_plan.specs.topo.Network.{Network, delay_of}
+use Rattle.sd_plan.specs.topo.Limits.{IsNetwork}
+use Rattle.sd_plan.specs.declared.topo.Thing.TheVariants as thing
 use Rattle.sd_plan.specs.declared.End.{End}
-use Rattle.sd_msg.specs.declared.Flight.{Flight}
-use Rattle.sd_core.specs.declared.Effect.{Effect}
-use Rattle.sd_core.specs.declared.Effect.TheVariants.{Quiet, Send}
-use Rattle.sd_fleet_state.specs.world.Registers as worlds
-use Rattle.sd_fleet_state.specs.world.Registers.{up_at, failed_at}
+use Rattle.sd_device.specs.declared.msg.Flight.{Flight}
+use Rattle.sd_device.specs.declared.Effect.{Effect}
+use Rattle.sd_device.specs.declared.Effect.TheVariants.{Quiet, Send}
+use Rattle.sd_world.specs.world.Registers as worlds
+use Rattle.sd_world.specs.world.Registers.{up_at, failed_at}
 use Rattle.sd_sched.specs.declared.Event.{Event}
 use Rattle.sd_sched.specs.Events.{reference_of, device_of}
-use Rattle.sd_fleet_state.specs.membership.Memberships.{ends_below}
+use Rattle.sd_world.specs.membership.Memberships.{ends_below}
 use Rattle.sd_fleet.specs.declared.Reply.{Reply}
 use Rattle.sd_fleet.specs.declared.messages.Sending.{Sending}
 use Rattle.sd_fleet.specs.Registers.{Registers}

@@ -1,9 +1,9 @@
 -- What is always true of what a fabric keeps, whatever happened.
 use Rattle.std.specs.Prelude.{◌≡◌, ◌*◌, ◌^◌, ◌≤◌, length}
-use Rattle.sd_topo.specs.Limits.{IsNetwork}
-use Rattle.sd_msg.specs.Books.{AreGiven}
-use Rattle.sd_fleet_state.specs.membership.Plans.{AreTables}
-use Rattle.sd_fleet_state.specs.membership.Memberships as memberships
+use Rattle.sd_plan.specs.topo.Limits.{IsNetwork}
+use Rattle.sd_device.specs.msg.Books.{AreGiven}
+use Rattle.sd_world.specs.membership.Plans.{AreTables}
+use Rattle.sd_world.specs.membership.Memberships as memberships
 use Rattle.sd_fleet.specs.Registers.{Registers, size_of}
 
 -- what is kept is sound

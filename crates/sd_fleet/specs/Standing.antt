@@ -1,13 +1,13 @@
 -- For which run a fleet stands.
 use Rattle.std.specs.Prelude.{◌≡◌, ◌⊎◌, ℕ, ◌<◌, ◌≤◌, List, ◌∷◌, length, Some, None, IfSome, IsTrue}
-use Rattle.sd_core.specs.declared.node.Node.{Ghosts}
+use Rattle.sd_device.specs.declared.node.Node.{Ghosts}
 use Rattle.sd_sched.specs.declared.Event.{Event}
-use Rattle.sd_fleet.specs.History.declared.ApplyFault.{ApplyFault}
-use Rattle.sd_fleet.specs.History.declared.ApplyFault.TheVariants.{Memory}
-use Rattle.sd_fleet.specs.History.World.{Setting}
-use Rattle.sd_fleet.specs.History.Steps.{Step}
-use Rattle.sd_fleet.specs.History.Refusals.{refusal}
-use Rattle.sd_fleet.specs.History.Nodes.{NodeStep, IsRun, steps_of, node_in}
+use Rattle.sd_history.specs.declared.ApplyFault.{ApplyFault}
+use Rattle.sd_history.specs.declared.ApplyFault.TheVariants.{Memory}
+use Rattle.sd_history.specs.World.{Setting}
+use Rattle.sd_history.specs.Steps.{Step}
+use Rattle.sd_history.specs.Refusals.{refusal}
+use Rattle.sd_history.specs.Nodes.{NodeStep, IsRun, steps_of, node_in}
 use Rattle.sd_fleet.specs.declared.Outcome.{Outcome}
 use Rattle.sd_fleet.specs.Registers.{Registers}
 use Rattle.sd_fleet.specs.Causes.{refusal_in}

@@ -3,17 +3,17 @@
 use Rattle.std.specs.Prelude.{◌≡◌, ℕ, ◌+◌, ◌≤◌, Bool, false, ◌&&◌, not, List, ◌++◌, length, filter, Option, Some, None, option_map, IsOkAnd, if◌then◌else◌}
 use Rattle.std.specs.Result.{result_ok}
 use Rattle.sd_num.specs.Lists.{map_or}
-use Rattle.sd_clock.specs.declared.Report.{Report}
-use Rattle.sd_msg.specs.declared.Flight.{Flight}
-use Rattle.sd_msg.specs.Books.{Book, found, without, is_current}
+use Rattle.sd_num.specs.declared.clock.Report.{Report}
+use Rattle.sd_device.specs.declared.msg.Flight.{Flight}
+use Rattle.sd_device.specs.msg.Books.{Book, found, without, is_current}
 use Rattle.sd_sched.specs.declared.Event.{Event}
 use Rattle.sd_sched.specs.declared.Event.TheVariants as event
 use Rattle.sd_sched.specs.Events.{reference_of, device_of, message_of, is_end_event}
 use Rattle.sd_history.specs.Things.{failure_of}
 use Rattle.sd_history.specs.flights.Flights.{without_taken, without_swept}
-use Rattle.sd_fleet_state.specs.world.Registers.{is_open}
-use Rattle.sd_fleet_state.specs.membership.Memberships as memberships
-use Rattle.sd_fleet_state.specs.membership.Memberships.{staged_number, is_of, acts_at, registers_after, registers_closed, can_close_in}
+use Rattle.sd_world.specs.world.Registers.{is_open}
+use Rattle.sd_world.specs.membership.Memberships as memberships
+use Rattle.sd_world.specs.membership.Memberships.{staged_number, is_of, acts_at, registers_after, registers_closed, can_close_in}
 use Rattle.sd_fleet.specs.declared.Reply.{Reply}
 use Rattle.sd_fleet.specs.declared.Outcome.{Outcome}
 use Rattle.sd_fleet.specs.Registers.{Registers}

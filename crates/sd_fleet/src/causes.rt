@@ -1,20 +1,20 @@
 //! The causes for which an event is refused, each by itself.
 ghost use Rattle.std.specs.Prelude.{◌≡◌, ◌<◌, ◌^◌, ◌&&◌, ◌||◌, not, nat_eq, nat_le, nat_lt, length, true, false, is_some, IfSome};
 ghost use Rattle.sd_num.specs.Lists.{map_or};
-ghost use Rattle.sd_topo.specs.declared.Thing.TheVariants as thing;
+ghost use Rattle.sd_plan.specs.declared.topo.Thing.TheVariants as thing;
 ghost use Rattle.sd_sched.specs.Events.{reference_of, device_of, counter_of, link_of, started, joined, given, is_stage, is_commit, is_seal};
 ghost use Rattle.sd_history.specs.Things as things;
 ghost use Rattle.sd_history.specs.Refusals as refusals;
-ghost use Rattle.sd_fleet_state.specs.world.Registers.{up_at, failed_at, made_at, reading_at, is_open, is_committed};
-ghost use Rattle.sd_fleet_state.specs.membership.Plans.{root_numbered};
-ghost use Rattle.sd_fleet_state.specs.membership.Memberships.{is_of, holds_given, is_in_force, is_in_staged, is_counted_at, staged_number};
+ghost use Rattle.sd_world.specs.world.Registers.{up_at, failed_at, made_at, reading_at, is_open, is_committed};
+ghost use Rattle.sd_world.specs.membership.Plans.{root_numbered};
+ghost use Rattle.sd_world.specs.membership.Memberships.{is_of, holds_given, is_in_force, is_in_staged, is_counted_at, staged_number};
 ghost use Rattle.sd_fleet.specs.Causes.{past_preparing_in, is_out_of_order};
 
 use crate::Fabric;
 use crate::events::makes_some;
-use sd_fleet_state::world::{MOST_EVENTS, Window, failure_of, link_of, mended};
+use sd_plan::topo::Thing;
 use sd_sched::Event;
-use sd_topo::Thing;
+use sd_world::world::{MOST_EVENTS, Window, failure_of, link_of, mended};
 
 /// What an event names.
 impl Fabric {

@@ -1,13 +1,13 @@
 //! What an event makes of the flights that were on their way before it.
 ghost use Rattle.std.specs.Prelude.{◌≡◌, ◌≤◌};
 ghost use Rattle.sd_history.specs.Things as things;
-ghost use Rattle.sd_msg.specs.Books.{AreGiven};
+ghost use Rattle.sd_device.specs.msg.Books.{AreGiven};
 ghost use Rattle.sd_history.specs.flights.Flights.{without_swept};
 ghost use Rattle.sd_fleet.specs.Stepping.{CanDeliver, delivered, taken_from};
 
-use sd_fleet_state::world::failure_of;
-use sd_msg::{Flight, FlightBook, TakeFault};
+use sd_device::msg::{Flight, FlightBook, TakeFault};
 use sd_sched::Event;
+use sd_world::world::failure_of;
 
 /// Leaves out what ended before the event, and takes or loses the flight of its message. The
 /// flight that it receives is written where the caller wants it.

@@ -2,28 +2,28 @@
 ghost use Rattle.std.specs.Prelude.{◌≡◌, ◌≤◌, ◌<◌, ◌^◌, ℕ, List, [], length, IfOk, IfSome, IsTrue, Option, Some, None, ◌+◌, ◌++◌, option_map, option_and_then, option_to_list};
 ghost use Rattle.std.specs.Result.{result_ok};
 ghost use Rattle.std.specs.Vec.{vec_capacity};
-ghost use Rattle.sd_topo.specs.Topologies.{network};
-ghost use Rattle.sd_topo.specs.Network.{rates_of};
-ghost use Rattle.sd_msg.specs.Books.{found};
+ghost use Rattle.sd_plan.specs.topo.Topologies.{network};
+ghost use Rattle.sd_plan.specs.topo.Network.{rates_of};
+ghost use Rattle.sd_device.specs.msg.Books.{found};
 ghost use Rattle.sd_sched.specs.Events.{device_of};
 ghost use Rattle.sd_history.specs.World.{Setting};
 ghost use Rattle.sd_history.specs.Steps.{Step};
 ghost use Rattle.sd_history.specs.flights.Flights.{look_in};
-ghost use Rattle.sd_fleet_state.specs.world.Registers.{up_at, is_open};
-ghost use Rattle.sd_fleet_state.specs.membership.Plans.{AreSound, row_numbered};
-ghost use Rattle.sd_fleet_state.specs.membership.Memberships.{live_at, is_counted_at, is_in_force, is_in_staged, staged_number};
+ghost use Rattle.sd_world.specs.world.Registers.{up_at, is_open};
+ghost use Rattle.sd_world.specs.membership.Plans.{AreSound, row_numbered};
+ghost use Rattle.sd_world.specs.membership.Memberships.{live_at, is_counted_at, is_in_force, is_in_staged, staged_number};
 ghost use Rattle.sd_fleet.specs.Sound.{IsSound};
 ghost use Rattle.sd_fleet.specs.FabricStanding.{Stands};
 ghost use Rattle.sd_fleet.specs.Doing.{given_in};
 
 use crate::AnswerSummary;
-use sd_fleet_state::membership::Membership;
-use sd_fleet_state::world::World;
-use sd_msg::{Flight, FlightBook, TakeFault};
+use sd_device::msg::{Flight, FlightBook, TakeFault};
 use sd_num::{NoMemory, Rates};
+use sd_plan::topo::Topology;
 use sd_plan::{Duty, Plan};
 use sd_sched::Event;
-use sd_topo::Topology;
+use sd_world::membership::Membership;
+use sd_world::world::World;
 use std::alloc::Global;
 use std::marker::Model;
 

@@ -1,17 +1,17 @@
 //! A receipt and a tick of a node that says that it answers as before after such a call.
 ghost use Rattle.std.specs.Prelude.{◌≡◌, ◌≢◌, ℕ, ◌<◌, ◌≤◌, ◌+◌, ◌^◌, length, Some, None, IsTrue};
-ghost use Rattle.sd_msg.specs.declared.Message.{Message};
-ghost use Rattle.sd_core.specs.Calls.{Tick, Receive};
-ghost use Rattle.sd_core.specs.Steps.{Keeps};
-ghost use Rattle.sd_core.specs.Limits.{IfSent};
-ghost use Rattle.sd_fleet.specs.History.Nodes.{answers_of};
+ghost use Rattle.sd_device.specs.declared.msg.Message.{Message};
+ghost use Rattle.sd_device.specs.Calls.{Tick, Receive};
+ghost use Rattle.sd_device.specs.Steps.{Keeps};
+ghost use Rattle.sd_device.specs.Limits.{IfSent};
+ghost use Rattle.sd_history.specs.Nodes.{answers_of};
 ghost use Rattle.sd_fleet.specs.Calling.{IsNode, IsMessage, CanCall};
 ghost use Rattle.sd_fleet.specs.Nodes.{node_at, IsCallable};
 ghost use Rattle.sd_fleet.specs.Keeping.{KeepsAt};
 
 use crate::nodes::CallContext;
-use sd_core::{Effect, Node};
-use sd_msg::Flight;
+use sd_device::msg::Flight;
+use sd_device::{Effect, Node};
 
 /// Whether the node of a device says that it answers as before after any message.
 #[inline(always)]

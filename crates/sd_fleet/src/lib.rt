@@ -6,11 +6,12 @@
 #![tactic(auto)]
 
 ghost use Rattle.std.specs.Prelude.{◌≡◌, Some, None, false};
-ghost use Rattle.sd_core.specs.declared.Effect.TheVariants as effects;
+ghost use Rattle.sd_device.specs.declared.Effect.TheVariants as effects;
 
 mod causes;
 mod deliveries;
 mod events;
+mod exact;
 mod fabric;
 mod fleet;
 mod keeps;
@@ -21,15 +22,16 @@ mod rests;
 mod steps;
 mod ticks;
 
+pub use exact::keeps_chronicle;
 use fabric::Fabric;
 pub use fleet::{Fleet, Heard};
 pub use messages::Sent;
-use sd_clock::Report;
-use sd_core::Effect;
-pub use sd_fleet_state::membership::AnswerSummary;
+use sd_device::Effect;
+use sd_device::msg::{Flight, Message};
 pub use sd_history::ApplyFault;
-use sd_msg::{Flight, Message};
+use sd_num::clock::Report;
 use sd_plan::Duty;
+pub use sd_world::membership::AnswerSummary;
 
 /// A call of a device that is made. What is large is lent.
 #[derive(Clone, Copy, Debug)]

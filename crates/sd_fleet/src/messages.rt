@@ -1,24 +1,24 @@
 //! Messages over the ends below their sender.
 ghost use Rattle.std.specs.Prelude.{◌≡◌, ◌≤◌, ◌<◌, ◌+◌, ◌-◌, ◌^◌, ◌++◌, nat_eq, length, filter, IfSome, if◌then◌else◌};
-ghost use Rattle.sd_topo.specs.Topologies.{network};
-ghost use Rattle.sd_topo.specs.Network.{Each};
-ghost use Rattle.sd_topo.specs.Limits.{IsNetwork};
-ghost use Rattle.sd_msg.specs.Books.{AreGiven, with_sent};
+ghost use Rattle.sd_plan.specs.topo.Topologies.{network};
+ghost use Rattle.sd_plan.specs.topo.Network.{Each};
+ghost use Rattle.sd_plan.specs.topo.Limits.{IsNetwork};
+ghost use Rattle.sd_device.specs.msg.Books.{AreGiven, with_sent};
 ghost use Rattle.sd_sched.specs.Events.{reference_of, device_of};
-ghost use Rattle.sd_fleet_state.specs.membership.Plans.{IsEnd};
+ghost use Rattle.sd_world.specs.membership.Plans.{IsEnd};
 ghost use Rattle.sd_fleet.specs.Registers.{kept, size_of};
 ghost use Rattle.sd_fleet.specs.Sound.{IsSound};
 ghost use Rattle.sd_fleet.specs.Sending.{flight_over, flights_over, sent_by, sent_in, Covers};
 ghost use Rattle.sd_fleet.specs.Outcomes.{first_number};
 
 use crate::Reply;
-use sd_core::Effect;
-use sd_fleet_state::membership::Membership;
-use sd_fleet_state::world::World;
-use sd_msg::{Flight, FlightBook, Message};
+use sd_device::Effect;
+use sd_device::msg::{Flight, FlightBook, Message};
 use sd_plan::End;
+use sd_plan::topo::{Thing, Topology};
 use sd_sched::Event;
-use sd_topo::{Thing, Topology};
+use sd_world::membership::Membership;
+use sd_world::world::World;
 
 /// A message at the moment when it is sent.
 #[derive(Clone, Copy)]

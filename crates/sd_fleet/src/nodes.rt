@@ -2,18 +2,18 @@
 //! and what it replies.
 ghost use Rattle.std.specs.Prelude.{◌≡◌, ◌≢◌, ◌<◌, ◌≤◌, ◌+◌, ◌^◌, ℕ, length, Option, Some, None, IsTrue};
 ghost use Rattle.sd_plan.specs.declared.Duty.{Duty};
-ghost use Rattle.sd_core.specs.Calls.{Making};
-ghost use Rattle.sd_core.specs.Limits.{IfSent};
-ghost use Rattle.sd_core.specs.Words.{making_counter};
-ghost use Rattle.sd_fleet.specs.History.Steps.{Calls};
-ghost use Rattle.sd_fleet.specs.History.Nodes.{answers_of as node_answers};
-ghost use Rattle.sd_fleet.specs.FleetState.membership.Standing.{summary};
+ghost use Rattle.sd_device.specs.Calls.{Making};
+ghost use Rattle.sd_device.specs.Limits.{IfSent};
+ghost use Rattle.sd_device.specs.Words.{making_counter};
+ghost use Rattle.sd_history.specs.Steps.{Calls};
+ghost use Rattle.sd_history.specs.Nodes.{answers_of as node_answers};
+ghost use Rattle.sd_world.specs.membership.Standing.{summary};
 ghost use Rattle.sd_fleet.specs.Doing.{call_seen};
 ghost use Rattle.sd_fleet.specs.Calling.{IsMessage, IsNode, CanCall, GivenAfter, MaySend, reading_after};
 ghost use Rattle.sd_fleet.specs.Nodes.{node_at, MakesAt, CallsAt, AsksAt, RestsAt, CanAct};
 
 use crate::{AnswerSummary, Call, Reply};
-use sd_core::{Effect, Node};
+use sd_device::{Effect, Node};
 
 /// When a node is called.
 #[derive(Clone, Copy)]

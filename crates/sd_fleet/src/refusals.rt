@@ -5,10 +5,10 @@ ghost use Rattle.sd_fleet.specs.Causes.{first_of, place_causes, message_causes, 
 ghost use Rattle.sd_fleet.specs.Calm.{is_on_time, is_calm};
 
 use crate::Fabric;
-use sd_fleet_state::world::message_of;
+use sd_device::msg::TakeFault;
 use sd_history::ApplyFault;
-use sd_msg::TakeFault;
 use sd_sched::Event;
+use sd_world::world::message_of;
 
 impl Fabric {
     /// The first cause for which an event is refused, if there is one.

@@ -1,10 +1,10 @@
 //! A tick at which its device rests: only the time goes on. Most events are such.
 ghost use Rattle.std.specs.Prelude.{◌≡◌, false, None, Some, IsTrue};
 ghost use Rattle.sd_num.specs.Lists.{at_place};
-ghost use Rattle.sd_core.specs.declared.Effect.TheVariants.{Quiet};
+ghost use Rattle.sd_device.specs.declared.Effect.TheVariants.{Quiet};
 ghost use Rattle.sd_sched.specs.declared.Event.TheVariants as events_of;
-ghost use Rattle.sd_fleet_state.specs.declared.membership.AnswerSummary.{AnswerSummary};
-ghost use Rattle.sd_fleet_state.specs.world.Registers.{is_open};
+ghost use Rattle.sd_world.specs.declared.membership.AnswerSummary.{AnswerSummary};
+ghost use Rattle.sd_world.specs.world.Registers.{is_open};
 ghost use Rattle.sd_fleet.specs.Causes.{refusal_in};
 ghost use Rattle.sd_fleet.specs.Doing.{replied};
 ghost use Rattle.sd_fleet.specs.Sound.{IsSound};

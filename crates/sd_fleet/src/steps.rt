@@ -2,8 +2,8 @@
 ghost use Rattle.std.specs.Prelude.{◌≡◌, ◌≢◌, ◌≤◌, ◌<◌, ◌+◌, ◌&&◌, not, None, IsTrue, IfSome, length, OnOk, OnErr, if◌then◌else◌};
 ghost use Rattle.sd_sched.specs.Events.{is_end_event};
 ghost use Rattle.sd_sched.specs.Spelled.{is_within};
-ghost use Rattle.sd_fleet_state.specs.membership.Memberships as memberships;
-ghost use Rattle.sd_fleet_state.specs.membership.Memberships.{acts_at as acts_of, can_close_in, ends_below};
+ghost use Rattle.sd_world.specs.membership.Memberships as memberships;
+ghost use Rattle.sd_world.specs.membership.Memberships.{acts_at as acts_of, can_close_in, ends_below};
 ghost use Rattle.sd_fleet.specs.Causes.{refusal_in};
 ghost use Rattle.sd_fleet.specs.Doing.{IsReplyTo};
 ghost use Rattle.sd_fleet.specs.Room.{ends_in, most_sent_in};
@@ -13,10 +13,10 @@ ghost use Rattle.sd_fleet.specs.Stepping.{IsAfter, outcome_in, report_in, OnlyRo
 use crate::deliveries::{deliver, sweep};
 use crate::messages::send;
 use crate::{Fabric, Outcome, Reply};
-use sd_clock::Report;
-use sd_fleet_state::membership::Membership;
 use sd_num::NoMemory;
+use sd_num::clock::Report;
 use sd_sched::Event;
+use sd_world::membership::Membership;
 use std::alloc::Global;
 
 /// Notes the report of an ask, with the device that was asked.
@@ -74,7 +74,7 @@ impl Fabric {
             .len()
     }
 
-    /// Makes room for so many messages. Only this takes memory.
+    /// Makes room for this many messages. Only this takes memory.
     #[inline(always)]
     pub fn ready(&mut self, alloc: Global, messages: usize) -> Result<(), NoMemory>
         ensures room { OnOk result (messages ≤ self.new.book.room) }

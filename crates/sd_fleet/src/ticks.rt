@@ -3,9 +3,9 @@
 ghost use Rattle.std.specs.Prelude.{◌≡◌, ◌≤◌, ◌<◌, ◌^◌, false, length, None, Some, Ok, IsTrue};
 ghost use Rattle.sd_num.specs.Lists.{at_place, map_or};
 ghost use Rattle.sd_sched.specs.declared.Event.TheVariants as events_of;
-ghost use Rattle.sd_fleet_state.specs.declared.membership.AnswerSummary.{AnswerSummary};
-ghost use Rattle.sd_fleet_state.specs.world.Registers.{is_open};
-ghost use Rattle.sd_fleet_state.specs.membership.Memberships.{live_at};
+ghost use Rattle.sd_world.specs.declared.membership.AnswerSummary.{AnswerSummary};
+ghost use Rattle.sd_world.specs.world.Registers.{is_open};
+ghost use Rattle.sd_world.specs.membership.Memberships.{live_at};
 ghost use Rattle.sd_fleet.specs.Causes.{refusal_in, flight_at};
 ghost use Rattle.sd_fleet.specs.Calm.{is_on_time};
 ghost use Rattle.sd_fleet.specs.Doing.{replied};
@@ -17,9 +17,9 @@ ghost use Rattle.sd_fleet.specs.Stepping.{IsWithout};
 
 use crate::Fabric;
 use crate::messages::{Sent, send_by};
-use sd_core::Effect;
-use sd_fleet_state::membership::Membership;
-use sd_msg::Flight;
+use sd_device::Effect;
+use sd_device::msg::Flight;
+use sd_world::membership::Membership;
 
 /// The number of the plan that a device follows, 0 where it is not up.
 #[inline(always)]

@@ -7,7 +7,7 @@ use Rattle.rand_pcg.specs.Lcg.{Lcg, advance, state_after}
 use Rattle.rand_pcg.specs.Pcg.{multiplier_64, pcg32}
 use Rattle.sd_gen.specs.Drafts.{word_of, behind_word}
 
--- the leads of so many devices
+-- the leads of this many devices
 abbrev pub leads_of : ℕ → Lcg → List ℕ
 leads_of n g = map (λ w. w % 301) (first_words pcg32 n g)
 

@@ -2,7 +2,7 @@
 use Rattle.std.specs.Prelude.{◌≡◌, ℕ, zero, suc, ◌+◌, ◌<◌, Bool, true, false, List, [], ◌∷◌, ◌++◌, length, take, filter, refl}
 use Rattle.std.proofs.Common.{arith, ap, ◌∙◌, get_or, add-one}
 use Rattle.sd_num.specs.Lists.{below}
-use Rattle.sd_core.specs.Msg.declared.Flight.{Flight}
+use Rattle.sd_device.specs.declared.msg.Flight.{Flight}
 use Rattle.sd_gen.specs.Drafts.{Draft, each, when, with_message}
 
 each-append : {A : Type 0} (f : A → Draft → Draft) (xs ys : List A) (x : Draft) → each f (xs ++ ys) x ≡ each f ys (each f xs x)

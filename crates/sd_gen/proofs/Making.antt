@@ -5,13 +5,13 @@ use Rattle.std.proofs.lemmas.List.{reverse-reverse}
 use Rattle.rand_core.specs.Steps.{first_words}
 use Rattle.rand_pcg.specs.Lcg.{Lcg, advance}
 use Rattle.rand_pcg.specs.Pcg.{multiplier_64, pcg32}
-use Rattle.sd_topo.specs.Limits.{IsNetwork}
+use Rattle.sd_plan.specs.topo.Limits.{IsNetwork}
 use Rattle.sd_sched.specs.declared.Event.{Event}
-use Rattle.sd_fleet.specs.History.World.{Setting}
-use Rattle.sd_fleet.specs.History.Steps.{events_of}
-use Rattle.sd_fleet.specs.History.Nodes.{steps_of}
-use Rattle.sd_fleet.specs.History.Chronicle.{IsHistory}
-use Rattle.sd_fleet.proofs.History.Devices.{devices_have_history}
+use Rattle.sd_history.specs.World.{Setting}
+use Rattle.sd_history.specs.Steps.{events_of}
+use Rattle.sd_history.specs.Nodes.{steps_of}
+use Rattle.sd_history.specs.Chronicle.{IsHistory}
+use Rattle.sd_history.proofs.Devices.{devices_have_history}
 use Rattle.sd_gen.specs.arrivals.Standing as arrivals
 use Rattle.sd_gen.specs.declared.driven.Driven.{Ghosts}
 use Rattle.sd_gen.specs.declared.driver.Driver.{Driver}

@@ -1,19 +1,19 @@
 -- The messages that a step sent are posted, one after the other.
 use Rattle.std.specs.Prelude.{◌≡◌, ℕ, zero, suc, ◌+◌, ◌-◌, ◌^◌, ◌<◌, ◌≤◌, Bool, true, false, List, [], ◌∷◌, length, take, min, Result, Ok, Err, refl, if◌then◌else◌}
 use Rattle.std.proofs.Common.{arith, ap, sym, ◌∙◌, subst, get_or}
-use Rattle.sd_core.specs.Msg.declared.Flight.{Flight}
-use Rattle.sd_core.specs.Msg.declared.TakeFault.{TakeFault}
-use Rattle.sd_core.specs.Msg.declared.TakeFault.TheVariants as fault
+use Rattle.sd_device.specs.declared.msg.Flight.{Flight}
+use Rattle.sd_device.specs.declared.msg.TakeFault.{TakeFault}
+use Rattle.sd_device.specs.declared.msg.TakeFault.TheVariants as fault
 use Rattle.sd_sched.specs.Events.{reference_of}
-use Rattle.sd_fleet.specs.History.World.{Setting}
-use Rattle.sd_fleet.specs.History.Steps.{Step, flight_count}
-use Rattle.sd_fleet.specs.History.Accepted.{AreSteps}
-use Rattle.sd_fleet.specs.History.flights.Flights.{AreNumberedOn, look_in}
-use Rattle.sd_fleet.proofs.History.flights.Sending.{step_numbered, counted}
-use Rattle.sd_fleet.proofs.History.flights.Counts.{numbers_few}
+use Rattle.sd_history.specs.World.{Setting}
+use Rattle.sd_history.specs.Steps.{Step, flight_count}
+use Rattle.sd_history.specs.Accepted.{AreSteps}
+use Rattle.sd_history.specs.flights.Flights.{AreNumberedOn, look_in}
+use Rattle.sd_history.proofs.flights.Sending.{step_numbered, counted}
+use Rattle.sd_history.proofs.flights.Counts.{numbers_few}
 use Rattle.sd_fleet.specs.declared.Outcome.{Outcome}
 use Rattle.sd_fleet.specs.Outcomes.{outcome_of, first_number}
-use Rattle.sd_fleet.specs.History.Nodes.{steps_of}
+use Rattle.sd_history.specs.Nodes.{steps_of}
 use Rattle.sd_fleet.proofs.Shared.{sent_reach, number_at}
 use Rattle.sd_gen.proofs.arrivals.Widening.{stands_wider}
 use Rattle.sd_gen.specs.declared.driven.Driven.{Ghosts}

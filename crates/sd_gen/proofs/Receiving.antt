@@ -1,9 +1,9 @@
 -- Receipts, one after the other.
 use Rattle.std.specs.Prelude.{◌≡◌, ℕ, suc, ◌^◌, ◌≤◌, Bool, true, false, Option, Some, None, refl}
 use Rattle.std.proofs.Common.{arith, sym, subst}
-use Rattle.sd_fleet.specs.History.World.{Setting}
-use Rattle.sd_fleet.specs.History.Steps.{flight_count}
-use Rattle.sd_fleet.proofs.History.flights.Counts.{numbers_few}
+use Rattle.sd_history.specs.World.{Setting}
+use Rattle.sd_history.specs.Steps.{flight_count}
+use Rattle.sd_history.proofs.flights.Counts.{numbers_few}
 use Rattle.sd_gen.specs.declared.arrivals.Arrival.{Arrival}
 use Rattle.sd_gen.specs.declared.arrivals.Arrivals.{Arrivals}
 use Rattle.sd_gen.specs.arrivals.Waiting.{next_by, without}
@@ -16,7 +16,7 @@ use Rattle.sd_gen.specs.Standing.{StandsFor, Becomes}
 use Rattle.sd_gen.specs.Receiving.{ReceivesNext, received}
 use Rattle.sd_gen.proofs.Trying.{are_steps}
 
--- so many receipts more make it the draft that is meant
+-- this many receipts more make it the draft that is meant
 pub record StillTo {D : Type 0} (g : Ghosts D) (driver : Driver D) (setting : Setting) (moment n : ℕ) (meant : Draft) : Type 0 where
   pub draft : Draft
   pub stands : StandsFor g driver setting draft

@@ -4,25 +4,25 @@ use Rattle.std.specs.Option.{option_or}
 use Rattle.std.proofs.Common.{arith, ap, sym, ◌∙◌, get_or}
 use Rattle.std.proofs.lemmas.Bool.{le-leb, and_from}
 use Rattle.std.proofs.lemmas.List.Folds.{find-append}
-use Rattle.sd_topo.specs.declared.Thing.{Thing}
-use Rattle.sd_core.specs.Msg.declared.Flight.{Flight}
-use Rattle.sd_core.specs.Msg.declared.TakeFault.TheVariants as fault
-use Rattle.sd_core.specs.Msg.Books.{has_number, is_given, is_current, is_swept, AreNumbered}
-use Rattle.sd_core.proofs.Msg.Numbered.{numbered_filter}
+use Rattle.sd_plan.specs.declared.topo.Thing.{Thing}
+use Rattle.sd_device.specs.declared.msg.Flight.{Flight}
+use Rattle.sd_device.specs.declared.msg.TakeFault.TheVariants as fault
+use Rattle.sd_device.specs.msg.Books.{has_number, is_given, is_current, is_swept, AreNumbered}
+use Rattle.sd_device.proofs.msg.Numbered.{numbered_filter}
 use Rattle.sd_sched.specs.declared.Event.{Event}
 use Rattle.sd_sched.specs.Events.{reference_of, message_of}
-use Rattle.sd_fleet.specs.History.Things.{failure_of}
-use Rattle.sd_fleet.specs.History.World.{Setting}
-use Rattle.sd_fleet.specs.History.Steps.{Step, flight_count}
-use Rattle.sd_fleet.specs.History.Open.{unspent}
-use Rattle.sd_fleet.specs.History.Accepted.{AreSteps}
-use Rattle.sd_fleet.proofs.History.Among.{Among, first, later}
-use Rattle.sd_fleet.specs.History.flights.Flights.{left_by, without_taken, without_swept, look_in}
-use Rattle.sd_fleet.proofs.History.flights.Finds.{finds, within, past_all, find_passing}
-use Rattle.sd_fleet.proofs.History.flights.Sending.{step_numbered, counted, was_sent}
-use Rattle.sd_fleet.proofs.History.flights.Numbers.{step_given, unspent_given}
-use Rattle.sd_fleet.proofs.History.flights.Looks.{look_is}
-use Rattle.sd_fleet.proofs.History.flights.Leaving.{unspent_after}
+use Rattle.sd_history.specs.Things.{failure_of}
+use Rattle.sd_history.specs.World.{Setting}
+use Rattle.sd_history.specs.Steps.{Step, flight_count}
+use Rattle.sd_history.specs.Open.{unspent}
+use Rattle.sd_history.specs.Accepted.{AreSteps}
+use Rattle.sd_history.proofs.Among.{Among, first, later}
+use Rattle.sd_history.specs.flights.Flights.{left_by, without_taken, without_swept, look_in}
+use Rattle.sd_history.proofs.flights.Finds.{finds, within, past_all, find_passing}
+use Rattle.sd_history.proofs.flights.Sending.{step_numbered, counted, was_sent}
+use Rattle.sd_history.proofs.flights.Numbers.{step_given, unspent_given}
+use Rattle.sd_history.proofs.flights.Looks.{look_is}
+use Rattle.sd_history.proofs.flights.Leaving.{unspent_after}
 
 -- what an event leaves ascends as before
 swept_numbered : (x : Option Thing) (floor top : ℕ) (fs : List Flight) → AreNumbered floor top fs → AreNumbered floor top (without_swept x fs)

@@ -1,18 +1,18 @@
 -- An event that is tried is left out, or it happens.
 use Rattle.std.specs.Prelude.{◌≡◌, ℕ, Bool, List, ◌∷◌, Some, None, refl}
 use Rattle.std.proofs.Common.{ap, sym, ◌∙◌, subst}
-use Rattle.sd_core.specs.declared.registers.Registers.{Registers}
-use Rattle.sd_core.specs.contracts.device.DeviceNode.TheImpl.{ghosts as device}
+use Rattle.sd_device.specs.declared.registers.Registers.{Registers}
+use Rattle.sd_device.specs.contracts.device.DeviceNode.TheImpl.{ghosts as device}
 use Rattle.sd_sched.specs.declared.Event.{Event}
 use Rattle.sd_sched.specs.Events.{reference_of}
-use Rattle.sd_fleet.specs.History.World.{Setting}
-use Rattle.sd_fleet.specs.History.Steps.{Step, act_by, step_of, flight_count}
-use Rattle.sd_fleet.specs.History.Chronicle.{told_by, next_step}
-use Rattle.sd_fleet.specs.History.Refusals.{refusal}
-use Rattle.sd_fleet.specs.History.Nodes.{NodeStep, IsRun, steps_of}
-use Rattle.sd_fleet.specs.History.Accepted.{AreSteps}
-use Rattle.sd_fleet.proofs.History.Devices.{devices_tell}
-use Rattle.sd_fleet.proofs.History.Accepting.{run_is_accepted}
+use Rattle.sd_history.specs.World.{Setting}
+use Rattle.sd_history.specs.Steps.{Step, act_by, step_of, flight_count}
+use Rattle.sd_history.specs.Chronicle.{told_by, next_step}
+use Rattle.sd_history.specs.Refusals.{refusal}
+use Rattle.sd_history.specs.Nodes.{NodeStep, IsRun, steps_of}
+use Rattle.sd_history.specs.Accepted.{AreSteps}
+use Rattle.sd_history.proofs.Devices.{devices_tell}
+use Rattle.sd_history.proofs.Accepting.{run_is_accepted}
 use Rattle.sd_fleet.specs.declared.Outcome.{Outcome}
 use Rattle.sd_fleet.specs.Outcomes.{outcome_of}
 use Rattle.sd_gen.specs.declared.driven.Driven.{Ghosts}

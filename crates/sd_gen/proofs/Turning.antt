@@ -5,7 +5,7 @@ use Rattle.std.proofs.lemmas.Nat.{mod_below}
 use Rattle.rand_pcg.specs.Lcg.{Lcg}
 use Rattle.rand_pcg.specs.Pcg.{pcg32}
 use Rattle.sd_num.specs.Lists.{below}
-use Rattle.sd_fleet.specs.History.World.{Setting}
+use Rattle.sd_history.specs.World.{Setting}
 use Rattle.sd_gen.specs.declared.driven.Driven.{Ghosts}
 use Rattle.sd_gen.specs.declared.driver.Driver.{Driver}
 use Rattle.sd_gen.specs.declared.turns.Turn.{Turn}
@@ -32,12 +32,6 @@ turn_more g first old new turn reference d n less is leads before one setting x 
     let done = one setting (turned turn reference d setting x) (omega (arith, less, known)) (before setting x stands) in
     subst (λ y. StandsFor g new setting y) (sym (each_below_more (try_if_up setting (event_by turn reference x.leads)) d x))
     (subst (λ ls. StandsFor g new setting (try_if_up setting (event_by turn reference ls) d (turned turn reference d setting x))) own done)
-
-pub turn_all : {D : Type 0} (g : Ghosts D) (first new : Driver D) (turn : Turn) (reference n : ℕ) → HasDevices g first n
-    → ((setting : Setting) (x : Draft) → StandsFor g first setting x → StandsFor g new setting (turned turn reference n setting x))
-    → (setting : Setting) (x : Draft) → StandsFor g first setting x → StandsFor g new setting (try_each_up setting (event_by turn reference x.leads) x)
-turn_all g first new turn reference n is done setting x stands =
-    subst (λ (k : ℕ). StandsFor g new setting (turned turn reference k setting x)) (is setting x stands) (done setting x stands)
 
 -- the starts of the devices below a number
 abbrev pub some_started : ℕ → Setting → Draft → Draft

@@ -5,15 +5,15 @@ use Rattle.rand_core.specs.Pcg32Seed.{pcg32_seed}
 use Rattle.rand_core.specs.Steps.{first_words}
 use Rattle.rand_pcg.specs.Lcg.{Lcg, advance}
 use Rattle.rand_pcg.specs.Pcg.{multiplier_64, pcg32, pcg32_of_seed}
-use Rattle.sd_topo.specs.Network.{device_numbers}
-use Rattle.sd_core.specs.Msg.declared.Flight.{Flight}
+use Rattle.sd_plan.specs.topo.Network.{device_numbers}
+use Rattle.sd_device.specs.declared.msg.Flight.{Flight}
 use Rattle.sd_sched.specs.declared.Event.{Event}
 use Rattle.sd_sched.specs.declared.Event.TheVariants.{Start, Tick, Recv, FailDevice, Ask, Stage, Give, Commit, Seal, End}
-use Rattle.sd_fleet.specs.History.World.{Setting, is_up}
-use Rattle.sd_fleet.specs.History.Steps.{Step, seen_of, events_of}
-use Rattle.sd_fleet.specs.History.Chronicle.{next_step}
-use Rattle.sd_fleet.specs.History.Refusals.{refusal}
-use Rattle.sd_fleet.specs.History.declared.ApplyFault.{ApplyFault}
+use Rattle.sd_history.specs.World.{Setting, is_up}
+use Rattle.sd_history.specs.Steps.{Step, seen_of, events_of}
+use Rattle.sd_history.specs.Chronicle.{next_step}
+use Rattle.sd_history.specs.Refusals.{refusal}
+use Rattle.sd_history.specs.declared.ApplyFault.{ApplyFault}
 use Rattle.sd_gen.specs.declared.arrivals.Arrival.{Arrival}
 use Rattle.sd_gen.specs.arrivals.Waiting.{next_by, without}
 
@@ -23,11 +23,11 @@ use Rattle.sd_gen.specs.arrivals.Waiting.{next_by, without}
 abbrev pub seeded : (number : ℕ) → Lcg
 seeded number = pcg32_of_seed (pcg32_seed 16 number)
 
--- the word that is drawn next, and the generator behind it
+-- the word that is drawn next, and the generator after it
 abbrev pub word_of : Lcg → ℕ
 word_of g = (pcg32 g).0
 
--- the generator behind the word that is drawn next
+-- the generator after the word that is drawn next
 abbrev pub behind_word : Lcg → Lcg
 behind_word g = (pcg32 g).1
 
@@ -179,7 +179,7 @@ module _ (setting : Setting) where
   abbrev pub with_starts : Draft → Draft
   with_starts x = each (λ d y. try (start_of d) y) (device_numbers setting.net) x
 
-  -- the draft after so many rounds
+  -- the draft after this many rounds
   unfoldable pub draft_after : (number k : ℕ) → Draft
   draft_after number zero = with_starts (unstarted number)
   draft_after number (suc k) = round (suc k) (draft_after number k)

@@ -1,13 +1,13 @@
 -- What is driven through a schedule, by the runs of devices for which it stands.
 use Rattle.std.specs.Prelude.{◌≡◌, Bool, true, false, List, ◌∷◌, Some}
-use Rattle.sd_core.specs.declared.registers.Registers.{Registers}
-use Rattle.sd_core.specs.contracts.device.DeviceNode.TheImpl.{ghosts as device}
+use Rattle.sd_device.specs.declared.registers.Registers.{Registers}
+use Rattle.sd_device.specs.contracts.device.DeviceNode.TheImpl.{ghosts as device}
 use Rattle.sd_sched.specs.declared.Event.{Event}
-use Rattle.sd_fleet.specs.History.declared.ApplyFault.{ApplyFault}
-use Rattle.sd_fleet.specs.History.World.{Setting}
-use Rattle.sd_fleet.specs.History.Steps.{events_of}
-use Rattle.sd_fleet.specs.History.Nodes.{NodeStep, IsRun, steps_of}
-use Rattle.sd_fleet.specs.History.Refusals.{refusal}
+use Rattle.sd_history.specs.declared.ApplyFault.{ApplyFault}
+use Rattle.sd_history.specs.World.{Setting}
+use Rattle.sd_history.specs.Steps.{events_of}
+use Rattle.sd_history.specs.Nodes.{NodeStep, IsRun, steps_of}
+use Rattle.sd_history.specs.Refusals.{refusal}
 use Rattle.sd_fleet.specs.declared.Outcome.{Outcome}
 use Rattle.sd_fleet.specs.Outcomes.{outcome_of}
 

@@ -10,3 +10,4 @@ pub mod Receiving
 pub mod Standing
 pub mod arrivals
 pub mod fabric
+pub mod command

@@ -1,7 +1,7 @@
 -- What is found under the number of a message that was just sent.
 use Rattle.std.specs.Prelude.{Result, Ok, Err}
-use Rattle.sd_core.specs.Msg.declared.Flight.{Flight}
-use Rattle.sd_core.specs.Msg.declared.TakeFault.{TakeFault}
+use Rattle.sd_device.specs.declared.msg.Flight.{Flight}
+use Rattle.sd_device.specs.declared.msg.TakeFault.{TakeFault}
 use Rattle.sd_gen.specs.Drafts.{Draft, with_message}
 
 -- a word is drawn for the message that is found

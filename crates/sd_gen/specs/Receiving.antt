@@ -1,7 +1,7 @@
 -- One receipt after the other.
 use Rattle.std.specs.Prelude.{◌≡◌, Bool, true, false, Option, Some, None}
 use Rattle.sd_sched.specs.declared.Event.TheVariants.{Recv}
-use Rattle.sd_fleet.specs.History.World.{Setting}
+use Rattle.sd_history.specs.World.{Setting}
 use Rattle.sd_gen.specs.declared.arrivals.Arrival.{Arrival}
 use Rattle.sd_gen.specs.declared.driven.Driven.{Ghosts}
 use Rattle.sd_gen.specs.declared.driver.Driver.{Driver}

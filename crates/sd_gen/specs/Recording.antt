@@ -1,9 +1,9 @@
 -- For which runs a recording stands.
 use Rattle.std.specs.Prelude.{◌≡◌, reverse}
-use Rattle.sd_core.specs.contracts.device.DeviceNode.TheImpl.{ghosts as device}
-use Rattle.sd_fleet.specs.History.World.{Setting}
-use Rattle.sd_fleet.specs.History.Steps.{events_of}
-use Rattle.sd_fleet.specs.History.Nodes.{steps_of}
+use Rattle.sd_device.specs.contracts.device.DeviceNode.TheImpl.{ghosts as device}
+use Rattle.sd_history.specs.World.{Setting}
+use Rattle.sd_history.specs.Steps.{events_of}
+use Rattle.sd_history.specs.Nodes.{steps_of}
 use Rattle.sd_fleet.specs.Standing as fleets
 use Rattle.sd_gen.specs.declared.recording.Recording.{Recording}
 use Rattle.sd_gen.specs.Driving.{Run}

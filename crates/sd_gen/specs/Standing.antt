@@ -1,10 +1,10 @@
 -- For which draft of a schedule a driver stands.
 use Rattle.std.specs.Prelude.{◌≡◌, ℕ, length}
-use Rattle.sd_topo.specs.Limits.{IsNetwork}
-use Rattle.sd_core.specs.contracts.device.DeviceNode.TheImpl.{ghosts as device}
-use Rattle.sd_fleet.specs.History.World.{Setting}
-use Rattle.sd_fleet.specs.History.Steps.{flight_count}
-use Rattle.sd_fleet.specs.History.Nodes.{IsRun, steps_of}
+use Rattle.sd_plan.specs.topo.Limits.{IsNetwork}
+use Rattle.sd_device.specs.contracts.device.DeviceNode.TheImpl.{ghosts as device}
+use Rattle.sd_history.specs.World.{Setting}
+use Rattle.sd_history.specs.Steps.{flight_count}
+use Rattle.sd_history.specs.Nodes.{IsRun, steps_of}
 use Rattle.sd_gen.specs.arrivals.Standing as arrivals
 use Rattle.sd_gen.specs.declared.driven.Driven.{Ghosts}
 use Rattle.sd_gen.specs.declared.driver.Driver.{Driver}
@@ -31,6 +31,6 @@ StandsFor g driver setting x = StandsTo g driver setting x (flight_count x.steps
 abbrev pub Becomes : {D : Type 0} (g : Ghosts D) → (old new : Driver D) → (Setting → Draft → Draft) → Type 0
 Becomes g old new f = (setting : Setting) (x : Draft) → StandsFor g old setting x → StandsFor g new setting (f setting x)
 
--- it has so many devices
+-- it has this many devices
 abbrev pub HasDevices : {D : Type 0} (g : Ghosts D) → Driver D → ℕ → Type 0
 HasDevices g driver n = (setting : Setting) (x : Draft) → StandsFor g driver setting x → n ≡ length setting.net.devices

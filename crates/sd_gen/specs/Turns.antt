@@ -2,7 +2,7 @@
 use Rattle.std.specs.Prelude.{ℕ, List, slice_index}
 use Rattle.sd_sched.specs.declared.Event.{Event}
 use Rattle.sd_sched.specs.declared.Event.TheVariants.{Tick, Give, Seal, Ask, FailDevice, Stage, Commit, End}
-use Rattle.sd_fleet.specs.History.World.{Setting}
+use Rattle.sd_history.specs.World.{Setting}
 use Rattle.sd_gen.specs.declared.turns.Turn.{Turn}
 use Rattle.sd_gen.specs.declared.turns.Turn.TheVariants as turn
 use Rattle.sd_gen.specs.Drafts.{Draft, counter_by, counter_at, try, try_each_up, receive_until}

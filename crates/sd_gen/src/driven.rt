@@ -1,14 +1,14 @@
 //! What is driven through a schedule, event by event.
 ghost use Rattle.std.specs.Prelude.{List, IsTrue, IfOk};
-ghost use Rattle.sd_core.specs.contracts.device.DeviceNode.TheImpl.{ghosts as device};
-ghost use Rattle.sd_core.specs.declared.registers.Registers.{Registers};
+ghost use Rattle.sd_device.specs.contracts.device.DeviceNode.TheImpl.{ghosts as device};
+ghost use Rattle.sd_device.specs.declared.registers.Registers.{Registers};
 ghost use Rattle.sd_sched.specs.Spelled.{is_within};
-ghost use Rattle.sd_fleet.specs.History.World.{Setting};
-ghost use Rattle.sd_fleet.specs.History.Nodes.{NodeStep};
+ghost use Rattle.sd_history.specs.World.{Setting};
+ghost use Rattle.sd_history.specs.Nodes.{NodeStep};
 ghost use Rattle.sd_fleet.specs.Standing as fleets;
 ghost use Rattle.sd_gen.specs.Driving.{IsOffered};
 
-use sd_core::Device;
+use sd_device::Device;
 use sd_fleet::{Fleet, Outcome};
 use sd_num::NoMemory;
 use sd_sched::Event;

@@ -3,9 +3,9 @@ ghost use Rattle.std.specs.Prelude.{◌≡◌, ◌≤◌, ◌<◌, ◌^◌, ◌%
 ghost use Rattle.rand_core.specs.Steps.{first_words};
 ghost use Rattle.rand_pcg.specs.Lcg.{advance};
 ghost use Rattle.rand_pcg.specs.Pcg.{multiplier_64, pcg32};
-ghost use Rattle.sd_topo.specs.Limits.{IsNetwork};
-ghost use Rattle.sd_fleet.specs.History.World.{Setting, is_up as is_up_seen};
-ghost use Rattle.sd_fleet.specs.History.Steps.{seen_of};
+ghost use Rattle.sd_plan.specs.topo.Limits.{IsNetwork};
+ghost use Rattle.sd_history.specs.World.{Setting, is_up as is_up_seen};
+ghost use Rattle.sd_history.specs.Steps.{seen_of};
 ghost use Rattle.sd_gen.specs.Drafts.{Draft, counter_by, unstarted};
 
 use crate::arrivals::Arrivals;

@@ -1,18 +1,20 @@
-//! Networks and schedules from a number: what the generated case happens over, and what happens.
+//! Networks and schedules from a number: what the generated case happens over, and what happens; and
+//! the command `case` (`command`).
 #![tactic(auto)]
 
 ghost use Rattle.std.specs.Prelude.{◌≡◌, ◌≤◌, ◌<◌, ◌^◌, [], length, reverse, IfOk};
-ghost use Rattle.sd_topo.specs.Limits.{IsNetwork};
-ghost use Rattle.sd_topo.specs.Topologies.{network};
-ghost use Rattle.sd_fleet.specs.FleetState.membership.Plans.{AreSound};
-ghost use Rattle.sd_fleet.specs.History.World.{Setting};
-ghost use Rattle.sd_fleet.specs.History.Chronicle.{IsHistory};
+ghost use Rattle.sd_plan.specs.topo.Limits.{IsNetwork};
+ghost use Rattle.sd_plan.specs.topo.Topologies.{network};
+ghost use Rattle.sd_world.specs.membership.Plans.{AreSound};
+ghost use Rattle.sd_history.specs.World.{Setting};
+ghost use Rattle.sd_history.specs.Chronicle.{IsHistory};
 ghost use Rattle.sd_gen.specs.Drafts.{history_of};
 ghost use Rattle.sd_gen.specs.Schedules.{schedule};
 ghost use Rattle.sd_gen.specs.Driving.{HasHappened};
 
 pub mod arrivals;
 mod asks;
+pub mod command;
 mod driven;
 mod driver;
 pub mod fabric;
@@ -23,16 +25,14 @@ mod recording;
 mod rounds;
 mod turns;
 
-// Handed on to crates above.
 pub use crate::fabric::{fabric_text, fabric_topology};
 pub use driven::Driven;
 use driver::Driver;
 pub use list::EventList;
 use recording::Recording;
-pub use sd_fleet as fleet;
 use sd_num::NoMemory;
 use sd_plan::Plan;
-use sd_topo::Topology;
+use sd_plan::topo::Topology;
 use std::alloc::Global;
 
 /// How many rounds a case has.

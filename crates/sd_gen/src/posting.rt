@@ -1,12 +1,12 @@
 //! One event tried, and the messages that it sends.
 ghost use Rattle.std.specs.Prelude.{◌≡◌, ◌≤◌, ◌<◌, ◌^◌, ℕ, List, ◌∷◌, IsTrue, Ok, OnOk};
-ghost use Rattle.sd_core.specs.Msg.declared.Flight.{Flight};
+ghost use Rattle.sd_device.specs.declared.msg.Flight.{Flight};
 ghost use Rattle.sd_sched.specs.Events.{reference_of};
 ghost use Rattle.sd_sched.specs.Spelled.{is_within};
 ghost use Rattle.sd_fleet.specs.Outcomes.{outcome_of};
-ghost use Rattle.sd_fleet.specs.History.World.{Setting};
-ghost use Rattle.sd_fleet.specs.History.Steps.{Step, flight_count};
-ghost use Rattle.sd_fleet.specs.History.flights.Flights.{look_in};
+ghost use Rattle.sd_history.specs.World.{Setting};
+ghost use Rattle.sd_history.specs.Steps.{Step, flight_count};
+ghost use Rattle.sd_history.specs.flights.Flights.{look_in};
 ghost use Rattle.sd_gen.specs.Drafts.{Draft, each, with_message, try as try_in};
 ghost use Rattle.sd_gen.specs.Posting.{posted};
 

@@ -1,6 +1,6 @@
 //! The receipts of the messages that wait.
 ghost use Rattle.std.specs.Prelude.{◌≡◌, ◌≤◌, ◌^◌, IfOk, OnOk};
-ghost use Rattle.sd_fleet.specs.History.World.{Setting};
+ghost use Rattle.sd_history.specs.World.{Setting};
 ghost use Rattle.sd_gen.specs.arrivals.Waiting.{next_by};
 ghost use Rattle.sd_gen.specs.Drafts.{Draft, receive_until as receive_until_in};
 ghost use Rattle.sd_gen.specs.Receiving.{received};

@@ -1,18 +1,18 @@
 //! Which events of a schedule a fleet accepts.
 ghost use Rattle.std.specs.Prelude.{◌≡◌, ◌≤◌, ◌<◌, ◌^◌, [], length, IfOk};
-ghost use Rattle.sd_topo.specs.Topologies.{network};
-ghost use Rattle.sd_fleet.specs.FleetState.membership.Plans.{AreSound};
-ghost use Rattle.sd_fleet.specs.History.World.{Setting};
+ghost use Rattle.sd_plan.specs.topo.Topologies.{network};
+ghost use Rattle.sd_world.specs.membership.Plans.{AreSound};
+ghost use Rattle.sd_history.specs.World.{Setting};
 ghost use Rattle.sd_gen.specs.Recording.{StandsFor};
 
 use crate::EventList;
 use crate::driven::Driven;
-use sd_core::Device;
+use sd_device::Device;
 use sd_fleet::{ApplyFault, Fleet, Outcome};
 use sd_num::NoMemory;
 use sd_plan::Plan;
+use sd_plan::topo::Topology;
 use sd_sched::Event;
-use sd_topo::Topology;
 use std::alloc::Global;
 
 /// A fleet, and each event that it has accepted.

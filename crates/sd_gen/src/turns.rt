@@ -2,7 +2,7 @@
 ghost use Rattle.std.specs.Prelude.{◌≡◌, ◌≤◌, ◌<◌, ◌^◌, IsTrue, length, nat_eq, OnOk, if◌then◌else◌};
 ghost use Rattle.sd_sched.specs.Events.{reference_of};
 ghost use Rattle.sd_sched.specs.Spelled.{is_within};
-ghost use Rattle.sd_fleet.specs.History.World.{Setting};
+ghost use Rattle.sd_history.specs.World.{Setting};
 ghost use Rattle.sd_gen.specs.Drafts.{Draft, try_if_up as try_if_up_in, try_each_up, with_starts};
 ghost use Rattle.sd_gen.specs.Turns.{event_by};
 

@@ -1,6 +1,6 @@
 -- The steps of every run are accepted, and so is every chronicle of a history.
 use Rattle.std.specs.Prelude.{List, [], ◌∷◌, refl}
-use Rattle.sd_core.specs.declared.node.Node.{Ghosts}
+use Rattle.sd_device.specs.declared.node.Node.{Ghosts}
 use Rattle.sd_sched.specs.declared.Event.{Event}
 use Rattle.sd_history.specs.World.{Setting}
 use Rattle.sd_history.specs.Accepted.{AreSteps}

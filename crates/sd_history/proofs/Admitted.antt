@@ -5,7 +5,7 @@ use Rattle.std.specs.List.{list_all}
 use Rattle.std.proofs.Common.{arith, ◌∙◌, ap}
 use Rattle.std.proofs.lemmas.Bool.{and_parts, and_from, lt-leb}
 use Rattle.std.proofs.lemmas.List.{length-map}
-use Rattle.sd_core.specs.declared.node.Node.{Ghosts}
+use Rattle.sd_device.specs.declared.node.Node.{Ghosts}
 use Rattle.sd_sched.specs.declared.Event.{Event}
 use Rattle.sd_history.specs.declared.ApplyFault.{ApplyFault}
 use Rattle.sd_history.specs.World.{Setting}

@@ -3,20 +3,20 @@
 use Rattle.std.specs.Prelude.{◌≡◌, ℕ, ◌<◌, Bool, true, false, ◌||◌, List, [], ◌∷◌, length, nat_eq, nat_le, Option, Some, None, is_some, option_map, refl, if◌then◌else◌}
 use Rattle.std.proofs.Common.{ap, subst}
 use Rattle.std.proofs.lemmas.Bool.{leb-false, eqb-true}
-use Rattle.sd_sched.specs.Num.Lists.{map_or}
-use Rattle.sd_core.specs.Topo.Network.{rates_of}
-use Rattle.sd_core.specs.Topo.declared.Thing.TheVariants as thing
-use Rattle.sd_core.specs.Plan.Duties.{duty_of}
-use Rattle.sd_core.specs.Calls as calls
-use Rattle.sd_core.specs.Calls.{Making, Past}
-use Rattle.sd_core.specs.Words.{after}
+use Rattle.sd_num.specs.Lists.{map_or}
+use Rattle.sd_plan.specs.topo.Network.{rates_of}
+use Rattle.sd_plan.specs.declared.topo.Thing.TheVariants as thing
+use Rattle.sd_plan.specs.Duties.{duty_of}
+use Rattle.sd_device.specs.Calls as calls
+use Rattle.sd_device.specs.Calls.{Making, Past}
+use Rattle.sd_device.specs.Words.{after}
 use Rattle.sd_sched.specs.declared.Event.{Event}
 use Rattle.sd_sched.specs.declared.Event.TheVariants as event
 use Rattle.sd_sched.specs.Events.{device_of}
 use Rattle.sd_history.specs.World.{Setting, makes, fails, is_up, in_force, epoch_in_force}
 use Rattle.sd_history.specs.Steps.{Act, Makes, Calls, Asks, Passes, Step, seen_of, act_by}
 use Rattle.sd_history.specs.Refusals.{refusal}
-use Rattle.sd_history.specs.Chronicle.{new_past, past_after, chronicle, IsHistory}
+use Rattle.sd_history.specs.Chronicle.{new_past, past_in, past_after, chronicle, IsHistory}
 use Rattle.sd_history.specs.Admitted.{Admits, IsAdmitted}
 use Rattle.sd_history.proofs.Among.{first}
 use Rattle.sd_history.proofs.Admitted.{rule_holds, accepted_is_admitted, history_is_admitted}
@@ -101,23 +101,23 @@ makes_past setting steps (event.Start r m c clock eps) d p makes_ =
     or_left true h = refl
     or_left false h = h
 makes_past setting steps (event.Join r m c clock eps) d p makes_ = made_past m d (calls.Joined (rates_of setting.net m) c clock eps) p makes_
-makes_past setting steps (event.Tick r m c) d p makes_ = cc
-makes_past setting steps (event.Recv r m c n) d p makes_ = cc
-makes_past setting steps (event.Lose r n) d p makes_ = cc
-makes_past setting steps (event.FailDevice r m) d p makes_ = cc
-makes_past setting steps (event.FailLink r l) d p makes_ = cc
-makes_past setting steps (event.Fix r m c clock eps) d p makes_ = cc
-makes_past setting steps (event.Ask r m c) d p makes_ = cc
-makes_past setting steps (event.Stage r) d p makes_ = cc
-makes_past setting steps (event.Give r m) d p makes_ = cc
-makes_past setting steps (event.Commit r m c) d p makes_ = cc
-makes_past setting steps (event.Seal r m) d p makes_ = cc
-makes_past setting steps (event.MendDevice r m) d p makes_ = cc
-makes_past setting steps (event.MendLink r l) d p makes_ = cc
-makes_past setting steps (event.End r) d p makes_ = cc
+makes_past setting steps _ d p makes_ = cc
 
 pub up_by : (m f up : Bool) (p q : Bool) → (m ≡ true → q ≡ true) → (p ≡ true → q ≡ true) → (up ≡ true → p ≡ true)
     → map_or (if m then Some true else if f then Some false else None) up (λ told. told) ≡ true → q ≡ true
 up_by true f up p q making kept rest is = making refl
 up_by false true up p q making kept rest is = cc
 up_by false false up p q making kept rest is = kept (rest is)
+
+-- a device that is up was made, and has a past
+pub up_has_past : (setting : Setting) (history : List Event) (d : ℕ) → is_up (seen_of (chronicle setting history)) d ≡ true
+    → (past : Past) × (past_in (chronicle setting history) d ≡ Some past)
+up_has_past setting history d up = has_some (past_in (chronicle setting history) d) (is_made history up)
+  where
+    is_made : (events : List Event) → is_up (seen_of (chronicle setting events)) d ≡ true → is_some (past_in (chronicle setting events) d) ≡ true
+    is_made [] up' = cc
+    is_made (e ∷ earlier) up' =
+        let steps = chronicle setting earlier in
+        up_by (makes d e) (fails (thing.Device d) e) (is_up (seen_of steps) d) (is_some (past_in steps d))
+        (is_some (past_after (act_by setting steps e) d (past_in steps d)))
+        (makes_past setting steps e d (past_in steps d)) (kept_past (act_by setting steps e) d (past_in steps d)) (is_made earlier) up'

@@ -18,11 +18,10 @@ pub mod Contained
 pub mod Owning
 pub mod Known
 pub mod Parts
+pub mod Readings
+pub mod Exactness
 pub mod Devices
 pub mod Happening
-mod DeviceKind
 mod OtherNodes
 pub mod flights
 pub mod Shared
--- Handed on: what crates above name of those below.
-pub use Rattle.sd_core.proofs as Core

@@ -2,18 +2,18 @@
 use Rattle.std.specs.Prelude.{◌≡◌, ℕ, Bool, true, false, ◌&&◌, nat_eq, Option, Some, None, option_map, option_and_then, refl, if◌then◌else◌}
 use Rattle.std.proofs.Common.{◌∙◌, ap, subst}
 use Rattle.std.proofs.lemmas.Bool.{eqb-true}
-use Rattle.sd_sched.specs.Num.Lists.{map_or}
-use Rattle.sd_core.specs.Topo.Network.{Network, rates_of, bounds_of}
-use Rattle.sd_core.specs.Plan.declared.Hop.{Hop}
-use Rattle.sd_core.specs.Plan.declared.Plan.{Plan}
-use Rattle.sd_core.specs.Plan.declared.Edge.{Edge}
-use Rattle.sd_core.specs.Plan.declared.Duty.{Duty}
-use Rattle.sd_core.specs.Plan.Plans.{primary_of, backup_of}
-use Rattle.sd_core.specs.Plan.Duties.{duty_of, edge_of}
-use Rattle.sd_core.specs.Msg.declared.Message.{Message}
-use Rattle.sd_core.specs.Msg.Stamps.{is_newer}
-use Rattle.sd_core.specs.Calls.{Call, Receive, Transition, Entered, Accepted, Nothing, Past}
-use Rattle.sd_core.specs.Words.{transition_of, after, accepted_over, duty_now, given_now, rates_now, first_rates, accepted_by, over_link, parent_edge, primary_now, backup_now, epoch_now, stamp_now, is_acting, has_moved}
+use Rattle.sd_num.specs.Lists.{map_or}
+use Rattle.sd_plan.specs.topo.Network.{Network, rates_of, bounds_of}
+use Rattle.sd_plan.specs.declared.Hop.{Hop}
+use Rattle.sd_plan.specs.declared.Plan.{Plan}
+use Rattle.sd_plan.specs.declared.Edge.{Edge}
+use Rattle.sd_plan.specs.declared.Duty.{Duty}
+use Rattle.sd_plan.specs.Plans.{primary_of, backup_of}
+use Rattle.sd_plan.specs.Duties.{duty_of, edge_of}
+use Rattle.sd_device.specs.declared.msg.Message.{Message}
+use Rattle.sd_device.specs.msg.Stamps.{is_newer}
+use Rattle.sd_device.specs.Calls.{Call, Receive, Transition, Entered, Accepted, Nothing, Past}
+use Rattle.sd_device.specs.Words.{transition_of, after, accepted_over, duty_now, given_now, rates_now, first_rates, accepted_by, over_link, parent_edge, primary_now, backup_now, epoch_now, stamp_now, is_acting, has_moved}
 use Rattle.sd_history.proofs.Given.{some_is, HasDuties, GivesSuch, duties_after}
 
 pub record OwnEdge (net : Network) (d : ℕ) (edge : Edge) : Type 0 where

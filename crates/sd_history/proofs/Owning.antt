@@ -2,14 +2,14 @@
 use Rattle.std.specs.Prelude.{◌≡◌, ℕ, Bool, true, false, List, [], ◌∷◌, nat_eq, Option, Some, None, option_map, refl, if◌then◌else◌}
 use Rattle.std.proofs.Common.{subst}
 use Rattle.std.proofs.lemmas.Bool.{eqb-true}
-use Rattle.sd_sched.specs.Num.Lists.{map_or}
-use Rattle.sd_core.specs.Topo.Network.{Network}
-use Rattle.sd_core.specs.Plan.declared.Plan.{Plan}
-use Rattle.sd_core.specs.Plan.Duties.{duty_of}
-use Rattle.sd_core.specs.Msg.declared.Flight.{Flight}
-use Rattle.sd_core.specs.Calls as calls
-use Rattle.sd_core.specs.Calls.{Making, Call, Past}
-use Rattle.sd_core.specs.Words.{after}
+use Rattle.sd_num.specs.Lists.{map_or}
+use Rattle.sd_plan.specs.topo.Network.{Network}
+use Rattle.sd_plan.specs.declared.Plan.{Plan}
+use Rattle.sd_plan.specs.Duties.{duty_of}
+use Rattle.sd_device.specs.declared.msg.Flight.{Flight}
+use Rattle.sd_device.specs.Calls as calls
+use Rattle.sd_device.specs.Calls.{Making, Call, Past}
+use Rattle.sd_device.specs.Words.{after}
 use Rattle.sd_sched.specs.declared.Event.{Event}
 use Rattle.sd_sched.specs.declared.Event.TheVariants as event
 use Rattle.sd_history.specs.World.{Setting, in_force, epoch_in_force, staged, staged_epoch}

@@ -6,11 +6,11 @@ use Rattle.std.proofs.Common.{subst, arith, sym, inl, inr, ap, ◌∙◌, cond}
 use Rattle.std.proofs.lemmas.List.Sums.{sum_by-cons}
 use Rattle.sd_sched.specs.declared.Event.{Event}
 use Rattle.sd_sched.specs.Events.{message_of, received, reference_of}
-use Rattle.sd_sched.specs.Num.Lists.{below, follow, map_or}
-use Rattle.sd_core.specs.Msg.declared.Flight.{Flight}
-use Rattle.sd_core.specs.Topo.Network.{Each}
-use Rattle.sd_core.specs.Topo.declared.Thing.TheVariants as thing
-use Rattle.sd_sched.proofs.Num.Shared.{or_first}
+use Rattle.sd_num.specs.Lists.{below, follow, map_or}
+use Rattle.sd_device.specs.declared.msg.Flight.{Flight}
+use Rattle.sd_plan.specs.topo.Network.{Each}
+use Rattle.sd_plan.specs.declared.topo.Thing.TheVariants as thing
+use Rattle.sd_num.proofs.Shared.{or_first}
 use Rattle.sd_history.specs.World.{Setting, Seen, makes, fails, is_up, was_made, epoch_in_force, latest_reference}
 use Rattle.sd_history.specs.Refusals.{unknown_device, unknown_link, time_falls}
 use Rattle.sd_history.specs.Open.{may_be_seen}

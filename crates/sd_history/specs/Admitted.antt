@@ -2,7 +2,7 @@
 -- A history, as a replay accepts it, is one of these with at most 2 ^ 26 events.
 use Rattle.std.specs.Prelude.{Bool, true, false, ◌||◌, not, List, [], ◌∷◌, IsTrue}
 use Rattle.std.specs.List.{list_all}
-use Rattle.sd_core.specs.declared.node.Node.{Ghosts}
+use Rattle.sd_device.specs.declared.node.Node.{Ghosts}
 use Rattle.sd_sched.specs.declared.Event.{Event}
 use Rattle.sd_history.specs.declared.ApplyFault.{ApplyFault}
 use Rattle.sd_history.specs.declared.ApplyFault.TheVariants as fault

@@ -1,9 +1,9 @@
 -- The present life of a device in a history, and what a device tells when it is asked.
 use Rattle.std.specs.Prelude.{ℕ, List, ◌∷◌, nat_eq, Option, Some, None, option_map, if◌then◌else◌, []}
-use Rattle.sd_core.specs.Clock.declared.Report.{Report}
-use Rattle.sd_core.specs.declared.Effect.TheVariants.{Quiet}
-use Rattle.sd_core.specs.Calls as calls
-use Rattle.sd_core.specs.Living.{Life}
+use Rattle.sd_num.specs.declared.clock.Report.{Report}
+use Rattle.sd_device.specs.declared.Effect.TheVariants.{Quiet}
+use Rattle.sd_device.specs.Calls as calls
+use Rattle.sd_device.specs.Living.{Life}
 use Rattle.sd_history.specs.Steps.{Act, Told, Step, Makes, Calls, Asks, Passes}
 
 -- a device that is asked tells this report

@@ -4,11 +4,11 @@
 -- fleet owes its nodes besides (floors, ceilings and heights of their numbers) is no part of a run: refusals and the limits of fields give it.
 -- A node does not say of which plan a given duty is, so a fleet has to know it: it is the plan of the latest give.
 use Rattle.std.specs.Prelude.{◌≡◌, ℕ, List, [], ◌∷◌, map, Option, Some, None, option_and_then, if◌then◌else◌}
-use Rattle.sd_sched.specs.Num.Lists.{same_number, find_map_or}
-use Rattle.sd_core.specs.Clock.declared.Report.{Report}
-use Rattle.sd_core.specs.declared.Effect.{Effect}
-use Rattle.sd_core.specs.declared.node.Node.{Ghosts}
-use Rattle.sd_core.specs.Calls.{Making, Call}
+use Rattle.sd_num.specs.Lists.{same_number, find_map_or}
+use Rattle.sd_num.specs.declared.clock.Report.{Report}
+use Rattle.sd_device.specs.declared.Effect.{Effect}
+use Rattle.sd_device.specs.declared.node.Node.{Ghosts}
+use Rattle.sd_device.specs.Calls.{Making, Call}
 use Rattle.sd_history.specs.World.{Setting}
 use Rattle.sd_history.specs.Steps.{Act, Makes, Calls, Asks, Passes, Answers, Told, tells_nothing, tells_made, tells_called, Step, changed, step_of}
 use Rattle.sd_history.specs.Lives.{tells_report}

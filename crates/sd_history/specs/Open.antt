@@ -1,6 +1,6 @@
 -- Which events nothing that is seen refuses, and which flights are not spent.
 use Rattle.std.specs.Prelude.{ℕ, Bool, not, List, filter, flat_map, reverse, ◌||◌}
-use Rattle.sd_core.specs.Msg.declared.Flight.{Flight}
+use Rattle.sd_device.specs.declared.msg.Flight.{Flight}
 use Rattle.sd_sched.specs.declared.Event.{Event}
 use Rattle.sd_history.specs.World.{Setting, Seen}
 use Rattle.sd_history.specs.Steps.{Step}

@@ -2,16 +2,16 @@
 -- orderly renewal.
 use Rattle.std.specs.Prelude.{ℕ, ◌+◌, ◌-◌, Bool, true, false, ◌&&◌, ◌||◌, not, List, [], ◌∷◌, ◌++◌, length, filter, filter_map, flat_map, map, nat_eq, nat_le, nat_lt, Some, None, is_some, option_map, option_to_list, if◌then◌else◌}
 use Rattle.std.specs.List.{list_any, list_all}
-use Rattle.sd_sched.specs.Num.Lists.{below, has, map_or, same_number, find_map_or, leading}
-use Rattle.sd_core.specs.Topo.Network.{rates_of, delay_of, device_numbers, link_numbers}
-use Rattle.sd_core.specs.Topo.Joined.{joined_within}
-use Rattle.sd_core.specs.Topo.declared.Thing.{Thing}
-use Rattle.sd_core.specs.Topo.declared.Thing.TheVariants as thing
-use Rattle.sd_core.specs.Domain.Domains.{within_one}
-use Rattle.sd_core.specs.Plan.declared.Plan.{Plan}
-use Rattle.sd_core.specs.Plan.Plans.{is_member, members}
-use Rattle.sd_core.specs.Msg.declared.Flight.{Flight}
-use Rattle.sd_core.specs.Msg.declared.Stamp.{Stamp}
+use Rattle.sd_num.specs.Lists.{below, has, map_or, same_number, find_map_or, leading}
+use Rattle.sd_plan.specs.topo.Network.{rates_of, delay_of, device_numbers, link_numbers}
+use Rattle.sd_plan.specs.topo.Joined.{joined_within}
+use Rattle.sd_plan.specs.declared.topo.Thing.{Thing}
+use Rattle.sd_plan.specs.declared.topo.Thing.TheVariants as thing
+use Rattle.sd_plan.specs.domain.Domains.{within_one}
+use Rattle.sd_plan.specs.declared.Plan.{Plan}
+use Rattle.sd_plan.specs.Plans.{is_member, members}
+use Rattle.sd_device.specs.declared.msg.Flight.{Flight}
+use Rattle.sd_device.specs.declared.msg.Stamp.{Stamp}
 use Rattle.sd_sched.specs.Honesty.{sets_true_clock, keeps_reading}
 use Rattle.sd_history.specs.declared.BrokenSet.{BrokenSet}
 use Rattle.sd_sched.specs.Events.{reference_of, device_of, counter_of, started, joined, given, ticked, is_stage, is_commit, is_seal}

@@ -1,10 +1,10 @@
 -- Why an event is refused after a history.
 use Rattle.std.specs.Prelude.{ℕ, ◌^◌, Bool, false, ◌&&◌, not, List, ◌∷◌, length, find, max, nat_eq, nat_le, nat_lt, Option, is_some, option_map, [], ◌||◌}
 use Rattle.std.specs.List.{list_any}
-use Rattle.sd_sched.specs.Num.Lists.{map_or, same_number, leading}
-use Rattle.sd_core.specs.Topo.declared.Thing.TheVariants as thing
-use Rattle.sd_core.specs.Plan.Plans.{is_member}
-use Rattle.sd_core.specs.Msg.declared.Flight.{Flight}
+use Rattle.sd_num.specs.Lists.{map_or, same_number, leading}
+use Rattle.sd_plan.specs.declared.topo.Thing.TheVariants as thing
+use Rattle.sd_plan.specs.Plans.{is_member}
+use Rattle.sd_device.specs.declared.msg.Flight.{Flight}
 use Rattle.sd_sched.specs.declared.Event.{Event}
 use Rattle.sd_history.specs.declared.ApplyFault.{ApplyFault}
 use Rattle.sd_history.specs.declared.ApplyFault.TheVariants as fault

@@ -2,19 +2,19 @@
 -- newest comes first. Nothing here says what kind of device it is: its words are what the devices told.
 use Rattle.std.specs.Prelude.{ℕ, ◌+◌, ◌*◌, Bool, false, ◌&&◌, not, List, ◌∷◌, length, find, filter, flat_map, map, sum_by, nat_eq, nat_le, Option, Some, None, option_map, option_and_then, if◌then◌else◌, []}
 use Rattle.std.specs.List.{list_all}
-use Rattle.sd_sched.specs.Num.Lists.{map_or, same_number, find_map_or}
-use Rattle.sd_core.specs.Topo.Network.{delay_of, rates_of}
-use Rattle.sd_core.specs.Plan.declared.Duty.{Duty}
-use Rattle.sd_core.specs.Plan.declared.End.{End}
-use Rattle.sd_core.specs.Plan.Plans.{members}
-use Rattle.sd_core.specs.Plan.Duties.{duty_of, ends_of}
-use Rattle.sd_core.specs.Clock.declared.Report.{Report}
-use Rattle.sd_core.specs.Msg.declared.Message.{Message}
-use Rattle.sd_core.specs.Msg.declared.Flight.{Flight}
-use Rattle.sd_core.specs.declared.Effect.{Effect}
-use Rattle.sd_core.specs.declared.Effect.TheVariants.{Quiet, Send}
-use Rattle.sd_core.specs.Calls as calls
-use Rattle.sd_core.specs.Calls.{Making, Call}
+use Rattle.sd_num.specs.Lists.{map_or, same_number, find_map_or}
+use Rattle.sd_plan.specs.topo.Network.{delay_of, rates_of}
+use Rattle.sd_plan.specs.declared.Duty.{Duty}
+use Rattle.sd_plan.specs.declared.End.{End}
+use Rattle.sd_plan.specs.Plans.{members}
+use Rattle.sd_plan.specs.Duties.{duty_of, ends_of}
+use Rattle.sd_num.specs.declared.clock.Report.{Report}
+use Rattle.sd_device.specs.declared.msg.Message.{Message}
+use Rattle.sd_device.specs.declared.msg.Flight.{Flight}
+use Rattle.sd_device.specs.declared.Effect.{Effect}
+use Rattle.sd_device.specs.declared.Effect.TheVariants.{Quiet, Send}
+use Rattle.sd_device.specs.Calls as calls
+use Rattle.sd_device.specs.Calls.{Making, Call}
 use Rattle.sd_sched.specs.declared.Event.{Event}
 use Rattle.sd_sched.specs.declared.Event.TheVariants as event
 use Rattle.sd_sched.specs.Events.{reference_of, device_of, received}

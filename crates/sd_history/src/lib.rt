@@ -38,8 +38,8 @@
 //! - The past of a device in a list of steps is that of its calls there, and in a chronicle each
 //!   device answers what the words say of it (`Bridges`).
 //! - A run whose steps tell by the words is the chronicle of its events, which are a history
-//!   (`Tellings`); every run of `Device` is one (`Devices`, `DeviceKind`), and every history has
-//!   such a run (`Happening`).
+//!   (`Tellings`). Every run of an `ExactNode` is one (`Readings`, `Exactness`), so each run of
+//!   `Device` is (`Devices`), and every history has such a run (`Happening`).
 //! - Worked examples that compute: `Rows`, `Windows`, and `OtherNodes` for nodes that are no
 //!   devices, over the schedules of `Base`.
 //!
@@ -48,9 +48,9 @@
 //! - That `is_on_loop`, which takes as many steps as there are devices, is the loop of parents as a
 //!   relation: in `sd_replay`.
 //! - Which flights are on their way, by number, and what an event leaves of them: in
-//!   `sd_history::flights`.
+//!   `crate::flights`.
 //! - That what an onlooker takes for entered is the device's own epoch, over histories: in
-//!   `sd_proof_bound` (`entered_is_own`).
+//!   `sd_bound` (`entered_is_own`).
 #![tactic(auto)]
 
 /// Why an event is refused, the first cause in this order.

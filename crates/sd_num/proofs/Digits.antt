@@ -14,7 +14,7 @@ digit_first : (t : Bool) (i n : ℕ) → t ≡ true → i + cond (not (not t)) (
 digit_first true i n h = omega arith
 digit_first false i n h = cc
 
--- a digit at i, and those behind it
+-- a digit at i, and those after it
 pub leading_digits-drop : (bs : List ℕ) (i : ℕ) → i < length bs → is_digit (get_or bs i 0) ≡ true
     → i + leading_digits (drop i bs) ≡ (i + 1) + leading_digits (drop (i + 1) bs)
 leading_digits-drop bs i h t = rw (add-one, drop-cons bs i 0) (digit_first (is_digit (get_or bs i 0)) i (leading_digits (drop (suc i) bs)) t)
@@ -22,10 +22,6 @@ leading_digits-drop bs i h t = rw (add-one, drop-cons bs i 0) (digit_first (is_d
 other_first : (t : Bool) (n : ℕ) → t ≡ false → cond (not (not t)) (1 + n) 0 ≡ 0
 other_first true n h = cc
 other_first false n h = refl
-
--- a byte at i that is no digit ends them
-pub leading_digits-drop_other : (bs : List ℕ) (i : ℕ) → i < length bs → is_digit (get_or bs i 0) ≡ false → leading_digits (drop i bs) ≡ 0
-leading_digits-drop_other bs i h t = rw (drop-cons bs i 0) (other_first (is_digit (get_or bs i 0)) (leading_digits (drop (suc i) bs)) t)
 
 regroup : (v d p w : ℕ) → v * (p * 10) + (d * p + w) ≡ (v * 10 + d) * p + w
 regroup v d p w = omega arith
@@ -37,7 +33,7 @@ value-drop bs i v h =
     rw (add-one, drop-cons bs i 0, pow-suc 10 (length (drop (suc i) bs)))
     (regroup v (get_or bs i 0 - 48) (10 ^ length (drop (suc i) bs)) (value (drop (suc i) bs)))
 
--- what digits mean with one more behind them
+-- what digits mean with one more after them
 value_push : (bs : List ℕ) (b : ℕ) → value (bs ++ b ∷ []) ≡ value bs * 10 + (b - 48)
 value_push [] b = omega arith
 value_push (c ∷ bs) b =
@@ -46,19 +42,15 @@ value_push (c ∷ bs) b =
     regroup_push : (d p v w : ℕ) → d * (p * 10) + (v * 10 + w) ≡ (d * p + v) * 10 + w
     regroup_push d p v w = omega arith
 
--- what the bytes before a place mean with that at the place behind them
+-- what the bytes before a place mean with that at the place after them
 pub value-take : (bs : List ℕ) (i : ℕ) → i < length bs → value (take (i + 1) bs) ≡ value (take i bs) * 10 + (get_or bs i 0 - 48)
 value-take bs i h = ap value (take_more bs i 0 h) ∙ value_push (take i bs) (get_or bs i 0)
 
--- a digit more behind digits
+-- a digit more after digits
 pub digits-take : (bs : List ℕ) (i : ℕ) → i < length bs → list_all is_digit (take i bs) ≡ true → is_digit (get_or bs i 0) ≡ true
     → list_all is_digit (take (i + 1) bs) ≡ true
 digits-take bs i h all digit = ap (λ (xs : List ℕ). list_all is_digit xs) (take_more bs i 0 h) ∙ list_all-append is_digit (take i bs) (get_or bs i 0 ∷ [])
     ∙ rw (all, digit) refl
-
--- digits up to the end
-pub all_lead : (bs : List ℕ) (i : ℕ) → length bs ≤ i → leading_digits bs ≡ i + leading_digits (drop i bs) → leading_digits bs ≡ i
-all_lead bs i h e = let met : leading_digits bs ≡ i + 0 = rw (drop_all i bs h) at e in omega (arith, met)
 
 -- one digit more is below the next power of ten
 pub digit_more : (v d i : ℕ) → v < 10 ^ i → d < 10 → v * 10 + d < 10 ^ (i + 1)
@@ -69,11 +61,6 @@ pub digits_fit : (v i : ℕ) → i ≤ 18 → v < 10 ^ i → v * 10 + 9 < 2 ^ 64
 digits_fit v i h k =
     let most : 10 ^ i ≤ 10 ^ 18 = pow-le-pow_right (omega arith) h in
     omega (arith, most, k)
-
--- where the first byte that is no digit stands decides
-pub number_at_other : (bs : List ℕ) (i : ℕ) → leading_digits bs ≡ i → i < length bs → number bs ≡ Err (NotDigit i)
-number_at_other [] i e h = absurd (omega arith)
-number_at_other (b ∷ bs) i e h = rw (e, lt-ltb i (length (b ∷ bs)) h) refl
 
 -- of digits alone
 pub number_of_all : (b : ℕ) (bs : List ℕ) → leading_digits (b ∷ bs) ≡ length (b ∷ bs) → number (b ∷ bs) ≡ number_of_digits (b ∷ bs)
@@ -102,12 +89,12 @@ front_below v k w n e =
     let next : 10 ^ k ≡ (10 ^ k - 1) + 1 = omega arith in
     rw (e, next) (product_grows v (10 ^ k - 1) w)
 
--- the first of the digits from a place on, and those behind it
+-- the first of the digits from a place on, and those after it
 pub list_all_first : (p : ℕ → Bool) (bs : List ℕ) (i : ℕ) → i < length bs → list_all p (drop i bs) ≡ true
     → (p (get_or bs i 0) ≡ true) × (list_all p (drop (i + 1) bs) ≡ true)
 list_all_first p bs i h all = rw (add-one i) (and_parts (p (get_or bs i 0)) (list_all p (drop (suc i) bs)) (rw (drop-cons bs i 0) at all))
 
--- behind the last byte nothing is left to count
+-- after the last byte nothing is left to count
 pub value-drop_all : (bs : List ℕ) (i v n : ℕ) → length bs ≤ i → n ≡ v * 10 ^ length (drop i bs) + value (drop i bs) → n ≡ v
 value-drop_all bs i v n h e = let met : n ≡ v * 10 ^ 0 + 0 = rw (drop_all i bs h) at e in omega (arith, met)
 

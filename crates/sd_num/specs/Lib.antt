@@ -4,3 +4,4 @@ pub mod Digits
 pub mod Lists
 pub mod Counts
 pub mod Texts
+pub mod clock

@@ -18,7 +18,7 @@ pub struct Leading {
     pub value: u64,
 }
 
-/// Reads the digits at the front of bytes, up to 19 of them: so many fit a `u64` whatever they are.
+/// Reads the digits at the front of bytes, up to 19 of them: these fit a `u64` whatever they are.
 pub fn leading_number(bytes: &[u8]) -> Leading
     ensures len { result.len ≡ min 19 (leading_digits bytes.now) }
     ensures inside { result.len ≤ length bytes.now }

@@ -1,7 +1,8 @@
-//! Whole picoseconds: decimal numbers, the growth of an uncertainty, what a
-//! counter shows at least and at most, and the correction of a delay.
+//! Whole picoseconds: decimal numbers, the growth of an uncertainty, what a counter shows at least
+//! and at most, the correction of a delay; and estimates of the reference time (`clock`).
 #![tactic(auto)]
 
+pub mod clock;
 mod decimals;
 mod numbers;
 mod search;

@@ -4,7 +4,7 @@ use Rattle.std.proofs.lemmas.Bool.{cases_Bool, cases_eq, or_cases, or_right, eq-
 use Rattle.std.proofs.lemmas.List.Elements.{All-filter, filter_passes}
 use Rattle.sd_num.specs.Lists.{below, map_or}
 use Rattle.sd_num.specs.Counts.{one_if}
-use Rattle.sd_topo.specs.Network.{Network, device_numbers}
+use Rattle.sd_plan.specs.topo.Network.{Network, device_numbers}
 use Rattle.sd_plan.specs.Plans.{primary_of}
 use Rattle.sd_plan.specs.Walks.{on_walk}
 use Rattle.sd_plan.specs.Subtrees.{is_child, children, listed, subtree, IsWithin}

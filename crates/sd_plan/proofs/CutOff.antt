@@ -1,7 +1,7 @@
 -- The cut path of a device is its walk, cut off at the first hop that leads to an end of walks.
 use Rattle.std.specs.Prelude.{◌≡◌, ℕ, zero, suc, Bool, true, false, ◌||◌, List, [], ◌∷◌, Option, None, Some, refl, if◌then◌else◌}
 use Rattle.std.proofs.Common.{ap}
-use Rattle.sd_topo.specs.Network.{Network}
+use Rattle.sd_plan.specs.topo.Network.{Network}
 use Rattle.sd_plan.specs.declared.Hop.{Hop}
 use Rattle.sd_plan.specs.declared.Plan.{Plan}
 use Rattle.sd_plan.specs.Plans.{is_root, is_backup_root, primary_of}

@@ -5,7 +5,7 @@ use Rattle.std.proofs.lemmas.Option.{slice_get-get_or}
 use Rattle.sd_plan.specs.IndexView.{IsSomeBelow}
 use Rattle.std.proofs.lemmas.Bool.{or_cases, or_left, or_right, and_left, and_right, not_from_true, not_from_false, not-true, eqb-true, eq-eqb, ne_eqb, cases_eq, cases_Bool, false_from_ne_true}
 use Rattle.sd_num.specs.Lists.{has, map_or}
-use Rattle.sd_topo.specs.Network.{Network, Each}
+use Rattle.sd_plan.specs.topo.Network.{Network, Each}
 use Rattle.sd_plan.specs.Plans.{is_member, is_root, is_backup_root, primary_of}
 use Rattle.sd_plan.specs.Walks.{hops, walk, epath, path, things_of, on_walk, ends_walks}
 use Rattle.sd_plan.specs.IndexedPlan.{IndexedPlan, IsIndexOf, goes_over, carried_over, has_device, has_link, stands_below, is_cut_before}
@@ -60,7 +60,7 @@ cut_has ends (h ∷ hs) a there =
     by_end after true none = cc
     by_end after false more = after more
 
--- the walk of d comes to the backup root, behind its beginning, before it comes to a
+-- the walk of d comes to the backup root, after its beginning, before it comes to a
 abbrev cut_off : Network → Plan → ℕ → ℕ → Bool
 cut_off net plan d a = not (nat_eq d plan.backup_root) && on_walk net plan d plan.backup_root && not (on_walk net plan a plan.backup_root)
 
@@ -85,7 +85,7 @@ not_cut_at_parent net plan d hop step =
     apart true = refl
     apart false = refl
 
--- a walk is cut behind the parent where that of the parent is
+-- a walk is cut after the parent where that of the parent is
 same_cut : (net : Network) (plan : Plan) → IsForest net plan → (d a : ℕ) (hop : Hop) → IsStep net plan d hop → nat_eq hop.parent plan.backup_root ≡ false
     → cut_off net plan hop.parent a ≡ cut_off net plan d a
 same_cut net plan forest d a hop step apart =

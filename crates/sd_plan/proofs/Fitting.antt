@@ -2,8 +2,8 @@
 use Rattle.std.proofs.Common.{◌≡◌, ◌∙◌, None, ℕ, ◌<◌, List, [], ◌∷◌, Option, Some, refl, sym, ap, subst, arith, length, All}
 use Rattle.std.specs.Prelude.{IfSome}
 use Rattle.std.proofs.lemmas.List.Elements.{All-nil, All-cons}
-use Rattle.sd_topo.specs.Network.{Network}
-use Rattle.sd_topo.proofs.Lists.{each_of}
+use Rattle.sd_plan.specs.topo.Network.{Network}
+use Rattle.sd_plan.proofs.topo.Lists.{each_of}
 use Rattle.sd_plan.specs.Examples.{IsFabric, fabric_plan, hop, row}
 use Rattle.sd_plan.specs.Plans.{Fits, IsHop, IsRow}
 use Rattle.sd_plan.specs.Structure.{structure_breach}

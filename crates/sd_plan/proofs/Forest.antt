@@ -4,7 +4,7 @@ use Rattle.std.specs.List.{list_any}
 use Rattle.std.proofs.lemmas.Bool.{and_parts, or_cases, or_right, eqb-true, eq-eqb, cases_Bool, cases_lt, false_from_ne_true, not-true}
 use Rattle.std.proofs.lemmas.Option.{slice_get_past}
 use Rattle.sd_num.specs.Lists.{has, map_or}
-use Rattle.sd_topo.specs.Network.{Network, joins, link_of}
+use Rattle.sd_plan.specs.topo.Network.{Network, joins, link_of}
 use Rattle.sd_plan.specs.Plans.{Fits, is_member, is_present, is_root, has_row, row_of, primary_of, backup_of}
 use Rattle.sd_plan.specs.Walks.{hops, walk, end_of, devices_of, on_walk}
 use Rattle.sd_plan.specs.Structure.{structure_breach, hop_is_right}
@@ -352,7 +352,7 @@ one_over_link net plan forest l c d first second one two =
         let two = ap (height net plan) also in
         omega arith
 
--- nothing behind an end
+-- nothing after an end
 abbrev pub until : Bool → List Hop → List Hop
 until b hs = elim b [ true ↦ [] | false ↦ hs ]
 

@@ -7,7 +7,7 @@ use Rattle.std.proofs.lemmas.Option.{slice_get_within, slice_get-get_or, get_or_
 use Rattle.sd_num.specs.Lists.{below, has}
 use Rattle.sd_num.proofs.Shared.{part_length}
 use Rattle.sd_num.specs.Counts.{one_if}
-use Rattle.sd_topo.specs.Network.{Network, device_numbers, link_numbers, Each}
+use Rattle.sd_plan.specs.topo.Network.{Network, device_numbers, link_numbers, Each}
 use Rattle.sd_plan.specs.Plans.{Fits, is_member}
 use Rattle.sd_plan.specs.Structure.{structure_breach}
 use Rattle.sd_plan.specs.Walks.{on_walk}

@@ -6,14 +6,6 @@ use Rattle.std.proofs.lemmas.List.{length_push, get_or_read, get_or_append_left,
 use Rattle.std.proofs.lemmas.Slice.{between_is, between_to_end}
 use Rattle.sd_plan.specs.Joining.{part_of, AreJoined}
 
--- of no list there is one offset
-pub joined_none : {A : Type 0} (lists : List (List A)) → AreJoined lists 0 [] (0 ∷ [])
-joined_none lists = record {
-  ordered = record { entries = refl; rising = λ d none. absurd (omega arith); within = λ d none. absurd (omega arith) };
-  last = refl;
-  each = λ d none. absurd (omega arith);
-}
-
 -- a part does not see what is added
 part_before : {A : Type 0} (xs more : List A) (from to : ℕ) → from ≤ to → to ≤ length xs → slice_range (xs ++ more) from to ≡ slice_range xs from to
 part_before xs more from to order within = between_is (xs ++ more) from to ∙ ap (drop from) (take-append-le to xs more within) ∙ sym (between_is xs from to)

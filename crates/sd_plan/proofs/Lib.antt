@@ -18,5 +18,3 @@ mod Below
 pub mod Listing
 mod Indexing
 pub mod Shared
--- Handed on: what crates above name of those below.
-pub use Rattle.sd_topo.proofs as Topo

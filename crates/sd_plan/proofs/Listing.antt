@@ -7,11 +7,11 @@ use Rattle.std.proofs.lemmas.List.Elements.{filter-append}
 use Rattle.std.proofs.lemmas.List.Folds.{find-append}
 use Rattle.sd_num.specs.Lists.{below, has}
 use Rattle.sd_num.proofs.Firsts.{find_below_none}
-use Rattle.sd_topo.specs.Network.{Network, device_numbers, link_numbers, link_of}
-use Rattle.sd_topo.specs.Limits.{IsNetwork}
-use Rattle.sd_topo.specs.Places.{is_end_of}
-use Rattle.sd_topo.specs.declared.LinkEntry.{LinkEntry}
-use Rattle.sd_topo.proofs.Laws.{link_law}
+use Rattle.sd_plan.specs.topo.Network.{Network, device_numbers, link_numbers, link_of}
+use Rattle.sd_plan.specs.topo.Limits.{IsNetwork}
+use Rattle.sd_plan.specs.topo.Places.{is_end_of}
+use Rattle.sd_plan.specs.declared.topo.LinkEntry.{LinkEntry}
+use Rattle.sd_plan.proofs.topo.Laws.{link_law}
 use Rattle.sd_plan.specs.Plans.{Fits, IsHop, is_member, is_present, primary_of}
 use Rattle.sd_plan.specs.IndexedPlan.{goes_over, usable_end, other_end}
 use Rattle.sd_plan.specs.Subtrees.{is_child, children_before, child_below, HasParentBelow}

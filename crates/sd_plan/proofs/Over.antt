@@ -3,9 +3,9 @@ use Rattle.std.proofs.Common.{◌≡◌, ◌≢◌, ℕ, ◌+◌, ◌<◌, Bool,
 use Rattle.std.proofs.lemmas.List.{get_or-replicate, length-replicate}
 use Rattle.std.proofs.lemmas.Bool.{and_parts, or_cases, eqb-true, eq-eqb, ne_eqb, cases_eq, false_from_ne_true}
 use Rattle.sd_num.proofs.Firsts.{find_below_none}
-use Rattle.sd_topo.specs.Network.{Network, joins, link_of, device_numbers}
-use Rattle.sd_topo.specs.Limits.{IsNetwork}
-use Rattle.sd_topo.proofs.Laws.{link_law}
+use Rattle.sd_plan.specs.topo.Network.{Network, joins, link_of, device_numbers}
+use Rattle.sd_plan.specs.topo.Limits.{IsNetwork}
+use Rattle.sd_plan.proofs.topo.Laws.{link_law}
 use Rattle.sd_plan.specs.Plans.{primary_of, backup_of}
 use Rattle.sd_plan.specs.Duties.{leads_to, follows_over}
 use Rattle.sd_plan.specs.Tables.{end_over, ends_before, end_below}

@@ -1,6 +1,6 @@
 -- Paths and downstream ends that were worked out by hand.
 use Rattle.std.specs.Prelude.{◌≡◌, [], ◌∷◌, refl}
-use Rattle.sd_topo.specs.declared.Thing.TheVariants as thing
+use Rattle.sd_plan.specs.declared.topo.Thing.TheVariants as thing
 use Rattle.sd_plan.specs.Walks.{path, epath}
 use Rattle.sd_plan.specs.Behind.{behind_backup_root}
 use Rattle.sd_plan.specs.Duties.{ends_of}

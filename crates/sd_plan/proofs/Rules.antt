@@ -4,8 +4,8 @@ use Rattle.std.specs.Option.{option_or}
 use Rattle.std.specs.List.{slice_get}
 use Rattle.std.proofs.lemmas.Bool.{and_parts, not-true, not-false, eqb-true, ne_eqb}
 use Rattle.sd_num.specs.Lists.{map_or}
-use Rattle.sd_topo.specs.Network.{Network, device_numbers, joins}
-use Rattle.sd_topo.proofs.Laws.{joined_end}
+use Rattle.sd_plan.specs.topo.Network.{Network, device_numbers, joins}
+use Rattle.sd_plan.proofs.topo.Laws.{joined_end}
 use Rattle.sd_plan.specs.Plans.{Fits, IsHop, IsRow, is_member, is_root, has_row, is_present, primary_of, backup_of}
 use Rattle.sd_plan.specs.Structure.{structure_breach, first_failing, roots_breach, row_is_right, hop_is_right, hops_are_right, links_differ, reaches_root, falls_back}
 use Rattle.sd_plan.specs.Tables.{EndsAt}

@@ -3,7 +3,7 @@ use Rattle.std.proofs.Common.{◌≡◌, length, ap, ◌∙◌, subst, Bool, tru
 use Rattle.std.proofs.lemmas.List.{length-map}
 use Rattle.std.specs.Prelude.{ℕ, zero, suc, List, ◌∷◌, Option}
 use Rattle.std.proofs.lemmas.Option.{same_Some}
-use Rattle.sd_topo.specs.Network.{Network, link_numbers, Each}
+use Rattle.sd_plan.specs.topo.Network.{Network, link_numbers, Each}
 use Rattle.sd_plan.specs.IndexedPlan.{IndexedPlan, IsIndexOf, carried_over}
 use Rattle.sd_plan.specs.declared.Plan.{Plan}
 use Rattle.sd_plan.proofs.Numbered.{length-below}

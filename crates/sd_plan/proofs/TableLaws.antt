@@ -1,7 +1,7 @@
 -- What a plan's table has: for those who ask it.
 use Rattle.std.proofs.Common.{◌≡◌, ℕ, ◌<◌, Bool, true, false, length, Some, None, option_map, if◌then◌else◌, refl, ap, ◌∙◌}
 use Rattle.sd_num.specs.Lists.{map_or}
-use Rattle.sd_topo.specs.Network.{Network}
+use Rattle.sd_plan.specs.topo.Network.{Network}
 use Rattle.sd_plan.specs.Plans.{is_member}
 use Rattle.sd_plan.specs.Duties.{duty_of, ends_of}
 use Rattle.sd_plan.specs.Tables.{TableRow, table_of, table_row, row_at, has_row_at}

@@ -37,24 +37,3 @@ walks_on plan (suc n) here hop some other primary =
 -- at the root a walk ends
 pub ends_at_root : (plan : Plan) (left here : ℕ) → is_root plan here ≡ true → end_of here (hops_left plan left here) ≡ here
 ends_at_root plan left here root = subst (λ (c : Bool). end_of here (if c then [] else hops (is_root plan) plan left here) ≡ here) (sym root) refl
-
--- with no hop left it ends
-pub ends_with_none_left : (plan : Plan) (left here : ℕ) → left ≡ 0 → end_of here (hops_left plan left here) ≡ here
-ends_with_none_left plan left here none = subst (λ (n : ℕ). end_of here (hops_left plan n here) ≡ here) (sym none) (by_root (is_root plan here))
-  where
-    by_root : (b : Bool) → end_of here (if b then [] else []) ≡ here
-    by_root true = refl
-    by_root false = refl
-
--- without a row it ends
-pub ends_without_row : (plan : Plan) (left here : ℕ) → primary_of plan here ≡ None → end_of here (hops_left plan left here) ≡ here
-ends_without_row plan zero here none = ends_with_none_left plan 0 here refl
-ends_without_row plan (suc n) here none = by_root (is_root plan here)
-  where
-    nothing : hops (is_root plan) plan (suc n) here ≡ []
-    nothing = subst (λ (f : Option Hop). (elim f
-        [ None ↦ [] | Some h ↦ h ∷ (elim (is_root plan h.parent) [ true ↦ [] | false ↦ hops (is_root plan) plan n h.parent ]) ]) ≡ []) (sym none) refl
-
-    by_root : (b : Bool) → end_of here (if b then [] else hops (is_root plan) plan (suc n) here) ≡ here
-    by_root true = refl
-    by_root false = ap (end_of here) nothing

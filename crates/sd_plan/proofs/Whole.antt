@@ -1,7 +1,7 @@
 -- The rows that the fields of a table stand for.
 use Rattle.std.proofs.Common.{◌≡◌, ℕ, ◌<◌, true, false, List, [], length, map, get_or, Option, Some, None, option_map, is_some, refl, sym, ap, ◌∙◌, arith}
 use Rattle.sd_num.specs.Lists.{below, map_or}
-use Rattle.sd_topo.specs.Network.{Network, device_numbers}
+use Rattle.sd_plan.specs.topo.Network.{Network, device_numbers}
 use Rattle.sd_plan.specs.Duties.{ends_of}
 use Rattle.sd_plan.specs.Joining.{part_of, AreJoined}
 use Rattle.sd_plan.specs.Tables.{TableRow, told_of, table_row, table_of, row_at, has_row_at}

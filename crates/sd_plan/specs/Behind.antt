@@ -1,6 +1,6 @@
 -- Who walks over the backup root.
 use Rattle.std.specs.Prelude.{ℕ, ◌&&◌, not, List, filter}
-use Rattle.sd_topo.specs.Network.{Network}
+use Rattle.sd_plan.specs.topo.Network.{Network}
 use Rattle.sd_plan.specs.Plans.{is_backup_root, members}
 use Rattle.sd_plan.specs.declared.Plan.{Plan}
 use Rattle.sd_plan.specs.Walks.{on_walk}

@@ -1,7 +1,7 @@
 -- What the fields of an index stand for.
 use Rattle.std.specs.Prelude.{ℕ, ◌<◌, length, map, Option, Some, None}
 use Rattle.sd_num.specs.Lists.{below}
-use Rattle.sd_topo.specs.Network.{Each}
+use Rattle.sd_plan.specs.topo.Network.{Each}
 use Rattle.sd_plan.specs.IndexedPlan.{IndexedPlan}
 use Rattle.sd_plan.specs.Joining.{part_of, AreOrdered}
 use Rattle.sd_plan.specs.declared.index.WalkIndex.TheInside.{Inside}

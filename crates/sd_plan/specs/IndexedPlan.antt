@@ -2,11 +2,11 @@
 use Rattle.std.specs.Prelude.{◌≡◌, ℕ, ◌<◌, ◌≤◌, Bool, ◌&&◌, not, List, length, map, filter_map, find, nat_eq, nat_le, nat_lt, slice_get, slice_index_or, Option, Some, None, IsTrue, if◌then◌else◌, false}
 use Rattle.std.specs.List.{list_any}
 use Rattle.sd_num.specs.Lists.{map_or}
-use Rattle.sd_topo.specs.Network.{Network, device_numbers, link_numbers, link_of}
-use Rattle.sd_topo.specs.Places.{is_end_of}
-use Rattle.sd_topo.specs.declared.LinkEntry.{LinkEntry}
-use Rattle.sd_topo.specs.declared.Thing.{Thing}
-use Rattle.sd_topo.specs.declared.Thing.TheVariants as thing
+use Rattle.sd_plan.specs.topo.Network.{Network, device_numbers, link_numbers, link_of}
+use Rattle.sd_plan.specs.topo.Places.{is_end_of}
+use Rattle.sd_plan.specs.declared.topo.LinkEntry.{LinkEntry}
+use Rattle.sd_plan.specs.declared.topo.Thing.{Thing}
+use Rattle.sd_plan.specs.declared.topo.Thing.TheVariants as thing
 use Rattle.sd_plan.specs.Plans.{Fits, is_member, is_present, primary_of}
 use Rattle.sd_plan.specs.Walks as walks
 use Rattle.sd_plan.specs.Structure.{structure_breach}
@@ -39,7 +39,7 @@ is_within span place = nat_le span.from place && nat_lt place span.to
 abbrev pub stands_below : IndexedPlan → ℕ → ℕ → Bool
 stands_below index d a = is_within (span_of index a) (span_of index d).from
 
--- the walk of d comes to the backup root, behind its beginning, before it comes to a
+-- the walk of d comes to the backup root, after its beginning, before it comes to a
 abbrev pub is_cut_before : IndexedPlan → ℕ → ℕ → Bool
 is_cut_before index d a = not (nat_eq d index.backup_root) && stands_below index d index.backup_root && not (stands_below index a index.backup_root)
 

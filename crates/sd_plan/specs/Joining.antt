@@ -5,7 +5,7 @@ use Rattle.std.specs.Prelude.{◌≡◌, ℕ, ◌+◌, ◌<◌, ◌≤◌, List,
 abbrev pub part_of : {A : Type 0} → List A → List ℕ → ℕ → List A
 part_of items offsets d = slice_range items (slice_index_or offsets d 0) (slice_index_or offsets (d + 1) 0)
 
--- offsets of so many parts: they do not fall, and do not exceed the length
+-- offsets of this many parts: they do not fall, and do not exceed the length
 pub record AreOrdered {A : Type 0} (count : ℕ) (items : List A) (offsets : List ℕ) : Type 0 where
   pub entries : length offsets ≡ count + 1
   pub rising : (d : ℕ) → d < count → slice_index_or offsets d 0 ≤ slice_index_or offsets (d + 1) 0

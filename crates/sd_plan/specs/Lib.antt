@@ -14,6 +14,5 @@ pub mod Tables
 pub mod Usable
 pub mod Walks
 pub mod Behind
--- Handed on: what crates above name of those below.
-pub use Rattle.sd_topo.specs as Topo
-pub use Rattle.sd_domain.specs as Domain
+pub mod domain
+pub mod topo

@@ -1,6 +1,6 @@
 -- The rules of structure by name: their numbers, and what each asks of one device.
 use Rattle.std.specs.Prelude.{ℕ, Bool, true}
-use Rattle.sd_topo.specs.Network.{Network}
+use Rattle.sd_plan.specs.topo.Network.{Network}
 use Rattle.sd_plan.specs.Structure.{row_is_right, hops_are_right, links_differ, reaches_root, falls_back}
 use Rattle.sd_plan.specs.declared.Plan.{Plan}
 use Rattle.sd_plan.specs.declared.structure.Rule.{Rule}

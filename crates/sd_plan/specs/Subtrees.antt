@@ -1,7 +1,7 @@
 -- Trees by lists of children: who lies below whom, and where they stand in an order.
 use Rattle.std.specs.Prelude.{◌≡◌, ℕ, zero, suc, ◌<◌, ◌≤◌, Bool, true, false, List, [], ◌∷◌, ◌++◌, length, filter, flat_map, nat_eq, slice_index_or, slice_range, All, IfSome, if◌then◌else◌}
 use Rattle.sd_num.specs.Lists.{below, has, map_or}
-use Rattle.sd_topo.specs.Network.{Network}
+use Rattle.sd_plan.specs.topo.Network.{Network}
 use Rattle.sd_plan.specs.Plans.{primary_of}
 use Rattle.sd_plan.specs.IndexedPlan.{no_span}
 use Rattle.sd_plan.specs.declared.Plan.{Plan}

@@ -1,8 +1,8 @@
 -- The table of a plan: what each member is told, and which ends lie below it.
 use Rattle.std.specs.Prelude.{ℕ, ◌<◌, IsTrue, length, Bool, true, false, List, [], ◌∷◌, map, filter_map, find, nat_eq, ◌&&◌, Option, Some, None, option_map, if◌then◌else◌}
 use Rattle.sd_num.specs.Lists.{below, at_place, map_or}
-use Rattle.sd_topo.specs.Network.{Network, device_numbers, link_of}
-use Rattle.sd_topo.specs.Places.{is_end_of}
+use Rattle.sd_plan.specs.topo.Network.{Network, device_numbers, link_of}
+use Rattle.sd_plan.specs.topo.Places.{is_end_of}
 use Rattle.sd_plan.specs.Plans.{is_member}
 use Rattle.sd_plan.specs.Duties.{duty_of, ends_of, follows_over}
 use Rattle.sd_plan.specs.declared.Plan.{Plan}

@@ -1,7 +1,7 @@
 -- The usable links of devices, a link at a time.
 use Rattle.std.specs.Prelude.{ℕ, ◌&&◌, List, [], ◌∷◌, filter_map, nat_eq, if◌then◌else◌}
 use Rattle.sd_num.specs.Lists.{below}
-use Rattle.sd_topo.specs.Network.{Network}
+use Rattle.sd_plan.specs.topo.Network.{Network}
 use Rattle.sd_plan.specs.Plans.{is_member}
 use Rattle.sd_plan.specs.IndexedPlan.{usable_end}
 use Rattle.sd_plan.specs.declared.Plan.{Plan}

@@ -1,7 +1,7 @@
 //! Walks without walking: who lies below whom, by numbers of the primary tree.
 ghost use Rattle.std.specs.Prelude.{◌≡◌, ◌<◌, ◌&&◌, ◌||◌, nat_eq, ℕ, length, slice_index_or, None, [], IsTrue, not, false, IfOk};
-ghost use Rattle.sd_topo.specs.Network.{Network};
-ghost use Rattle.sd_topo.specs.Topologies.{network};
+ghost use Rattle.sd_plan.specs.topo.Network.{Network};
+ghost use Rattle.sd_plan.specs.topo.Topologies.{network};
 ghost use Rattle.sd_plan.specs.Plans as plans;
 ghost use Rattle.sd_plan.specs.Plans.{Fits, is_member};
 ghost use Rattle.sd_plan.specs.Structure.{structure_breach};
@@ -16,12 +16,12 @@ mod preorder;
 mod usable;
 
 use crate::table::{join_rows, part_of};
+use crate::topo::Topology;
 use crate::{End, Plan};
 use carried::all_carried;
 use children::all_children;
 use preorder::preorder;
 use sd_num::NoMemory;
-use sd_topo::Topology;
 use std::alloc::Global;
 use std::marker::Model;
 use usable::usable_ends;
@@ -128,7 +128,7 @@ impl WalkIndex {
         span.from <= place && place < span.to
     }
 
-    /// Whether the walk of a device comes to the backup root, behind its beginning, before it comes
+    /// Whether the walk of a device comes to the backup root, after its beginning, before it comes
     /// to a device above.
     fn is_cut_before(&self, d: u32, a: u32) -> bool
         requires device { d < length self.now.spans }

@@ -1,11 +1,11 @@
 //! A plan that fits its topology and is well structured, with the index of its walks.
 ghost use Rattle.std.proofs.Props.{props};
-ghost use Rattle.sd_topo.specs.Topologies.{network};
+ghost use Rattle.sd_plan.specs.topo.Topologies.{network};
 ghost use Rattle.sd_plan.specs.Props.{IsRow-prop};
 ghost use Rattle.sd_plan.specs.IndexedPlan.{IsIndexOf};
 
+use crate::topo::Topology;
 use crate::{Plan, WalkIndex};
-use sd_topo::Topology;
 
 /// A topology, a plan of right structure that fits it, and the index of the plan's walks.
 #[derive(Clone, Copy)]

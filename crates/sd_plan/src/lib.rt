@@ -1,6 +1,8 @@
-//! Plans: who follows whom, over which link, and what each device is told.
+//! Networks and plans: topologies (`topo`), fault domains (`domain`), and plans: who follows whom,
+//! over which link, and what each device is told.
 #![tactic(auto)]
 
+pub mod domain;
 mod flags;
 mod hops;
 mod index;
@@ -9,6 +11,7 @@ mod lists;
 mod paths;
 mod structure;
 mod table;
+pub mod topo;
 
 pub use flags::present;
 pub use hops::{backup_of, primary_of};

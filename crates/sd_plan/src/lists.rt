@@ -2,8 +2,8 @@
 ghost use Rattle.std.specs.Prelude.{◌≡◌, ◌++◌, [], ◌∷◌, OnOk, OnErr, IfOk, replicate};
 
 use crate::PlanRow;
+use crate::topo::Thing;
 use sd_num::NoMemory;
-use sd_topo::Thing;
 use std::alloc::Global;
 use std::marker::Model;
 
@@ -73,7 +73,7 @@ pub type RowList = List<Option<PlanRow>>;
 /// Devices and links one after another, as those of a path.
 pub type ThingList = List<Thing>;
 
-/// So many empty lists.
+/// This many empty lists.
 pub fn empty_lists<T: Drop>(alloc: Global, count: u32) -> Result<Vec<List<T>>, NoMemory>
     ensures { IfOk result (λ lists. lists.items ≡ replicate count []) }
 {

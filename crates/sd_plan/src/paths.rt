@@ -1,15 +1,15 @@
 //! Paths along primary parents.
 ghost use Rattle.std.specs.Prelude.{◌≡◌, ◌<◌, ◌++◌, [], ◌∷◌, length, IfOk, OnOk};
-ghost use Rattle.sd_topo.specs.Topologies.{network};
+ghost use Rattle.sd_plan.specs.topo.Topologies.{network};
 ghost use Rattle.sd_plan.specs.Cuts.{ends_at};
 ghost use Rattle.sd_plan.specs.Plans.{Fits};
 ghost use Rattle.sd_plan.specs.Plans as plans;
 ghost use Rattle.sd_plan.specs.Walks as walks;
 
 use crate::hops::primary_of;
+use crate::topo::{Thing, Topology};
 use crate::{Hop, Plan, ThingList};
 use sd_num::NoMemory;
-use sd_topo::{Thing, Topology};
 use std::alloc::Global;
 
 /// Where a path ends.

@@ -6,14 +6,14 @@ ghost use Rattle.sd_plan.specs.Plans.{Fits, IsHop};
 ghost use Rattle.sd_plan.specs.Rules as rules;
 ghost use Rattle.sd_plan.specs.Structure as structure;
 ghost use Rattle.sd_plan.specs.Walks as walks;
-ghost use Rattle.sd_topo.specs.Network as networks;
-ghost use Rattle.sd_topo.specs.Network.{device_numbers};
-ghost use Rattle.sd_topo.specs.Topologies.{network};
+ghost use Rattle.sd_plan.specs.topo.Network as networks;
+ghost use Rattle.sd_plan.specs.topo.Network.{device_numbers};
+ghost use Rattle.sd_plan.specs.topo.Topologies.{network};
 
 use crate::hops::{backup_of, primary_of};
+use crate::topo::Topology;
 use crate::{Hop, Plan};
 use sd_num::contains;
-use sd_topo::Topology;
 
 /// A rule of structure, in the order in which they are asked.
 #[derive(Clone, Copy, Debug, PartialEq, Eq)]

@@ -1,6 +1,6 @@
 //! What a plan tells each member, and what lies below it, looked up by device.
 ghost use Rattle.std.specs.Prelude.{◌≡◌, ◌<◌, length, Some, None, IsTrue, IfOk};
-ghost use Rattle.sd_topo.specs.Topologies.{network};
+ghost use Rattle.sd_plan.specs.topo.Topologies.{network};
 ghost use Rattle.sd_plan.specs.Plans.{Fits};
 ghost use Rattle.sd_plan.specs.Structure.{structure_breach};
 ghost use Rattle.sd_plan.specs.Tables.{table_of, row_at, has_row_at};
@@ -9,12 +9,12 @@ pub(crate) mod duties;
 pub(crate) mod ends;
 mod joined;
 
+use crate::topo::Topology;
 use crate::{Duty, End, Plan};
 use duties::all_duties;
 use ends::all_ends;
 pub(crate) use joined::{join_rows, part_of};
 use sd_num::NoMemory;
-use sd_topo::Topology;
 use std::alloc::Global;
 use std::marker::Model;
 

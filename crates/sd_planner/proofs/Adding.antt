@@ -7,8 +7,8 @@ use Rattle.std.proofs.lemmas.List.{length-replicate, get_or-replicate, get_or_pa
 use Rattle.std.proofs.lemmas.List.Folds.{list_any-append}
 use Rattle.std.proofs.lemmas.Option.{same_Some}
 use Rattle.sd_num.specs.Lists.{below, has}
-use Rattle.sd_topo.specs.Network.{Network}
-use Rattle.sd_topo.specs.Places.{domain_of}
+use Rattle.sd_plan.specs.topo.Network.{Network}
+use Rattle.sd_plan.specs.topo.Places.{domain_of}
 use Rattle.sd_plan.specs.declared.Absent.{Absent}
 use Rattle.sd_plan.specs.declared.Hop.{Hop}
 use Rattle.sd_plan.specs.Walks.{links_of}
@@ -35,82 +35,8 @@ unset n x = by_less (cases_lt x n)
     by_less (inl less) = get_or-replicate n x false false less
     by_less (inr past) = get_or_past (replicate n false) x false (rw (length-replicate n false) past)
 
--- two sets of numbers that were set to true
-pub adds_of : (net : Network) (devices links : List ℕ) (old new : Things) → AreSet devices true old.devices.items new.devices.items
-    → AreSet links true old.links.items new.links.items
-    → AddsAll (has devices) (has links) old new
-adds_of net devices links old new first second =
-    record {
-      device_size = first.size;
-      link_size = second.size;
-      device = λ x. first.each x ∙ flip (has devices x) (is_set old.devices.items x);
-      link = λ x. second.each x ∙ flip (has links x) (is_set old.links.items x);
-    }
-  where
-    flip : (a b : Bool) → (if a then true else b) ≡ (b || a)
-    flip true true = refl
-    flip true false = refl
-    flip false true = refl
-    flip false false = refl
-
--- the flags of no domains
-pub met_none : (net : Network) (others old : Things) → AddsAll (met_device net others 0) (met_link net others 0) old old
-met_none net others old =
-    record {
-      device_size = refl;
-      link_size = refl;
-      device = λ x. sym (or_none (is_set old.devices.items x));
-      link = λ x. sym (or_none (is_set old.links.items x));
-    }
-
 any_more : (test : ℕ → Bool) (n : ℕ) → list_any test (below (n + 1)) ≡ (list_any test (below n) || test n)
 any_more test n = rw add-one (list_any-append test (below n) (n ∷ []) ∙ ap (λ t. list_any test (below n) || t) (or_none (test n)))
-
--- a domain that has nothing of the others
-pub met_same : (net : Network) (others old new : Things) (n : ℕ) → AddsAll (met_device net others n) (met_link net others n) old new
-    → meets net others n ≡ false
-    → AddsAll (met_device net others (n + 1)) (met_link net others (n + 1)) old new
-met_same net others old new n so_far not_met =
-    record {
-      device_size = so_far.device_size;
-      link_size = so_far.link_size;
-      device = λ x.
-          so_far.device x
-          ∙ ap (λ t. is_set old.devices.items x || t)
-          (sym
-          (any_more (λ k. meets net others k && has (domain_of net k).devices x) n
-          ∙ ap (λ t. met_device net others n x || (t && has (domain_of net n).devices x)) not_met ∙ or_none (met_device net others n x)));
-      link = λ x.
-          so_far.link x
-          ∙ ap (λ t. is_set old.links.items x || t)
-          (sym (any_more (λ k. meets net others k && has (domain_of net k).links x) n
-          ∙ ap (λ t. met_link net others n x || (t && has (domain_of net n).links x)) not_met ∙ or_none (met_link net others n x)));
-    }
-
--- a domain that has something of them
-pub met_more : (net : Network) (others old new newer : Things) (n : ℕ) → AddsAll (met_device net others n) (met_link net others n) old new
-    → meets net others n ≡ true
-    → AddsAll (has (domain_of net n).devices) (has (domain_of net n).links) new newer
-    → AddsAll (met_device net others (n + 1)) (met_link net others (n + 1)) old newer
-met_more net others old new newer n so_far met added =
-    record {
-      device_size = added.device_size ∙ so_far.device_size;
-      link_size = added.link_size ∙ so_far.link_size;
-      device = λ x.
-          added.device x
-          ∙ ap (λ t. t || has (domain_of net n).devices x) (so_far.device x)
-          ∙ or_assoc (is_set old.devices.items x) (met_device net others n x) (has (domain_of net n).devices x)
-          ∙ ap (λ t. is_set old.devices.items x || t)
-          (sym (any_more (λ k. meets net others k && has (domain_of net k).devices x) n
-          ∙ ap (λ t. met_device net others n x || (t && has (domain_of net n).devices x)) met));
-      link = λ x.
-          added.link x
-          ∙ ap (λ t. t || has (domain_of net n).links x) (so_far.link x)
-          ∙ or_assoc (is_set old.links.items x) (met_link net others n x) (has (domain_of net n).links x)
-          ∙ ap (λ t. is_set old.links.items x || t)
-          (sym (any_more (λ k. meets net others k && has (domain_of net k).links x) n
-          ∙ ap (λ t. met_link net others n x || (t && has (domain_of net n).links x)) met));
-    }
 
 -- what is seen from a placed device that has a hop
 pub record GoesUp (net : Network) (list : List Placed) (p : Placed) (hop : Hop) : Type 0 where
@@ -158,9 +84,6 @@ pub record IsUnderWay (list : List Placed) (own here : Placed) (old new : Things
       ≡ (is_set old.devices.items x || has (parents_of (way_up list own.device)) x)
   pub link : (x : ℕ)
       → (is_set new.links.items x || has (links_of (way_up list here.device)) x) ≡ (is_set old.links.items x || has (links_of (way_up list own.device)) x)
-
-pub under_way : (list : List Placed) (own : Placed) (old : Things) → placed_at list own.device ≡ Some own → IsUnderWay list own own old old
-under_way list own old found = record { found = found; device_size = refl; link_size = refl; device = λ x. refl; link = λ x. refl }
 
 pub one_hop : (list : List Placed) (own here parent : Placed) (hop : Hop) (old new newer : Things) → IsUnderWay list own here old new
     → AddsAll (λ x. nat_eq x hop.parent) (λ x. nat_eq x hop.link) new newer

@@ -8,7 +8,7 @@ use Rattle.std.proofs.lemmas.List.{append-nil}
 use Rattle.std.proofs.lemmas.List.Elements.{All-append, All-map, All-cons, All-nil, filter-append}
 use Rattle.std.proofs.lemmas.List.Folds.{find-append}
 use Rattle.sd_num.specs.Lists.{below, has}
-use Rattle.sd_topo.specs.Network.{Network, device_numbers, link_numbers, link_of, joins}
+use Rattle.sd_plan.specs.topo.Network.{Network, device_numbers, link_numbers, link_of, joins}
 use Rattle.sd_planner.specs.declared.present.Neighbour.{Neighbour}
 use Rattle.sd_plan.specs.declared.Absent.{Absent}
 use Rattle.sd_plan.proofs.Numbered.{get_or-numbered, length-numbered}
@@ -60,16 +60,6 @@ neighbours_are net absent d =
     (all_passing (λ l. IsNeighbourOf net absent d (neighbour_over y l)) (λ l. is_usable net absent l && joins net l d y) (length net.links) (λ l inside passes.
     let (usable, joined) = and_parts (is_usable net absent l) (joins net l d y) passes in
     record { device = within; link = inside; usable = usable; joined = joined })))
-
--- the neighbours lead to devices
-pub neighbours_within : (net : Network) (absent : Absent)
-    → All (λ list. All (λ neighbour. neighbour.device < length net.devices) list) (all_neighbours net absent)
-unfolding all_neighbours
-neighbours_within net absent =
-    All-map (λ (list : List Neighbour). All (λ (neighbour : Neighbour). neighbour.device < length net.devices) list) (neighbours_of net absent)
-    (device_numbers net)
-    (all_numbers (λ d. All (λ (neighbour : Neighbour). neighbour.device < length net.devices) (neighbours_of net absent d)) (length net.devices) (λ d within.
-    (λ k neighbour inside. (neighbours_are net absent d k neighbour inside).device)))
 
 -- over links
 pub links_within : (net : Network) (absent : Absent) → All (λ list. All (λ neighbour. neighbour.link < length net.links) list) (all_neighbours net absent)

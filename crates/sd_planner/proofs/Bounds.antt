@@ -3,9 +3,9 @@ use Rattle.std.proofs.Common.{◌≡◌, ℕ, suc, ◌+◌, ◌*◌, ◌^◌, �
 use Rattle.std.proofs.Math.Nat.{mul-le-mul_right}
 use Rattle.sd_num.specs.Lists.{greatest}
 use Rattle.sd_num.specs.Numbers.{up, grow}
-use Rattle.sd_topo.specs.Network.{Network, Device, Link, greatest_up, greatest_delay}
-use Rattle.sd_topo.specs.Limits.{IsNetwork, IsRates, IsLink}
-use Rattle.sd_check_root.specs.Timing.{round_gap, silence}
+use Rattle.sd_plan.specs.topo.Network.{Network, Device, Link, greatest_up, greatest_delay}
+use Rattle.sd_plan.specs.topo.Limits.{IsNetwork, IsRates, IsLink}
+use Rattle.sd_checker.specs.check_root.Timing.{round_gap, silence}
 
 grown : (ppm x : ℕ) → ppm * x ≤ 1000000 * x → grow ppm x ≤ x + 1
 grown ppm x less = omega (arith, less)

@@ -9,7 +9,7 @@ use Rattle.std.proofs.lemmas.Option.{same_Some}
 use Rattle.std.proofs.lemmas.List.{take_more}
 use Rattle.std.proofs.lemmas.List.Elements.{All-push}
 use Rattle.sd_num.specs.Lists.{map_or}
-use Rattle.sd_topo.specs.Network.{Network}
+use Rattle.sd_plan.specs.topo.Network.{Network}
 use Rattle.sd_plan.specs.declared.Hop.{Hop}
 use Rattle.sd_planner.specs.declared.present.Neighbour.{Neighbour}
 use Rattle.sd_plan.specs.declared.Absent.{Absent}

@@ -1,9 +1,9 @@
 -- The flags of members and of links.
 use Rattle.std.proofs.Common.{◌≡◌, ℕ, ◌<◌, Bool, false, ◌&&◌, not, List, length, map, get_or, refl, ap, ◌∙◌}
 use Rattle.sd_num.specs.Lists.{has}
-use Rattle.sd_topo.specs.Network.{Network, device_numbers, link_numbers, link_of}
-use Rattle.sd_topo.specs.Limits.{IsNetwork}
-use Rattle.sd_topo.proofs.Laws.{link_law}
+use Rattle.sd_plan.specs.topo.Network.{Network, device_numbers, link_numbers, link_of}
+use Rattle.sd_plan.specs.topo.Limits.{IsNetwork}
+use Rattle.sd_plan.proofs.topo.Laws.{link_law}
 use Rattle.sd_plan.specs.declared.Absent.{Absent}
 use Rattle.sd_plan.proofs.Numbered.{get_or-numbered}
 use Rattle.sd_planner.specs.Usable.{is_usable, takes_part}

@@ -7,8 +7,8 @@ use Rattle.std.proofs.lemmas.List.{length-replicate, get_or-set_same, get_or-set
 use Rattle.std.proofs.lemmas.Option.{slice_get_within}
 use Rattle.sd_num.specs.Lists.{has, map_or}
 use Rattle.sd_num.proofs.Shared.{any_same}
-use Rattle.sd_topo.specs.Network.{Network, Each}
-use Rattle.sd_topo.specs.Limits.{IsNetwork}
+use Rattle.sd_plan.specs.topo.Network.{Network, Each}
+use Rattle.sd_plan.specs.topo.Limits.{IsNetwork}
 use Rattle.sd_plan.specs.declared.Absent.{Absent}
 use Rattle.sd_plan.specs.Walks.{devices_of, links_of}
 use Rattle.sd_planner.specs.Usable.{takes_part}

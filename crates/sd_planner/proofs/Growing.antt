@@ -9,8 +9,8 @@ use Rattle.std.proofs.lemmas.Map.Steps.{length-le_from_distinct_below}
 use Rattle.std.proofs.lemmas.Map.Keys.{any_passes_from_place}
 use Rattle.sd_num.specs.Lists.{below, map_or}
 use Rattle.sd_num.proofs.Shared.{equal_swap}
-use Rattle.sd_topo.specs.Network.{Network, joins}
-use Rattle.sd_topo.specs.Limits.{IsNetwork}
+use Rattle.sd_plan.specs.topo.Network.{Network, joins}
+use Rattle.sd_plan.specs.topo.Limits.{IsNetwork}
 use Rattle.sd_plan.specs.declared.Hop.{Hop}
 use Rattle.sd_plan.specs.declared.Absent.{Absent}
 use Rattle.sd_plan.proofs.Numbered.{found_passes}
@@ -38,7 +38,7 @@ at_both (y ∷ xs) ys (suc i) x at =
       | inr back ↦ (let (j, same, there) = back in inr (j, omega arith, there))
     ]
 
--- what is taken behind the first list
+-- what is taken after the first list
 take_past : {X : Type 0} (xs ys : List X) (i j : ℕ) → i ≡ length xs + j → take i (xs ++ ys) ≡ xs ++ take j ys
 take_past [] ys i j same = ap (λ n. take n ys) (let equal : i ≡ j = omega arith in equal)
 take_past (x ∷ xs) ys zero j same = absurd (omega arith)

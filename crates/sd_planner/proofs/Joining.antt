@@ -4,10 +4,10 @@ use Rattle.std.specs.List.{list_any}
 use Rattle.std.proofs.lemmas.Bool.{and_parts, ltb-true, lt-ltb, cases_lt}
 use Rattle.std.proofs.lemmas.List.{get_or_past}
 use Rattle.sd_num.specs.Lists.{below, has, map_or}
-use Rattle.sd_topo.specs.Network.{Network, Domain}
-use Rattle.sd_topo.specs.Places.{domain_of, no_domain}
-use Rattle.sd_plan.specs.Domain.Domains.{holds_device, holds_link}
-use Rattle.sd_plan.specs.Domain.declared.DomainId.TheVariants.{Listed}
+use Rattle.sd_plan.specs.topo.Network.{Network, Domain}
+use Rattle.sd_plan.specs.topo.Places.{domain_of, no_domain}
+use Rattle.sd_plan.specs.domain.Domains.{holds_device, holds_link}
+use Rattle.sd_plan.specs.declared.domain.DomainId.TheVariants.{Listed}
 use Rattle.sd_plan.specs.declared.Hop.{Hop}
 use Rattle.sd_plan.specs.Subtrees.{listed}
 use Rattle.sd_planner.specs.Serving.{hits_hop, are_joined}

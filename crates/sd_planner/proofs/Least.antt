@@ -7,9 +7,9 @@ use Rattle.std.proofs.Math.Nat.{mul-le-mul_right, mul-le-mul_left}
 use Rattle.sd_num.specs.Lists.{least, map_or}
 use Rattle.sd_num.specs.Numbers.{low, grow}
 use Rattle.sd_num.specs.declared.Rates.{Rates}
-use Rattle.sd_topo.specs.Network.{Network, Device, rates_of, no_rates}
-use Rattle.sd_topo.specs.Limits.{IsNetwork, IsRates}
-use Rattle.sd_topo.specs.Places.{no_device}
+use Rattle.sd_plan.specs.topo.Network.{Network, Device, rates_of, no_rates}
+use Rattle.sd_plan.specs.topo.Limits.{IsNetwork, IsRates}
+use Rattle.sd_plan.specs.topo.Places.{no_device}
 use Rattle.sd_planner.specs.Greedy.{IsLeastWait}
 
 -- a number divided and rounded up
@@ -92,9 +92,6 @@ pub record IsLeastOf (net : Network) (long count wait : ℕ) : Type 0 where
   pub enough : (x : ℕ) → wait ≤ x → (k : ℕ) → k < count → long ≤ low (rates_of net k) x
   pub least : (x : ℕ) → ((k : ℕ) → k < count → long ≤ low (rates_of net k) x) → wait ≤ x
   pub bound : wait ≤ 2 * (long + 2 ^ 40)
-
-pub least_none : (net : Network) (long : ℕ) → IsLeastOf net long 0 0
-least_none net long = record { enough = λ x wait k within. absurd (omega arith); least = λ x each. omega arith; bound = omega arith }
 
 pub least_more : (net : Network) (long count wait more : ℕ) → IsLeastOf net long count wait → ((x : ℕ) → more ≤ x → long ≤ low (rates_of net count) x)
     → ((x : ℕ) → long ≤ low (rates_of net count) x → more ≤ x)

@@ -41,5 +41,3 @@ mod Bounds
 mod Rows
 mod Fitting
 pub mod Single
--- Handed on: what crates above name of those below.
-pub use Rattle.sd_checker.proofs as Checker

@@ -36,31 +36,3 @@ thing_more lists old more domain things i within inside so_far pushed x k =
     joined false true true = refl
     joined false true false = refl
     joined false false t = refl
-
--- a domain more
-pub domain_more : (f : ℕ → List ℕ) (n : ℕ) (old new : List (List ℕ)) (things : List ℕ) → ListUnder f n old → things ≡ f n
-    → ((x k : ℕ) → has (listed new x) k ≡ (has (listed old x) k || (nat_eq k n && has things x))) → ListUnder f (n + 1) new
-domain_more f n old new things under are added x k =
-    added x k
-    ∙ ap (λ t. t || (nat_eq k n && has things x)) (under x k)
-    ∙ elim (cases_lt k n) [
-      | inl before ↦
-          ap (λ t. (t && has (f k) x) || (nat_eq k n && has things x)) (lt-ltb k n before)
-          ∙ ap (λ t. has (f k) x || (t && has things x)) (ne_eqb k n (λ same. omega arith))
-          ∙ or_none (has (f k) x)
-          ∙ sym (ap (λ t. t && has (f k) x) (lt-ltb k (n + 1) (omega arith)))
-      | inr later ↦
-          ap (λ t. (t && has (f k) x) || (nat_eq k n && has things x)) (le-ltb k n later)
-          ∙ elim (cases_eq k n) [
-            | inl same ↦
-                ap (λ t. t && has things x) (eq-eqb k n same)
-                ∙ ap (λ xs. has xs x) (are ∙ ap f (sym same))
-                ∙ sym (ap (λ t. t && has (f k) x) (lt-ltb k (n + 1) (omega arith)))
-            | inr apart ↦
-                ap (λ t. t && has things x) (ne_eqb k n apart)
-                ∙ sym (ap (λ t. t && has (f k) x) (le-ltb k (n + 1) (past apart later)))
-          ]
-    ]
-  where
-    past : (k ≡ n → ⊥) → n ≤ k → n + 1 ≤ k
-    past apart later = elim (cases_lt n k) [ inl more ↦ omega arith | inr same ↦ absurd (apart (omega arith)) ]

@@ -8,11 +8,11 @@ use Rattle.std.proofs.lemmas.List.Folds.{list_any-append}
 use Rattle.std.proofs.lemmas.Map.Keys.{any_passes_from_place}
 use Rattle.sd_num.specs.Lists.{below, has}
 use Rattle.sd_num.proofs.Shared.{any_same, same_from_both}
-use Rattle.sd_topo.specs.Network.{Network, device_numbers, link_numbers}
-use Rattle.sd_topo.specs.Places.{domain_of}
-use Rattle.sd_plan.specs.Domain.Domains.{domains, holds_device, holds_link, hits}
-use Rattle.sd_plan.specs.Domain.declared.DomainId.{DomainId}
-use Rattle.sd_plan.specs.Domain.declared.DomainId.TheVariants as domain
+use Rattle.sd_plan.specs.topo.Network.{Network, device_numbers, link_numbers}
+use Rattle.sd_plan.specs.topo.Places.{domain_of}
+use Rattle.sd_plan.specs.domain.Domains.{domains, holds_device, holds_link, hits}
+use Rattle.sd_plan.specs.declared.domain.DomainId.{DomainId}
+use Rattle.sd_plan.specs.declared.domain.DomainId.TheVariants as domain
 use Rattle.sd_plan.specs.declared.Hop.{Hop}
 use Rattle.sd_plan.specs.Walks.{things_of, devices_of, links_of}
 use Rattle.sd_plan.proofs.Forest.{or_none}

@@ -2,11 +2,11 @@
 use Rattle.std.proofs.Common.{◌≡◌, ◌≢◌, ℕ, ◌+◌, ◌<◌, ◌⊎◌, inl, inr, Bool, true, false, ◌||◌, ◌&&◌, List, [], ◌∷◌, ◌++◌, length, map, filter_map, get_or, nat_eq, Some, None, if◌then◌else◌, refl, sym, ap, ◌∙◌, subst, append_assoc}
 use Rattle.std.proofs.lemmas.Bool.{cases_eq, eq-eqb, ne_eqb, and_left}
 use Rattle.std.proofs.lemmas.List.{append-nil}
-use Rattle.sd_topo.specs.Network.{Network, device_numbers, link_of}
-use Rattle.sd_topo.specs.Limits.{IsNetwork}
-use Rattle.sd_topo.specs.Places.{is_end_of}
-use Rattle.sd_topo.specs.declared.LinkEntry.{LinkEntry}
-use Rattle.sd_topo.proofs.Laws.{link_law}
+use Rattle.sd_plan.specs.topo.Network.{Network, device_numbers, link_of}
+use Rattle.sd_plan.specs.topo.Limits.{IsNetwork}
+use Rattle.sd_plan.specs.topo.Places.{is_end_of}
+use Rattle.sd_plan.specs.declared.topo.LinkEntry.{LinkEntry}
+use Rattle.sd_plan.proofs.topo.Laws.{link_law}
 use Rattle.sd_plan.specs.IndexedPlan.{other_end}
 use Rattle.sd_planner.specs.declared.present.Neighbour.{Neighbour}
 use Rattle.sd_plan.proofs.Numbered.{filtered_more}

@@ -7,7 +7,7 @@ use Rattle.sd_num.specs.Lists.{has, same_number}
 use Rattle.sd_num.proofs.Places.{has_below, below_has, kept_parts, kept_from}
 use Rattle.sd_num.proofs.Shared.{same_number-some, some-same_number}
 use Rattle.sd_num.proofs.Distinct.{AreDistinct, few}
-use Rattle.sd_topo.specs.Network.{Network, device_numbers}
+use Rattle.sd_plan.specs.topo.Network.{Network, device_numbers}
 use Rattle.sd_plan.specs.declared.Absent.{Absent}
 use Rattle.sd_planner.specs.Usable.{are_neighbours}
 use Rattle.sd_planner.specs.Spreading.{ring}
@@ -105,7 +105,7 @@ module _ (net : Network) (absent : Absent) (source : ℕ) (through : ℕ → Boo
 
   -- Ring after ring there are other devices
 
-  -- devices of so many rings, one of each
+  -- devices of this many rings, one of each
   record OneOfEach (n : ℕ) : Type 0 where
     devices : List ℕ
     count : length devices ≡ suc n

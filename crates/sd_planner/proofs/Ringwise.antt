@@ -8,7 +8,7 @@ use Rattle.std.proofs.lemmas.Option.{same_Some}
 use Rattle.sd_num.specs.Lists.{has, below, map_or, same_number}
 use Rattle.sd_num.proofs.Places.{below_has, has_below}
 use Rattle.sd_num.proofs.Shared.{same_number-some, some-same_number}
-use Rattle.sd_topo.specs.Network.{Network, device_numbers}
+use Rattle.sd_plan.specs.topo.Network.{Network, device_numbers}
 use Rattle.sd_plan.specs.declared.Absent.{Absent}
 use Rattle.sd_planner.specs.Usable.{are_neighbours, neighbours_of}
 use Rattle.sd_planner.specs.declared.placement.Placed.{Placed}
@@ -67,7 +67,7 @@ module _ (net : Network) (absent : Absent) (source : ℕ) (through : ℕ → Boo
       flat_map-append (placed_ring net absent source through depth) (below n) (n ∷ [])
       ∙ ap (λ ps. rings (below n) ++ ps) (append-nil (placed_ring net absent source through depth n))
 
-  -- what stands in a ring is reached in so many steps
+  -- what stands in a ring is reached in this many steps
   ring_reach : (n e : ℕ) → has (ring net absent source through n) e ≡ true → joined net absent through n source e ≡ true
   ring_reach zero e there = elim (or_cases (nat_eq e source) false there) [ inl same ↦ eq-eqb source e (sym (eqb-true e source same)) | inr none ↦ cc ]
   ring_reach (suc n) e there = steps_reach net absent through source e (suc n) (in_ring net absent source through n e there).steps_to

@@ -1,8 +1,8 @@
 -- A greedy plan that was worked out by hand.
 use Rattle.std.specs.Prelude.{◌≡◌, ◌+◌, ◌*◌, [], ◌∷◌, Some, true, false, nat_le, refl}
-use Rattle.sd_topo.specs.Network.{least_low, greatest_up}
+use Rattle.sd_plan.specs.topo.Network.{least_low, greatest_up}
 use Rattle.sd_plan.specs.declared.Absent.{Absent}
-use Rattle.sd_check_root.specs.Timing.{silence}
+use Rattle.sd_checker.specs.check_root.Timing.{silence}
 use Rattle.sd_plan.specs.Examples.{fabric, fabric_rows, hop}
 use Rattle.sd_plan.specs.Plans.{nothing_absent}
 use Rattle.sd_planner.specs.Placing.{backup_root_of, placed}

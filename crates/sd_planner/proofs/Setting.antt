@@ -6,9 +6,6 @@ use Rattle.sd_num.specs.Lists.{has}
 use Rattle.sd_num.proofs.Places.{has_more}
 use Rattle.sd_planner.specs.Flags.{is_set, AreSet}
 
-pub none_set : (value : Bool) (flags : List Bool) → AreSet [] value flags flags
-none_set value flags = record { size = refl; each = λ k. refl }
-
 -- the flag of a number where one number more is set
 written : (t : Bool) (value old : Bool) (new : List Bool) (x k : ℕ) → x < length new → is_set new k ≡ (if t then value else old)
     → is_set (set new x value) k ≡ (if t || nat_eq k x then value else old)

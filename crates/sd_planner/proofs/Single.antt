@@ -1,10 +1,10 @@
 -- The greedy plan is one: two plans that are greedy from the same root are the same plan.
 use Rattle.std.proofs.Common.{◌≡◌, ℕ, ◌+◌, ◌*◌, ◌≤◌, List, Option, sym, ap, ◌∙◌, subst, arith}
-use Rattle.sd_topo.specs.Network.{Network, greatest_up}
+use Rattle.sd_plan.specs.topo.Network.{Network, greatest_up}
 use Rattle.sd_plan.specs.declared.Absent.{Absent}
 use Rattle.sd_plan.specs.declared.Plan.{Plan}
 use Rattle.sd_plan.proofs.Shared.{plan_of}
-use Rattle.sd_check_root.specs.Timing.{silence}
+use Rattle.sd_checker.specs.check_root.Timing.{silence}
 use Rattle.sd_planner.specs.Greedy.{IsGreedy, IsLeastWait}
 
 -- a least wait is one

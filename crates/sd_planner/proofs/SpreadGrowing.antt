@@ -7,7 +7,7 @@ use Rattle.std.proofs.lemmas.Option.{same_Some, slice_get-map}
 use Rattle.sd_num.specs.Lists.{has, below, map_or}
 use Rattle.sd_num.proofs.Places.{below_has, at_has, has_at}
 use Rattle.sd_num.proofs.Distinct.{AreDistinct}
-use Rattle.sd_topo.specs.Network.{Network, joins, link_numbers}
+use Rattle.sd_plan.specs.topo.Network.{Network, joins, link_numbers}
 use Rattle.sd_plan.specs.declared.Hop.{Hop}
 use Rattle.sd_plan.specs.declared.Absent.{Absent}
 use Rattle.sd_planner.specs.Usable.{is_usable, link_between, are_neighbours}

@@ -7,7 +7,7 @@ use Rattle.sd_num.specs.Lists.{has, same_number}
 use Rattle.sd_num.proofs.Places.{below_has}
 use Rattle.sd_num.proofs.Shared.{same_number-some}
 use Rattle.sd_num.proofs.Distinct.{AreDistinct}
-use Rattle.sd_topo.specs.Network.{Network, device_numbers}
+use Rattle.sd_plan.specs.topo.Network.{Network, device_numbers}
 use Rattle.sd_plan.specs.declared.Absent.{Absent}
 use Rattle.sd_planner.specs.Usable.{are_neighbours, neighbours_of}
 use Rattle.sd_planner.specs.declared.placement.Placed.{Placed}

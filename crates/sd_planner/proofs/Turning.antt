@@ -6,7 +6,7 @@ use Rattle.std.proofs.lemmas.List.Folds.{list_any-append}
 use Rattle.sd_num.specs.Lists.{has}
 use Rattle.sd_num.proofs.Shared.{equal_swap, find_same}
 use Rattle.sd_num.proofs.Distinct.{AreDistinct}
-use Rattle.sd_topo.specs.Network.{Network, joins, device_numbers, link_numbers}
+use Rattle.sd_plan.specs.topo.Network.{Network, joins, device_numbers, link_numbers}
 use Rattle.sd_planner.specs.declared.present.Neighbour.{Neighbour}
 use Rattle.sd_plan.specs.declared.Absent.{Absent}
 use Rattle.sd_planner.specs.Usable.{is_usable, links_between, link_between, are_neighbours, neighbours_of}

@@ -1,8 +1,8 @@
 -- The greedy plan, and what the planner answers, are the same in a network with each version.
 use Rattle.std.specs.Prelude.{◌≡◌, ℕ}
 use Rattle.std.proofs.Common.{refl, ◌∙◌}
-use Rattle.sd_topo.specs.Network.{Network}
-use Rattle.sd_topo.proofs.Versions.{with_version}
+use Rattle.sd_plan.specs.topo.Network.{Network}
+use Rattle.sd_plan.proofs.topo.Versions.{with_version}
 use Rattle.sd_plan.specs.declared.Absent.{Absent}
 use Rattle.sd_plan.specs.declared.Plan.{Plan}
 use Rattle.sd_plan.proofs.Versions.{Fits-with_version}

@@ -8,7 +8,7 @@ use Rattle.std.proofs.lemmas.Map.Keys.{any_passes_from_place}
 use Rattle.sd_num.specs.Lists.{below, has, map_or}
 use Rattle.sd_num.proofs.Shared.{equal_swap}
 use Rattle.sd_num.proofs.Firsts.{find_below_none}
-use Rattle.sd_topo.specs.Network.{Network, joins}
+use Rattle.sd_plan.specs.topo.Network.{Network, joins}
 use Rattle.sd_planner.specs.declared.present.Neighbour.{Neighbour}
 use Rattle.sd_plan.specs.declared.Absent.{Absent}
 use Rattle.sd_planner.specs.Usable.{takes_part, neighbours_of}
@@ -216,11 +216,6 @@ waiting_next net absent placed after numbers rest new d known waiting lowest is 
 
 -- Again and again
 
--- where nothing is left all stays
-pub left_none : (net : Network) (absent : Absent) (n : ℕ) (placed : List Placed) → next_left net absent placed ≡ None → with_left net absent n placed ≡ placed
-left_none net absent zero placed none = refl
-left_none net absent (suc n) placed none = ap (λ (o : Option ℕ). map_or o placed (λ d. with_left net absent n (with_device net absent placed d))) none
-
 -- one device after another
 left_more : (net : Network) (absent : Absent) (n : ℕ) (placed : List Placed) (d : ℕ) → next_left net absent placed ≡ Some d
     → with_left net absent (suc n) placed ≡ with_left net absent n (with_device net absent placed d)
@@ -232,7 +227,3 @@ pub left_turn : (net : Network) (absent : Absent) (n i : ℕ) (placed after : Li
 left_turn net absent n i placed after d less is with_it =
     let one : n - i ≡ suc (n - (i + 1)) = omega arith in
     ap (with_left net absent (n - (i + 1))) with_it ∙ sym (left_more net absent (n - (i + 1)) placed d is) ∙ ap (λ k. with_left net absent k placed) (sym one)
-
--- the end
-pub left_end : (net : Network) (absent : Absent) (n i : ℕ) (placed : List Placed) → n ≤ i → with_left net absent (n - i) placed ≡ placed
-left_end net absent n i placed past = let none : n - i ≡ 0 = omega arith in ap (λ k. with_left net absent k placed) none

@@ -5,8 +5,8 @@ use Rattle.std.proofs.Common.{refl, sym, ap, ◌∙◌, subst, arith, inl, inr}
 use Rattle.std.proofs.lemmas.Bool.{and_parts, and_from, or_cases, or_left, or_right, both_ways, cases_lt, eqb-true, eq-eqb}
 use Rattle.sd_num.specs.Lists.{has}
 use Rattle.sd_num.proofs.Places.{has_below, below_has}
-use Rattle.sd_topo.specs.Network.{Network, joins, device_numbers, link_numbers, link_of}
-use Rattle.sd_topo.specs.Joined.{joined_within}
+use Rattle.sd_plan.specs.topo.Network.{Network, joins, device_numbers, link_numbers, link_of}
+use Rattle.sd_plan.specs.topo.Joined.{joined_within}
 use Rattle.sd_plan.specs.declared.Absent.{Absent}
 use Rattle.sd_planner.specs.Usable.{is_usable, are_neighbours}
 use Rattle.sd_planner.specs.Spreading.{steps_from}

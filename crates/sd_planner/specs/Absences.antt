@@ -1,7 +1,7 @@
 -- What a list of things that a plan leaves out meets.
 use Rattle.std.specs.Prelude.{◌&&◌, length, IsTrue}
 use Rattle.sd_num.specs.Lists.{ascends, all_below}
-use Rattle.sd_topo.specs.Network.{Network}
+use Rattle.sd_plan.specs.topo.Network.{Network}
 use Rattle.sd_plan.specs.declared.Absent.{Absent}
 
 -- what is absent is part of the network, each list ascending

@@ -1,7 +1,7 @@
 -- A flag for each number.
 use Rattle.std.specs.Prelude.{◌≡◌, ℕ, ◌<◌, Bool, false, List, length, slice_get, slice_index_or, Some, if◌then◌else◌}
 use Rattle.sd_num.specs.Lists.{has}
-use Rattle.sd_topo.specs.Network.{Network}
+use Rattle.sd_plan.specs.topo.Network.{Network}
 use Rattle.sd_plan.specs.declared.Absent.{Absent}
 use Rattle.sd_planner.specs.declared.placement.Placed.{Placed}
 use Rattle.sd_planner.specs.Trees.{Grows}
@@ -21,7 +21,7 @@ pub record AreOver (devices links : List Bool) (placed : List Placed) (count : �
   pub size : length flags ≡ length devices
   pub each : (i : ℕ) (p : Placed) → i < count → slice_get placed i ≡ Some p → is_set flags p.device ≡ leads_over (is_set devices) (is_set links) placed p.device
 
--- the placed devices grew from a root of some network that has so many devices
+-- the placed devices grew from a root of some network that has this many devices
 pub record HaveGrown (count : ℕ) (order : List Placed) : Type 0 where
   pub net : Network
   pub root : ℕ

@@ -1,9 +1,9 @@
 -- The greedy plan: its rows, and the least waits.
 use Rattle.std.specs.Prelude.{◌≡◌, ℕ, ◌+◌, ◌*◌, ◌≤◌}
-use Rattle.sd_topo.specs.Network.{Network, least_low, greatest_up}
+use Rattle.sd_plan.specs.topo.Network.{Network, least_low, greatest_up}
 use Rattle.sd_plan.specs.declared.Plan.{Plan}
 use Rattle.sd_plan.specs.declared.Absent.{Absent}
-use Rattle.sd_check_root.specs.Timing.{silence}
+use Rattle.sd_checker.specs.check_root.Timing.{silence}
 use Rattle.sd_planner.specs.Placing.{backup_root_of}
 use Rattle.sd_planner.specs.Serving.{greedy_rows}
 

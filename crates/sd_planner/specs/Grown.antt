@@ -1,6 +1,6 @@
 -- What a spreading has placed so far: each device below one that was placed earlier.
 use Rattle.std.specs.Prelude.{◌≡◌, ◌≢◌, ℕ, ◌+◌, ◌<◌, Bool, true, ◌&&◌, List, ◌++◌, length, Some, slice_get, take, IsTrue}
-use Rattle.sd_topo.specs.Network.{Network, Each, joins}
+use Rattle.sd_plan.specs.topo.Network.{Network, Each, joins}
 use Rattle.sd_plan.specs.declared.Hop.{Hop}
 use Rattle.sd_plan.specs.declared.Absent.{Absent}
 use Rattle.sd_planner.specs.Usable.{is_usable, link_between}

@@ -21,5 +21,3 @@ pub mod Surveys
 pub mod Things
 pub mod Greedy
 pub mod Planning
--- Handed on: what crates above name of those below.
-pub use Rattle.sd_checker.specs as Checker

@@ -1,8 +1,8 @@
 -- Which listed domains have a thing.
 use Rattle.std.specs.Prelude.{◌≡◌, ℕ, ◌&&◌, List, [], nat_lt}
 use Rattle.sd_num.specs.Lists.{has}
-use Rattle.sd_topo.specs.Network.{Network}
-use Rattle.sd_topo.specs.Places.{domain_of}
+use Rattle.sd_plan.specs.topo.Network.{Network}
+use Rattle.sd_plan.specs.topo.Places.{domain_of}
 use Rattle.sd_plan.specs.Subtrees.{listed}
 
 -- the lists of domains of each device and of each link

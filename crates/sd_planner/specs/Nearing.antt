@@ -1,7 +1,7 @@
 -- The nearest placed neighbour, as it is found by going over neighbours.
 use Rattle.std.specs.Prelude.{◌≡◌, ℕ, ◌<◌, List, find, nat_eq, Option, Some, None, All, IfSome, IsTrue, if◌then◌else◌}
 use Rattle.sd_num.specs.Lists.{map_or}
-use Rattle.sd_topo.specs.Network.{Each}
+use Rattle.sd_plan.specs.topo.Network.{Each}
 use Rattle.sd_planner.specs.declared.present.Neighbour.{Neighbour}
 use Rattle.sd_planner.specs.declared.placement.Placed.{Placed}
 use Rattle.sd_planner.specs.Spreading.{placed_at}

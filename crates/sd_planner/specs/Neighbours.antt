@@ -1,6 +1,6 @@
 -- The neighbours of all devices.
 use Rattle.std.specs.Prelude.{List, map}
-use Rattle.sd_topo.specs.Network.{Network, device_numbers}
+use Rattle.sd_plan.specs.topo.Network.{Network, device_numbers}
 use Rattle.sd_plan.specs.declared.Absent.{Absent}
 use Rattle.sd_planner.specs.declared.present.Neighbour.{Neighbour}
 use Rattle.sd_planner.specs.Usable.{neighbours_of}

@@ -2,8 +2,8 @@
 use Rattle.std.specs.Prelude.{ℕ, zero, suc, Bool, false, true, ◌&&◌, not, List, ◌∷◌, ◌++◌, length, find, nat_eq, nat_le, nat_lt, Option, None, is_some, option_map, if◌then◌else◌, [], ◌||◌}
 use Rattle.std.specs.List.{list_all}
 use Rattle.sd_num.specs.Lists.{map_or, at_place}
-use Rattle.sd_topo.specs.Network.{Network}
-use Rattle.sd_topo.specs.declared.Side.TheVariants as side
+use Rattle.sd_plan.specs.topo.Network.{Network}
+use Rattle.sd_plan.specs.declared.topo.Side.TheVariants as side
 use Rattle.sd_plan.specs.declared.Absent.{Absent}
 use Rattle.sd_planner.specs.Usable.{takes_part, all_members, are_neighbours}
 use Rattle.sd_planner.specs.declared.placement.Placed.{Placed}

@@ -1,6 +1,6 @@
 -- What the planner answers.
 use Rattle.std.specs.Prelude.{ℕ}
-use Rattle.sd_topo.specs.Network.{Network}
+use Rattle.sd_plan.specs.topo.Network.{Network}
 use Rattle.sd_plan.specs.Plans.{Fits}
 use Rattle.sd_plan.specs.declared.Absent.{Absent}
 use Rattle.sd_checker.specs.Verdicts.{IsVerdict}

@@ -2,8 +2,8 @@
 use Rattle.std.specs.Prelude.{ℕ, zero, suc, ◌+◌, Bool, ◌&&◌, List, ◌∷◌, length, map, find, filter, flat_map, nat_eq, Option, option_map, []}
 use Rattle.std.specs.List.{list_any}
 use Rattle.sd_num.specs.Lists.{below, map_or, same_number}
-use Rattle.sd_topo.specs.Network.{Network, device_numbers}
-use Rattle.sd_topo.specs.Joined.{joined_within}
+use Rattle.sd_plan.specs.topo.Network.{Network, device_numbers}
+use Rattle.sd_plan.specs.topo.Joined.{joined_within}
 use Rattle.sd_plan.specs.declared.Absent.{Absent}
 use Rattle.sd_planner.specs.Usable.{is_usable, link_between, are_neighbours}
 use Rattle.sd_planner.specs.declared.placement.Placed.{Placed}

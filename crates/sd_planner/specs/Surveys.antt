@@ -1,8 +1,8 @@
 -- The words on a survey: all that is asked of while backups are chosen.
 use Rattle.std.specs.Prelude.{◌≡◌, ℕ, ◌<◌, Bool, false, ◌&&◌, not, List, length}
-use Rattle.sd_topo.specs.Network.{Network}
-use Rattle.sd_plan.specs.Domain.Domains.{holds_device}
-use Rattle.sd_plan.specs.Domain.declared.DomainId.TheVariants.{Listed}
+use Rattle.sd_plan.specs.topo.Network.{Network}
+use Rattle.sd_plan.specs.domain.Domains.{holds_device}
+use Rattle.sd_plan.specs.declared.domain.DomainId.TheVariants.{Listed}
 use Rattle.sd_plan.specs.declared.Absent.{Absent}
 use Rattle.sd_plan.specs.declared.Hop.{Hop}
 use Rattle.sd_planner.specs.Views as present

@@ -2,9 +2,9 @@
 use Rattle.std.specs.Prelude.{◌≡◌, ℕ, Bool, false, ◌&&◌, ◌||◌, not, List, length, map, nat_eq, replicate, Some}
 use Rattle.std.specs.List.{list_any}
 use Rattle.sd_num.specs.Lists.{below, has}
-use Rattle.sd_topo.specs.Network.{Network}
-use Rattle.sd_topo.specs.Places.{domain_of}
-use Rattle.sd_plan.specs.Domain.Domains.{domains, holds_device, holds_link, hits}
+use Rattle.sd_plan.specs.topo.Network.{Network}
+use Rattle.sd_plan.specs.topo.Places.{domain_of}
+use Rattle.sd_plan.specs.domain.Domains.{domains, holds_device, holds_link, hits}
 use Rattle.sd_plan.specs.Walks.{things_of, devices_of, links_of}
 use Rattle.sd_plan.specs.declared.Hop.{Hop}
 use Rattle.sd_planner.specs.declared.placement.Placed.{Placed}

@@ -1,6 +1,6 @@
 -- A placing is a tree below its root.
 use Rattle.std.specs.Prelude.{◌≡◌, ◌≢◌, ℕ, ◌+◌, ◌<◌, List, length, Some, None, slice_get, take, IsTrue}
-use Rattle.sd_topo.specs.Network.{Network, Each}
+use Rattle.sd_plan.specs.topo.Network.{Network, Each}
 use Rattle.sd_plan.specs.declared.Absent.{Absent}
 use Rattle.sd_planner.specs.Usable.{takes_part}
 use Rattle.sd_planner.specs.declared.placement.Placed.{Placed}

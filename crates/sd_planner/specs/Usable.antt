@@ -1,7 +1,7 @@
 -- The neighbours of devices over what is left where devices and links are absent.
 use Rattle.std.specs.Prelude.{ℕ, Bool, ◌&&◌, not, List, map, find, filter, flat_map, Option, is_some}
 use Rattle.sd_num.specs.Lists.{has}
-use Rattle.sd_topo.specs.Network.{Network, device_numbers, link_numbers, joins, link_of}
+use Rattle.sd_plan.specs.topo.Network.{Network, device_numbers, link_numbers, joins, link_of}
 use Rattle.sd_plan.specs.declared.Absent.{Absent}
 use Rattle.sd_plan.specs.declared.Hop.{Hop}
 use Rattle.sd_planner.specs.declared.present.Neighbour.{Neighbour}

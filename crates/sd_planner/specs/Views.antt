@@ -1,6 +1,6 @@
 -- The network and the absent list of what is present.
-use Rattle.sd_topo.specs.Network.{Network}
-use Rattle.sd_topo.specs.Topologies.{network}
+use Rattle.sd_plan.specs.topo.Network.{Network}
+use Rattle.sd_plan.specs.topo.Topologies.{network}
 use Rattle.sd_plan.specs.declared.Absent.{Absent}
 use Rattle.sd_planner.specs.declared.present.Present.{Present}
 

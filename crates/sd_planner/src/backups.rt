@@ -1,6 +1,6 @@
 //! The rows of the greedy plan.
 ghost use Rattle.std.specs.Prelude.{◌≡◌, ◌<◌, length, Some, IfOk, OnOk};
-ghost use Rattle.sd_topo.specs.Network.{Each};
+ghost use Rattle.sd_plan.specs.topo.Network.{Each};
 ghost use Rattle.sd_plan.specs.Plans.{IsRow};
 ghost use Rattle.sd_planner.specs.Spreading.{placed_at};
 ghost use Rattle.sd_planner.specs.Views.{net_of, left_out};

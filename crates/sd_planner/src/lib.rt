@@ -20,8 +20,6 @@ pub use placing::place;
 pub use plan::plan_for;
 pub use present::{Neighbour, Present};
 pub use roots::backup_root_of;
-// Handed on to crates above.
-pub use sd_checker as checker;
 use sd_checker::Breach;
 use sd_plan::Plan;
 

@@ -1,6 +1,6 @@
 //! The greedy plan, and what the checker says of it.
 ghost use Rattle.std.specs.Prelude.{◌≡◌, ◌<◌, length, IfOk};
-ghost use Rattle.sd_topo.specs.Topologies.{network};
+ghost use Rattle.sd_plan.specs.topo.Topologies.{network};
 ghost use Rattle.sd_plan.specs.Plans.{Fits};
 ghost use Rattle.sd_planner.specs.Absences.{IsAbsentOf};
 ghost use Rattle.sd_planner.specs.Greedy.{IsGreedy};
@@ -11,8 +11,8 @@ use crate::waits::least_waits;
 use crate::{Planned, Present, backup_root_of, place};
 use sd_checker::{Verdict, check};
 use sd_num::NoMemory;
+use sd_plan::topo::Topology;
 use sd_plan::{Absent, DeviceList, Plan};
-use sd_topo::Topology;
 use std::alloc::Global;
 
 /// A copy of numbers.

@@ -1,7 +1,7 @@
 //! What is present of a topology where devices and links are absent.
 ghost use Rattle.std.specs.Prelude.{◌≡◌, map};
-ghost use Rattle.sd_topo.specs.Network.{device_numbers};
-ghost use Rattle.sd_topo.specs.Topologies.{network};
+ghost use Rattle.sd_plan.specs.topo.Network.{device_numbers};
+ghost use Rattle.sd_plan.specs.topo.Topologies.{network};
 ghost use Rattle.sd_planner.specs.Usable.{takes_part, hop_to};
 ghost use Rattle.sd_planner.specs.Neighbours.{all_neighbours};
 ghost use Rattle.sd_planner.specs.Absences.{IsAbsentOf};
@@ -15,8 +15,8 @@ use joining::neighbours_by_link;
 use links::usable_links;
 use rows::NeighbourRow;
 use sd_num::NoMemory;
+use sd_plan::topo::Topology;
 use sd_plan::{Absent, Hop, present};
-use sd_topo::Topology;
 use std::alloc::Global;
 use turning::neighbours_by_number;
 

@@ -1,14 +1,14 @@
 //! What may be passed on each side.
 ghost use Rattle.std.specs.Prelude.{◌≡◌, ◌<◌, ◌&&◌, not, nat_eq, length, map, false, IfOk};
-ghost use Rattle.sd_topo.specs.Network.{device_numbers};
-ghost use Rattle.sd_topo.specs.Topologies.{network};
+ghost use Rattle.sd_plan.specs.topo.Network.{device_numbers};
+ghost use Rattle.sd_plan.specs.topo.Topologies.{network};
 ghost use Rattle.sd_planner.specs.Views.{net_of, left_out};
 ghost use Rattle.sd_planner.specs.Placing as placing;
 
 use crate::placement::Placement;
 use crate::present::Present;
 use sd_num::NoMemory;
-use sd_topo::{Side, Topology};
+use sd_plan::topo::{Side, Topology};
 use std::alloc::Global;
 
 /// Whether a device may stand on the backup side alone.

@@ -1,15 +1,15 @@
 //! The least waits that meet the timing rules.
 ghost use Rattle.std.specs.Prelude.{◌≡◌, ℕ, ◌≤◌, ◌<◌, ◌+◌, ◌*◌, ◌^◌, max};
 ghost use Rattle.sd_num.specs.Numbers.{low};
-ghost use Rattle.sd_topo.specs.Network.{greatest_up};
-ghost use Rattle.sd_topo.specs.Limits.{IsRates};
-ghost use Rattle.sd_topo.specs.Topologies.{network};
-ghost use Rattle.sd_check_root.specs.Timing.{silence};
+ghost use Rattle.sd_plan.specs.topo.Network.{greatest_up};
+ghost use Rattle.sd_plan.specs.topo.Limits.{IsRates};
+ghost use Rattle.sd_plan.specs.topo.Topologies.{network};
+ghost use Rattle.sd_checker.specs.check_root.Timing.{silence};
 ghost use Rattle.sd_planner.specs.Greedy.{IsLeastWait};
 
-use sd_check_root::{greatest_up, silence_and_tick};
+use sd_checker::check_root::{greatest_up, silence_and_tick};
 use sd_num::Rates;
-use sd_topo::Topology;
+use sd_plan::topo::Topology;
 
 /// A million parts.
 const MILLION: u128 = 1_000_000;

@@ -8,10 +8,10 @@ use Rattle.json.specs.Print.{escape}
 use Rattle.json.proofs.Printed.Strings.{escape_byte_plain}
 use Rattle.serde_json.specs.Written.{compact_text}
 use Rattle.sd_num.specs.Lists.{map_or, at_place}
-use Rattle.sd_topo.specs.Network.{Network, Device, Link, Each, is_name, is_name_byte, name_at, device_names, link_names}
-use Rattle.sd_topo.specs.Limits.{IsNetwork}
+use Rattle.sd_plan.specs.topo.Network.{Network, Device, Link, Each, is_name, is_name_byte, name_at, device_names, link_names}
+use Rattle.sd_plan.specs.topo.Limits.{IsNetwork}
 use Rattle.sd_plantext.specs.Printed.{quoted}
-use Rattle.sd_topo.specs.Network.{device_name, link_name}
+use Rattle.sd_plan.specs.topo.Network.{device_name, link_name}
 use Rattle.sd_plantext.specs.PrintedTree.{device_data, link_data}
 
 -- a byte of a name is no quote, no backslash and no control byte

@@ -10,5 +10,3 @@ pub mod Shape
 pub mod Filled
 pub mod ReadBack
 mod Samples
--- Handed on: what crates above name of those below.
-pub use Rattle.sd_plan.proofs as Plan

@@ -6,12 +6,12 @@ use Rattle.std.proofs.lemmas.List.{append-nil}
 use Rattle.serde_json.specs.Data.{Data, Items, array as array_data, string}
 use Rattle.serde_json.specs.View.{items_of}
 use Rattle.sd_num.specs.Lists.{has, ascends, all_below, map_or, at_place}
-use Rattle.sd_topo.specs.Network.{Network, Device, Link, Each, name_at, device_names, link_names, device_numbers}
-use Rattle.sd_topo.specs.Limits.{IsNetwork, AreDistinct}
-use Rattle.sd_topo.proofs.Ascending.{ascending-itself}
-use Rattle.sd_topo.proofs.Laws.{within_all}
-use Rattle.sd_topo.proofs.Lists.{names_count, each_of}
-use Rattle.sd_topo.proofs.Places.{stands, number_back, rises-ascending, rising_none}
+use Rattle.sd_plan.specs.topo.Network.{Network, Device, Link, Each, name_at, device_names, link_names, device_numbers}
+use Rattle.sd_plan.specs.topo.Limits.{IsNetwork, AreDistinct}
+use Rattle.sd_plan.proofs.topo.Ascending.{ascending-itself}
+use Rattle.sd_plan.proofs.topo.Laws.{within_all}
+use Rattle.sd_plan.proofs.topo.Lists.{names_count, each_of}
+use Rattle.sd_plan.proofs.topo.Places.{stands, number_back, rises-ascending, rising_none}
 use Rattle.sd_plan.specs.declared.Hop.{Hop}
 use Rattle.sd_plan.specs.declared.PlanRow.{PlanRow}
 use Rattle.sd_plan.specs.declared.Plan.{Plan as PlanShown}

@@ -7,8 +7,8 @@ use Rattle.serde_json.specs.View.{items_of}
 use Rattle.std.proofs.Common.{All, IsTrue, ◌&&◌, sym, subst}
 use Rattle.std.proofs.lemmas.Bool.{and_parts}
 use Rattle.sd_num.specs.Lists.{ascends, all_below}
-use Rattle.sd_topo.proofs.Laws.{within_all}
-use Rattle.sd_topo.specs.Network.{Network, device_numbers, name_at, device_names, link_names}
+use Rattle.sd_plan.proofs.topo.Laws.{within_all}
+use Rattle.sd_plan.specs.topo.Network.{Network, device_numbers, name_at, device_names, link_names}
 use Rattle.sd_plan.specs.declared.Hop.{Hop}
 use Rattle.sd_plan.specs.declared.PlanRow.{PlanRow}
 use Rattle.sd_plan.specs.declared.Plan.{Plan as PlanShown}

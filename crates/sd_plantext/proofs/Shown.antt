@@ -6,14 +6,14 @@ use Rattle.json.specs.Print as json
 use Rattle.serde_json.specs.Data.{Data, array, object as object_data, Members, no_members, member}
 use Rattle.serde_json.specs.View.{items_of}
 use Rattle.serde_json.specs.Written.{compact_text, items_text, members_text}
-use Rattle.sd_topo.specs.Network.{Network, device_numbers}
-use Rattle.sd_topo.specs.Limits.{IsNetwork}
+use Rattle.sd_plan.specs.topo.Network.{Network, device_numbers}
+use Rattle.sd_plan.specs.topo.Limits.{IsNetwork}
 use Rattle.sd_plan.specs.declared.Hop.{Hop}
 use Rattle.sd_plan.specs.declared.PlanRow.{PlanRow}
 use Rattle.sd_plan.specs.declared.Plan.{Plan as PlanShown}
 use Rattle.sd_plan.specs.Plans.{row_of}
 use Rattle.sd_plantext.specs.Printed.{quoted, with_key, array as array_text, object, row_text, rows_text, plan_text}
-use Rattle.sd_topo.specs.Network.{device_name, link_name}
+use Rattle.sd_plan.specs.topo.Network.{device_name, link_name}
 use Rattle.sd_plantext.specs.PrintedTree.{count, device_data, link_data, list_data, row_members, row_data, rows_listed, rows_data, plan_members, plan_data}
 use Rattle.sd_plantext.proofs.Escapes.{device_quoted, link_quoted}
 

@@ -9,8 +9,8 @@ use Rattle.std.proofs.lemmas.List.Quantifiers.{position-Some}
 use Rattle.serde_json.specs.Data.{Data, Items, no_items, item}
 use Rattle.serde_json.specs.Find.{as_str}
 use Rattle.sd_num.specs.Lists.{has, ascends, all_below, ascending}
-use Rattle.sd_topo.specs.Network.{Network, device_names, link_names, number_in}
-use Rattle.sd_topo.proofs.Lists.{each_of, ascending_ok}
+use Rattle.sd_plan.specs.topo.Network.{Network, device_names, link_names, number_in}
+use Rattle.sd_plan.proofs.topo.Lists.{each_of, ascending_ok}
 use Rattle.sd_plan.specs.declared.Hop.{Hop}
 use Rattle.sd_plan.specs.declared.PlanRow.{PlanRow}
 use Rattle.sd_plan.specs.declared.Absent.{Absent as Left}

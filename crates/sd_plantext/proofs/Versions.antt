@@ -1,8 +1,8 @@
 -- Plans are read and printed the same over a network with each version.
 use Rattle.std.specs.Prelude.{◌≡◌, ℕ}
 use Rattle.std.proofs.Common.{refl}
-use Rattle.sd_topo.specs.Network.{Network}
-use Rattle.sd_topo.proofs.Versions.{with_version}
+use Rattle.sd_plan.specs.topo.Network.{Network}
+use Rattle.sd_plan.proofs.topo.Versions.{with_version}
 use Rattle.sd_plan.specs.declared.Plan.{Plan}
 use Rattle.sd_plantext.specs.Meaning.{hop_in, backup_in, row_in, device_in, one_more_row, rows_in, absent_in, plan_in, plan_of, absent_of}
 use Rattle.sd_plantext.specs.Printed.{plan_text}

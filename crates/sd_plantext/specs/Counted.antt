@@ -1,6 +1,6 @@
 -- What the reader counts: the names of devices and of links, and the rows that are there.
 use Rattle.std.specs.Prelude.{ℕ, List, Option, sum_by, is_some, if◌then◌else◌}
-use Rattle.sd_topo.specs.Network.{Network, device_names, link_names}
+use Rattle.sd_plan.specs.topo.Network.{Network, device_names, link_names}
 use Rattle.sd_plan.specs.declared.PlanRow.{PlanRow}
 use Rattle.sd_plantext.specs.declared.read.names.Kind.{Kind}
 use Rattle.sd_plantext.specs.declared.read.names.Kind.TheVariants as kinds

@@ -6,5 +6,3 @@ pub mod Reading
 pub mod Counted
 pub mod Printed
 pub mod PrintedTree
--- Handed on: what crates above name of those below.
-pub use Rattle.sd_plan.specs as Plan

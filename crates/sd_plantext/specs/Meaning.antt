@@ -3,7 +3,7 @@ use Rattle.std.specs.Prelude.{ℕ, ◌+◌, ◌^◌, ◌&&◌, Bool, not, nat_le
 use Rattle.serde_json.specs.Data.{Data, Items, no_items, item}
 use Rattle.serde_json.specs.Find.{get, as_null, as_number, as_u64, as_str, as_array, as_object}
 use Rattle.sd_num.specs.Lists.{has, at_place, ascending}
-use Rattle.sd_topo.specs.Network.{Network, device_names, link_names, number_in}
+use Rattle.sd_plan.specs.topo.Network.{Network, device_names, link_names, number_in}
 use Rattle.sd_plan.specs.declared.Hop.{Hop}
 use Rattle.sd_plan.specs.declared.PlanRow.{PlanRow}
 use Rattle.sd_plan.specs.declared.Absent.{Absent as Left}

@@ -1,7 +1,7 @@
 -- How a plan is printed: compact JSON with the keys in byte order, names for numbers, and a newline.
 use Rattle.std.specs.Prelude.{ℕ, List, [], ◌∷◌, ◌++◌, map, filter_map, Option, Some, None, option_map, codes, decimal}
 use Rattle.std.specs.List.{join_with_byte}
-use Rattle.sd_topo.specs.Network.{Network, device_name, link_name, device_numbers}
+use Rattle.sd_plan.specs.topo.Network.{Network, device_name, link_name, device_numbers}
 use Rattle.sd_plan.specs.declared.Hop.{Hop}
 use Rattle.sd_plan.specs.declared.PlanRow.{PlanRow}
 use Rattle.sd_plan.specs.declared.Plan.{Plan}

@@ -29,7 +29,7 @@ pub enum PlanKey {
 }
 
 impl PlanKey {
-    /// The key as it is printed, behind the array that it belongs to.
+    /// The key as it is printed, after the array that it belongs to.
     pub fn word(self) -> &'static str
         ensures { result.now ≡ printed self }
     {

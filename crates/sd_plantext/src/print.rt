@@ -1,8 +1,8 @@
 //! Printing a plan: a value, and its text.
 ghost use Rattle.std.specs.Prelude.{◌≡◌, ◌<◌, ◌++◌, [], ◌∷◌, map, None, Some, Ok, IfOk, OnOk, length};
 ghost use Rattle.serde_json.specs.View.{view};
-ghost use Rattle.sd_topo.specs.Network.{device_numbers};
-ghost use Rattle.sd_topo.specs.Topologies.{network};
+ghost use Rattle.sd_plan.specs.topo.Network.{device_numbers};
+ghost use Rattle.sd_plan.specs.topo.Topologies.{network};
 ghost use Rattle.sd_plan.specs.Plans.{Fits, IsHop, IsRow};
 ghost use Rattle.sd_plantext.specs.Meaning.{plan_of};
 ghost use Rattle.sd_plantext.specs.Reading.{tree_of};
@@ -12,8 +12,8 @@ ghost use Rattle.sd_plantext.specs.PrintedTree.{device_data, link_data, list_dat
 mod values;
 
 use sd_num::NoMemory;
+use sd_plan::topo::Topology;
 use sd_plan::{Hop, Plan, PlanRow};
-use sd_topo::Topology;
 use serde_json::{Value, json};
 use std::alloc::{AllocError, Global};
 use values::{devices_value, line_of, links_value};

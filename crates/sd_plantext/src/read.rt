@@ -2,7 +2,7 @@
 ghost use Rattle.std.specs.Prelude.{◌≡◌, ◌≢◌, Some, None, ◌&&◌, IsTrue, length, IfOk, IfErr};
 ghost use Rattle.serde_json.specs.View.{view};
 ghost use Rattle.sd_num.specs.Lists.{ascends, all_below};
-ghost use Rattle.sd_topo.specs.Topologies.{network};
+ghost use Rattle.sd_plan.specs.topo.Topologies.{network};
 ghost use Rattle.sd_plan.specs.Plans.{Fits};
 ghost use Rattle.sd_plantext.specs.Gives.{Gives};
 ghost use Rattle.sd_plantext.specs.Meaning.{absent_in, plan_in, plan_of, absent_of};
@@ -15,8 +15,8 @@ mod values;
 use crate::fault::{PlanFault, PlanKey, PlanPlace};
 use names::{Kind, named_at, names_at};
 use rows::rows_at;
+use sd_plan::topo::Topology;
 use sd_plan::{Absent, Plan};
-use sd_topo::Topology;
 use serde_json::Value;
 use std::alloc::Global;
 use values::{object_of, version_at, wait_at};

@@ -3,12 +3,12 @@ use Rattle.std.proofs.Common.{◌≡◌, ◌^◌, ◌<◌, ◌≤◌, Bool, true
 use Rattle.std.specs.Prelude.{IfSome}
 use Rattle.std.proofs.lemmas.Bool.{leb-false}
 use Rattle.sd_num.specs.Lists.{map_or}
-use Rattle.sd_topo.specs.Network.{Network}
+use Rattle.sd_plan.specs.topo.Network.{Network}
 use Rattle.sd_sched.specs.Events.{is_commit}
 use Rattle.sd_history.specs.World.{Setting, Seen, window, window_is_open, has_commit, epoch_in_force}
-use Rattle.sd_fleet_state.proofs.world.Answers.{named_stands}
-use Rattle.sd_premise_loss.proofs.rounds.InOrder.{device_known, link_known}
-use Rattle.sd_premise_renewal.proofs.Allowed.{is_allowed, commit_opened}
+use Rattle.sd_world.proofs.world.Answers.{named_stands}
+use Rattle.sd_monitors.proofs.loss.rounds.InOrder.{device_known, link_known}
+use Rattle.sd_monitors.proofs.renewal.Allowed.{is_allowed, commit_opened}
 use Rattle.sd_premise.specs.Order.{CanFollow}
 use Rattle.sd_premise.specs.Standing.{StandsFor, CanObserve, room_of}
 use Rattle.sd_premise.specs.declared.premises.Premises.{Premises}

@@ -4,14 +4,14 @@ use Rattle.std.specs.Prelude.{Contains, if◌then◌else◌}
 use Rattle.std.proofs.lemmas.Bool.{le-leb}
 use Rattle.std.proofs.lemmas.List.Elements.{Contains-append_cases, All-contains}
 use Rattle.sd_num.specs.Lists.{map_or, same_number}
-use Rattle.sd_topo.specs.Network.{delay_of}
-use Rattle.sd_msg.specs.declared.Flight.{Flight}
+use Rattle.sd_plan.specs.topo.Network.{delay_of}
+use Rattle.sd_device.specs.declared.msg.Flight.{Flight}
 use Rattle.sd_sched.specs.Events.{reference_of, ticked}
 use Rattle.sd_history.specs.World.{Setting, Seen, makes, latest_reference}
 use Rattle.sd_history.specs.Premises.{reaching_flights, latest_tick}
 use Rattle.sd_history.proofs.Shared.{time_rises}
-use Rattle.sd_premise_loss.specs.rounds.Order as rounds
-use Rattle.sd_premise_loss.proofs.rounds.InOrder.{le_greatest}
+use Rattle.sd_monitors.specs.loss.rounds.Order as rounds
+use Rattle.sd_monitors.proofs.loss.rounds.InOrder.{le_greatest}
 use Rattle.sd_premise.specs.Order.{IsSentAt, CanFollow, ComesInOrder}
 
 -- for the monitor of loss

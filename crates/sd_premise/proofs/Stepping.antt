@@ -7,8 +7,8 @@ use Rattle.std.proofs.lemmas.Bool.{and_parts, and_from, or_parts, or_from, le-le
 use Rattle.std.proofs.lemmas.Option.{same_Some}
 use Rattle.std.proofs.lemmas.List.Elements.{Contains-append_left, Contains-append_right}
 use Rattle.sd_num.specs.Lists.{map_or, same_number, ascends, greatest}
-use Rattle.sd_topo.specs.Network.{delay_of}
-use Rattle.sd_msg.specs.declared.Flight.{Flight}
+use Rattle.sd_plan.specs.topo.Network.{delay_of}
+use Rattle.sd_device.specs.declared.msg.Flight.{Flight}
 use Rattle.sd_sched.specs.declared.Event.{Event}
 use Rattle.sd_sched.specs.declared.Event.TheVariants as event
 use Rattle.sd_sched.specs.Events.{reference_of, device_of, message_of, received, is_stage, is_commit}
@@ -26,8 +26,8 @@ use Rattle.sd_history.proofs.flights.Sending.{step_numbered, counted, WasSent, w
 use Rattle.sd_history.proofs.flights.Numbers.{numbers_within}
 use Rattle.sd_history.proofs.flights.Places.{IsOfNetwork, flights_of_network}
 use Rattle.sd_history.proofs.Shared.{received_message}
-use Rattle.sd_premise_loss.specs.rounds.Order.{last_sent}
-use Rattle.sd_premise_loss.proofs.rounds.InOrder.{last_sent_with}
+use Rattle.sd_monitors.specs.loss.rounds.Order.{last_sent}
+use Rattle.sd_monitors.proofs.loss.rounds.InOrder.{last_sent_with}
 use Rattle.sd_premise.specs.Order.{IsSentAt, IsOnTheWay, CanFollow, ComesInOrder}
 
 -- Lists
@@ -288,7 +288,3 @@ can_follow setting s earlier is = record {
       (omega (arith, last_low setting earlier is.0)));
   taken = on_the_way setting s earlier is;
 }
-
-pub comes_in_order : (setting : Setting) (steps : List Step) → AreSteps setting steps → ComesInOrder setting (seen_of steps)
-comes_in_order setting [] is = tt
-comes_in_order setting (s ∷ earlier) is = (comes_in_order setting earlier is.0, can_follow setting s earlier is)

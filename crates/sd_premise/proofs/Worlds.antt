@@ -3,10 +3,10 @@ use Rattle.std.proofs.Common.{◌≡◌, ◌+◌, Bool, true, false, List, ◌�
 use Rattle.std.specs.Prelude.{if◌then◌else◌}
 use Rattle.sd_sched.specs.declared.Event.{Event}
 use Rattle.sd_history.specs.World.{Setting, Seen}
-use Rattle.sd_fleet_state.specs.world.Registers.{Registers, registers_after, registers_closed}
-use Rattle.sd_fleet_state.specs.world.Standing.{Stands}
-use Rattle.sd_fleet_state.proofs.world.Slots.{length_devices, length_links}
-use Rattle.sd_fleet_state.proofs.world.Keeping.{stands_after, stands_closed}
+use Rattle.sd_world.specs.world.Registers.{Registers, registers_after, registers_closed}
+use Rattle.sd_world.specs.world.Standing.{Stands}
+use Rattle.sd_world.proofs.world.Slots.{length_devices, length_links}
+use Rattle.sd_world.proofs.world.Keeping.{stands_after, stands_closed}
 use Rattle.sd_premise.specs.Worlds.{world_after}
 
 pub world_stands : (r after : Registers) (setting : Setting) (s : Seen) (earlier : List Seen) → after ≡ world_after r s → Stands r setting earlier
@@ -51,11 +51,3 @@ world_links r s = by s.closed
         → length (if closed then registers_closed (registers_after r s.event) else registers_after r s.event).failed_links ≡ length r.failed_links
     by true = length_links s.event r.failed_links
     by false = length_links s.event r.failed_links
-
--- one event more
-pub world_events : (r : Registers) (s : Seen) → (world_after r s).events ≡ r.events + 1
-world_events r s = by s.closed
-  where
-    by : (closed : Bool) → (if closed then registers_closed (registers_after r s.event) else registers_after r s.event).events ≡ r.events + 1
-    by true = refl
-    by false = refl

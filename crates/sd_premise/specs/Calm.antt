@@ -1,10 +1,10 @@
 -- A tick and a receipt that leave the open window as it is, by what the monitors need of them, and what a quick way does with such.
 use Rattle.std.specs.Prelude.{◌≡◌, ℕ, ◌+◌, ◌≤◌, List, ◌∷◌, Some, None}
-use Rattle.sd_msg.specs.declared.Flight.{Flight}
+use Rattle.sd_device.specs.declared.msg.Flight.{Flight}
 use Rattle.sd_history.specs.declared.BrokenSet.{BrokenSet}
 use Rattle.sd_history.specs.Premises as premises
 use Rattle.sd_history.specs.World.{Setting, Seen}
-use Rattle.sd_premise_clocks.specs.Kinds.{IsTick, IsReceipt}
+use Rattle.sd_monitors.specs.clocks.Kinds.{IsTick, IsReceipt}
 use Rattle.sd_premise.specs.Order.{CanFollow}
 use Rattle.sd_premise.specs.Standing.{StandsFor, room_of, net_of}
 use Rattle.sd_premise.specs.Worlds.{world_after}
@@ -25,7 +25,7 @@ pub record IsCalmReceipt (s : Seen) (reference device counter : ℕ) (flight : F
   pub activated : s.activated ≡ None
   pub sends : s.sent ≡ sent
 
--- The monitors see an event of this kind that sends so many flights: they stand for each list that it can follow with the event, and the
+-- The monitors see an event of this kind that sends this many flights: they stand for each list that it can follow with the event, and the
 -- answer is what breaks with it.
 pub record Sees (IsSuch : Seen → Type 0) (sends : ℕ) (old new : Premises) (answer : BrokenSet) : Type 0 where
   pub stands : (setting : Setting) (earlier : List Seen) (s : Seen) → IsSuch s → CanFollow setting earlier s → StandsFor old setting earlier

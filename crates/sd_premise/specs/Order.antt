@@ -2,13 +2,13 @@
 use Rattle.std.specs.Prelude.{◌≡◌, ℕ, ◌+◌, ◌*◌, ◌<◌, true, false, ◌||◌, not, List, [], ◌∷◌, length, map, All, Contains, IfSome}
 use Rattle.std.specs.Option.{ForSome}
 use Rattle.sd_num.specs.Lists.{ascends}
-use Rattle.sd_topo.specs.Network.{delay_of}
-use Rattle.sd_msg.specs.declared.Flight.{Flight}
+use Rattle.sd_plan.specs.topo.Network.{delay_of}
+use Rattle.sd_device.specs.declared.msg.Flight.{Flight}
 use Rattle.sd_sched.specs.Events.{reference_of, is_commit}
 use Rattle.sd_history.specs.World.{Setting, Seen, has_commit}
 use Rattle.sd_history.specs.Open.{may_be_seen}
 use Rattle.sd_history.specs.Premises.{reaching_flights, was_received}
-use Rattle.sd_premise_loss.specs.rounds.Order.{last_sent}
+use Rattle.sd_monitors.specs.loss.rounds.Order.{last_sent}
 
 -- a flight that is sent at the reference: it is due when the greatest delay of its direction has passed, and is purged when twice that has
 pub record IsSentAt (setting : Setting) (reference : ℕ) (f : Flight) : Type 0 where

@@ -1,21 +1,21 @@
 -- For which settings and lists the monitors stand, and what they ask of the next event.
 use Rattle.std.specs.Prelude.{◌≡◌, ℕ, ◌-◌, ◌<◌, ◌≤◌, ◌^◌, true, List, length, IfSome}
 use Rattle.std.specs.Option.{ForSome}
-use Rattle.sd_topo.specs.Network.{Network}
-use Rattle.sd_topo.specs.Topologies.{network}
+use Rattle.sd_plan.specs.topo.Network.{Network}
+use Rattle.sd_plan.specs.topo.Topologies.{network}
 use Rattle.sd_history.specs.World.{Setting, Seen}
 use Rattle.sd_history.specs.Premises.{broken_in}
-use Rattle.sd_fleet_state.specs.membership.Plans.{AreSound}
-use Rattle.sd_fleet_state.specs.world.Registers.{HasNamed}
-use Rattle.sd_fleet_state.specs.world.Standing.{Stands}
-use Rattle.sd_premise_clocks.specs.Memberships.{AreMembers, ArePresent}
-use Rattle.sd_premise_clocks.specs.Starts.{StartStands}
-use Rattle.sd_premise_clocks.specs.Drifts.{DriftStands}
-use Rattle.sd_premise_clocks.specs.Delays.{DelayStands}
-use Rattle.sd_premise_clocks.specs.Tickings.{TickStands}
-use Rattle.sd_premise_loss.specs.rounds.Standing as rounds
-use Rattle.sd_premise_renewal.specs.Domains.{DomainStands}
-use Rattle.sd_premise_renewal.specs.Renewals.{RenewalStands}
+use Rattle.sd_world.specs.membership.Plans.{AreSound}
+use Rattle.sd_world.specs.world.Registers.{HasNamed}
+use Rattle.sd_world.specs.world.Standing.{Stands}
+use Rattle.sd_monitors.specs.clocks.Memberships.{AreMembers, ArePresent}
+use Rattle.sd_monitors.specs.clocks.Starts.{StartStands}
+use Rattle.sd_monitors.specs.clocks.Drifts.{DriftStands}
+use Rattle.sd_monitors.specs.clocks.Delays.{DelayStands}
+use Rattle.sd_monitors.specs.clocks.Tickings.{TickStands}
+use Rattle.sd_monitors.specs.loss.rounds.Standing as rounds
+use Rattle.sd_monitors.specs.renewal.Domains.{DomainStands}
+use Rattle.sd_monitors.specs.renewal.Renewals.{RenewalStands}
 use Rattle.sd_premise.specs.Order.{ComesInOrder}
 use Rattle.sd_premise.specs.declared.premises.Premises.{Premises}
 

@@ -1,7 +1,7 @@
 -- The world after an event, with which the window may close.
 use Rattle.std.specs.Prelude.{if◌then◌else◌}
 use Rattle.sd_history.specs.World.{Seen}
-use Rattle.sd_fleet_state.specs.world.Registers.{Registers, registers_after, registers_closed}
+use Rattle.sd_world.specs.world.Registers.{Registers, registers_after, registers_closed}
 
 -- the registers after an event as it was seen
 abbrev pub world_after : Registers → Seen → Registers

@@ -1,16 +1,16 @@
 //! What the events of a world are judged on.
 ghost use Rattle.std.specs.Prelude.{◌≡◌, [], IfOk};
-ghost use Rattle.sd_topo.specs.Topologies.{network};
+ghost use Rattle.sd_plan.specs.topo.Topologies.{network};
 ghost use Rattle.sd_history.specs.World.{Setting};
-ghost use Rattle.sd_fleet_state.specs.membership.Plans.{AreSound};
-ghost use Rattle.sd_fleet_state.specs.world.Standing.{Stands};
-ghost use Rattle.sd_premise_clocks.specs.Memberships.{AreMembers, ArePresent};
+ghost use Rattle.sd_world.specs.membership.Plans.{AreSound};
+ghost use Rattle.sd_world.specs.world.Standing.{Stands};
+ghost use Rattle.sd_monitors.specs.clocks.Memberships.{AreMembers, ArePresent};
 
-use sd_fleet_state::world::World;
+use sd_monitors::clocks::PresentRows;
 use sd_num::NoMemory;
 use sd_plan::Plan;
-use sd_premise_clocks::PresentRows;
-use sd_topo::Topology;
+use sd_plan::topo::Topology;
+use sd_world::world::World;
 use std::alloc::Global;
 
 /// What the monitors ask: the topology, what the plans say of it, and the world in registers.

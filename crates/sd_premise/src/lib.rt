@@ -9,4 +9,5 @@ mod sets;
 
 pub use premises::Premises;
 pub use sd_history::BrokenSet;
-pub use sd_premise_clocks::Seen;
+pub use sd_monitors::clocks::Seen;
+pub use sets::NONE_BROKEN;

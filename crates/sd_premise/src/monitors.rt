@@ -1,21 +1,21 @@
 //! The monitors that take memory.
 ghost use Rattle.std.specs.Prelude.{◌≡◌, [], length, IfOk};
-ghost use Rattle.sd_topo.specs.Topologies.{network};
-ghost use Rattle.sd_plan.specs.Domain.Failing.{HasRoomFor};
+ghost use Rattle.sd_plan.specs.topo.Topologies.{network};
+ghost use Rattle.sd_plan.specs.domain.Failing.{HasRoomFor};
 ghost use Rattle.sd_history.specs.World.{Setting};
-ghost use Rattle.sd_premise_clocks.specs.Memberships.{AreMembers};
-ghost use Rattle.sd_premise_clocks.specs.Drifts.{DriftStands};
-ghost use Rattle.sd_premise_clocks.specs.Tickings.{TickStands};
-ghost use Rattle.sd_premise_loss.specs.rounds.Standing as rounds;
-ghost use Rattle.sd_premise_renewal.specs.Domains.{DomainStands};
-ghost use Rattle.sd_premise_renewal.specs.Progressing.{HasDevices};
-ghost use Rattle.sd_premise_renewal.specs.Renewals.{RenewalStands};
+ghost use Rattle.sd_monitors.specs.clocks.Memberships.{AreMembers};
+ghost use Rattle.sd_monitors.specs.clocks.Drifts.{DriftStands};
+ghost use Rattle.sd_monitors.specs.clocks.Tickings.{TickStands};
+ghost use Rattle.sd_monitors.specs.loss.rounds.Standing as rounds;
+ghost use Rattle.sd_monitors.specs.renewal.Domains.{DomainStands};
+ghost use Rattle.sd_monitors.specs.renewal.Progressing.{HasDevices};
+ghost use Rattle.sd_monitors.specs.renewal.Renewals.{RenewalStands};
 
+use sd_monitors::clocks::{DriftMonitor, PresentRows, TickMonitor};
+use sd_monitors::loss::rounds::Rounds;
+use sd_monitors::renewal::{DomainMonitor, RenewalMonitor};
 use sd_num::NoMemory;
-use sd_premise_clocks::{DriftMonitor, PresentRows, TickMonitor};
-use sd_premise_loss::rounds::Rounds;
-use sd_premise_renewal::{DomainMonitor, RenewalMonitor};
-use sd_topo::Topology;
+use sd_plan::topo::Topology;
 use std::alloc::Global;
 
 /// The monitors of five of the premises: those of `start` and `delay` take no memory.

@@ -1,33 +1,32 @@
 //! All seven premises over one world.
 ghost use Rattle.std.specs.Prelude.{◌≡◌, true, ◌+◌, ◌-◌, ◌<◌, ◌≤◌, ◌^◌, ◌∷◌, [], List, length, OnOk, IfOk};
-ghost use Rattle.sd_topo.specs.Topologies.{network};
-ghost use Rattle.sd_plan.specs.Domain.Failing.{HasRoomFor};
+ghost use Rattle.sd_plan.specs.topo.Topologies.{network};
+ghost use Rattle.sd_plan.specs.domain.Failing.{HasRoomFor};
 ghost use Rattle.sd_history.specs.Premises.{breaks, broken_in};
 ghost use Rattle.sd_history.specs.World.{Setting, Seen as Sight};
-ghost use Rattle.sd_fleet_state.specs.membership.Plans.{AreSound};
-ghost use Rattle.sd_fleet_state.specs.world.Registers.{HasNamed};
-ghost use Rattle.sd_fleet_state.specs.world.Standing.{Stands};
-ghost use Rattle.sd_premise_clocks.specs.Sights.{sight_of};
-ghost use Rattle.sd_premise_loss.specs.rounds.Loss.{number_taken};
-ghost use Rattle.sd_premise_renewal.specs.Progressing.{HasDevices};
+ghost use Rattle.sd_world.specs.membership.Plans.{AreSound};
+ghost use Rattle.sd_world.specs.world.Registers.{HasNamed};
+ghost use Rattle.sd_world.specs.world.Standing.{Stands};
+ghost use Rattle.sd_monitors.specs.clocks.Sights.{sight_of};
+ghost use Rattle.sd_monitors.specs.loss.rounds.Loss.{number_taken};
+ghost use Rattle.sd_monitors.specs.renewal.Progressing.{HasDevices};
 ghost use Rattle.sd_premise.specs.Order.{CanFollow};
 ghost use Rattle.sd_premise.specs.Worlds.{world_after};
-
-#[cfg(test)]
-mod tests;
 
 use crate::inputs::MonitorInputs;
 use crate::monitors::Monitors;
 use crate::sets::{Held, NONE_BROKEN, break_now, note_held};
-use sd_fleet_state::world::{World, failure_of};
+use sd_device::msg::Flight;
 use sd_history::BrokenSet;
-use sd_msg::Flight;
+use sd_monitors::clocks::{
+    DelayMonitor, DriftMonitor, PresentRows, Seen, StartMonitor, TickMonitor,
+};
+use sd_monitors::loss::rounds::Rounds;
+use sd_monitors::renewal::{DomainMonitor, Moment, RenewalMonitor};
 use sd_num::NoMemory;
 use sd_plan::Plan;
-use sd_premise_clocks::{DelayMonitor, DriftMonitor, PresentRows, Seen, StartMonitor, TickMonitor};
-use sd_premise_loss::rounds::Rounds;
-use sd_premise_renewal::{DomainMonitor, Moment, RenewalMonitor};
-use sd_topo::Topology;
+use sd_plan::topo::Topology;
+use sd_world::world::{World, failure_of};
 use std::alloc::Global;
 
 /// Judges the seven premises event by event. It keeps what later events can ask for: the world in
@@ -113,7 +112,7 @@ impl Premises {
         })
     }
 
-    /// Makes room for an event that sends so many flights that reach.
+    /// Makes room for an event that sends this many flights that reach.
     pub fn ready(&mut self, alloc: Global, sent: usize) -> Result<(), NoMemory>
         ensures room { OnOk result (sent ≤ room_of self.new) }
         ensures grows { room_of self.old ≤ room_of self.new }

@@ -6,7 +6,7 @@ ghost use Rattle.sd_premise.specs.Breaking.{with_held};
 use sd_history::BrokenSet;
 
 /// No premise is broken.
-pub(crate) const NONE_BROKEN: BrokenSet = BrokenSet {
+pub const NONE_BROKEN: BrokenSet = BrokenSet {
     start: false,
     drift: false,
     delay: false,

@@ -2,8 +2,8 @@
 use Rattle.std.specs.Prelude.{◌≡◌, List, Result, Ok, Err, IfErr, IfSome, OnOk}
 use Rattle.std.proofs.Common.{sym, ap, subst, ◌∙◌}
 use Rattle.std.proofs.lemmas.Result.{IfErr-weaker}
-use Rattle.sd_core.specs.declared.node.Node.{Ghosts}
-use Rattle.sd_msg.specs.declared.observer.Observer as observers
+use Rattle.sd_device.specs.declared.node.Node.{Ghosts}
+use Rattle.sd_device.specs.declared.msg.observer.Observer as observers
 use Rattle.sd_sched.specs.declared.Event.{Event}
 use Rattle.sd_history.specs.World.{Setting}
 use Rattle.sd_history.specs.Nodes.{NodeStep, steps_of}

@@ -1,7 +1,7 @@
 -- While no premise is broken there is no alarm: clean histories are safe, and their reports contain their references.
 use Rattle.std.specs.Prelude.{◌≡◌, true, count_by, List, [], ◌∷◌, IsTrue, refl}
 use Rattle.std.proofs.Common.{arith, sym, subst}
-use Rattle.sd_msg.specs.declared.observer.Observer as observers
+use Rattle.sd_device.specs.declared.msg.observer.Observer as observers
 use Rattle.sd_sched.specs.declared.Event.{Event}
 use Rattle.sd_history.specs.World.{Setting}
 use Rattle.sd_history.specs.Steps.{Step, seen_of, events_of}
@@ -9,13 +9,16 @@ use Rattle.sd_history.specs.Nodes.{steps_of}
 use Rattle.sd_history.specs.Chronicle.{next_step, chronicle, IsHistory}
 use Rattle.sd_history.specs.Premises.{breaks, all_hold}
 use Rattle.sd_history.specs.Lines.{lines_of}
-use Rattle.sd_history.proofs.Devices.{devices_run, devices_have_history}
-use Rattle.sd_proof_safety.proofs.whole.Safe.{stays_safe}
-use Rattle.sd_proof_safety.specs.invariant.Kept.{IsSafe}
-use Rattle.sd_proof_safety.specs.invariant.Coming.{IsFair}
+use Rattle.sd_history.proofs.Exactness.{exact_run, exact_history}
+use Rattle.sd_device.specs.declared.node.Node.{Ghosts}
+use Rattle.sd_device.specs.Living.{Life}
+use Rattle.sd_device.specs.Exact.{IsExact}
+use Rattle.sd_safety.proofs.whole.Safe.{stays_safe}
+use Rattle.sd_safety.specs.invariant.Kept.{IsSafe}
+use Rattle.sd_safety.specs.invariant.Coming.{IsFair}
 use Rattle.sd_replay.specs.Tallies.{is_alarm}
 use Rattle.sd_replay.specs.Calm.{IsCalm, StaysCalm}
-use Rattle.sd_replay.specs.Devices.{DevicesStayCalm}
+use Rattle.sd_replay.specs.Devices.{NodesStayCalm}
 use Rattle.sd_replay.proofs.Due.{none_broken, four_parts, no_alarm_due, all_honest}
 use Rattle.sd_replay.proofs.Kept.{reports_contain}
 
@@ -52,7 +55,7 @@ stays_calm setting sound steps is holds =
     subst (IsCalm setting) (sym is.chronicle)
     (history_is_calm setting sound (events_of steps) is.history (subst (λ (s : List Step). IsTrue (all_hold setting (seen_of s))) is.chronicle holds))
 
-pub devices_stay_calm : {V : Type 0} (o : observers.Ghosts V) → DevicesStayCalm o
-devices_stay_calm o replay setting run stands holds =
+pub nodes_stay_calm : {N V : Type 0} {g : Ghosts N} {stands : N → Life → Type 0} → IsExact g stands → (o : observers.Ghosts V) → NodesStayCalm g o
+nodes_stay_calm exact o replay setting run stands holds =
     stays_calm setting stands.sound (steps_of run)
-    (record { history = devices_have_history setting run stands.made.is_run; chronicle = devices_run setting run stands.made.is_run }) holds
+    (record { history = exact_history exact setting run stands.made.is_run; chronicle = exact_run exact setting run stands.made.is_run }) holds

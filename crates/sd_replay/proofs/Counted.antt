@@ -3,8 +3,8 @@ use Rattle.std.specs.Prelude.{◌≡◌, ℕ, ◌+◌, Bool, true, false, List, 
 use Rattle.std.proofs.Common.{arith}
 use Rattle.std.proofs.lemmas.List.Sums.{sum_by-append}
 use Rattle.sd_num.specs.Lists.{map_or}
-use Rattle.sd_clock.specs.declared.Report.{Report}
-use Rattle.sd_clock.specs.Estimates.{contains}
+use Rattle.sd_num.specs.declared.clock.Report.{Report}
+use Rattle.sd_num.specs.clock.Estimates.{contains}
 use Rattle.sd_history.specs.declared.BrokenSet.{BrokenSet}
 use Rattle.sd_history.specs.Lines.{Line, Premise, Start, Drift, Delay, Tick, Loss, Domain, Renew, Broken, Reported, IntervalAlarm, broken_lines, report_lines}
 use Rattle.sd_replay.specs.declared.lines.findings.Findings.{Findings}

@@ -6,9 +6,9 @@ use Rattle.std.proofs.Common.{arith, sym, ap, subst, ◌∙◌}
 use Rattle.std.proofs.lemmas.Bool.{and_parts, and_from}
 use Rattle.std.proofs.lemmas.List.Folds.{list_all-append}
 use Rattle.sd_num.specs.Lists.{map_or}
-use Rattle.sd_clock.specs.declared.Report.{Report}
-use Rattle.sd_clock.specs.Estimates.{contains}
-use Rattle.sd_msg.specs.Observed.{ReportAt}
+use Rattle.sd_num.specs.declared.clock.Report.{Report}
+use Rattle.sd_num.specs.clock.Estimates.{contains}
+use Rattle.sd_device.specs.msg.Observed.{ReportAt}
 use Rattle.sd_sched.specs.Events.{reference_of}
 use Rattle.sd_history.specs.declared.BrokenSet.{BrokenSet}
 use Rattle.sd_history.specs.World.{Setting}

@@ -6,12 +6,12 @@ use Rattle.std.proofs.Common.{sym, ap, ◌∙◌, subst, arith, get_or}
 use Rattle.std.proofs.lemmas.Bool.{and_from, le-leb, eq-eqb, ne_eqb}
 use Rattle.std.proofs.lemmas.List.Elements.{filter_more}
 use Rattle.std.proofs.lemmas.List.Folds.{find-append}
-use Rattle.sd_topo.specs.declared.Thing.{Thing}
-use Rattle.sd_msg.specs.declared.Flight.{Flight}
-use Rattle.sd_msg.specs.declared.TakeFault.{TakeFault}
-use Rattle.sd_msg.specs.declared.TakeFault.TheVariants as fault
-use Rattle.sd_msg.specs.Books.{has_number, found, is_current, is_swept, AreNumbered}
-use Rattle.sd_msg.proofs.Numbered.{numbered_filter}
+use Rattle.sd_plan.specs.declared.topo.Thing.{Thing}
+use Rattle.sd_device.specs.declared.msg.Flight.{Flight}
+use Rattle.sd_device.specs.declared.msg.TakeFault.{TakeFault}
+use Rattle.sd_device.specs.declared.msg.TakeFault.TheVariants as fault
+use Rattle.sd_device.specs.msg.Books.{has_number, found, is_current, is_swept, AreNumbered}
+use Rattle.sd_device.proofs.msg.Numbered.{numbered_filter}
 use Rattle.sd_sched.specs.declared.Event.{Event}
 use Rattle.sd_sched.specs.Events.{reference_of, message_of}
 use Rattle.sd_history.specs.Things.{failure_of}

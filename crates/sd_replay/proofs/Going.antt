@@ -1,21 +1,21 @@
 -- For which runs a replay stands at first, and how it goes on.
 use Rattle.std.specs.Prelude.{◌≡◌, ◌≤◌, false, List, [], length, slice_get, Some}
 use Rattle.std.proofs.Common.{sym, ◌∙◌, subst}
-use Rattle.sd_topo.specs.Network.{Network, Each}
-use Rattle.sd_topo.specs.Limits.{IsNetwork}
-use Rattle.sd_topo.specs.Topologies.{network}
-use Rattle.sd_topo.specs.declared.topology.Topology.{Topology}
+use Rattle.sd_plan.specs.topo.Network.{Network, Each}
+use Rattle.sd_plan.specs.topo.Limits.{IsNetwork}
+use Rattle.sd_plan.specs.topo.Topologies.{network}
+use Rattle.sd_plan.specs.declared.topo.topology.Topology.{Topology}
 use Rattle.sd_plan.specs.declared.Plan.{Plan}
 use Rattle.sd_plan.specs.Plans.{Fits}
-use Rattle.sd_proof_safety.specs.Checker.Verdicts.{IsAccepted}
-use Rattle.sd_core.specs.declared.node.Node.{Ghosts}
-use Rattle.sd_msg.specs.Observed.{ReportAt}
-use Rattle.sd_msg.specs.declared.observer.Observer as observers
+use Rattle.sd_checker.specs.Verdicts.{IsAccepted}
+use Rattle.sd_device.specs.declared.node.Node.{Ghosts}
+use Rattle.sd_device.specs.msg.Observed.{ReportAt}
+use Rattle.sd_device.specs.declared.msg.observer.Observer as observers
 use Rattle.sd_history.specs.World.{Setting}
 use Rattle.sd_history.specs.Steps.{Step}
 use Rattle.sd_history.specs.Nodes.{NodeStep, steps_of}
 use Rattle.sd_history.specs.Lines.{reports}
-use Rattle.sd_premise.specs.FleetState.membership.Plans.{AreSound}
+use Rattle.sd_world.specs.membership.Plans.{AreSound}
 use Rattle.sd_fleet.specs.declared.fleet.Fleet.{Fleet}
 use Rattle.sd_fleet.specs.Standing as fleets
 use Rattle.sd_replay.specs.lines.Printed.{printed}

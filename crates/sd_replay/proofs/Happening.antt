@@ -3,13 +3,13 @@ use Rattle.std.specs.Prelude.{◌≡◌, ℕ, ◌+◌, ◌^◌, ◌<◌, ◌≤�
 use Rattle.std.proofs.Common.{sym, ap, ◌∙◌, subst}
 use Rattle.std.proofs.Props.{props}
 use Rattle.std.proofs.Math.Logic.{∥∥₁_elim, ∥∥₁_map}
-use Rattle.sd_topo.specs.Network.{Network}
-use Rattle.sd_topo.specs.Topologies.{network}
-use Rattle.sd_clock.specs.declared.Report.{Report}
-use Rattle.sd_core.specs.declared.node.Node.{Ghosts}
-use Rattle.sd_msg.specs.Observed.{ReportAt}
-use Rattle.sd_msg.specs.Observing.{report_at}
-use Rattle.sd_msg.specs.declared.observer.Observer as observers
+use Rattle.sd_plan.specs.topo.Network.{Network}
+use Rattle.sd_plan.specs.topo.Topologies.{network}
+use Rattle.sd_num.specs.declared.clock.Report.{Report}
+use Rattle.sd_device.specs.declared.node.Node.{Ghosts}
+use Rattle.sd_device.specs.msg.Observed.{ReportAt}
+use Rattle.sd_device.specs.msg.Observing.{report_at}
+use Rattle.sd_device.specs.declared.msg.observer.Observer as observers
 use Rattle.sd_sched.specs.declared.Event.{Event}
 use Rattle.sd_sched.specs.Events.{reference_of, is_ask}
 use Rattle.sd_history.specs.World.{Setting}

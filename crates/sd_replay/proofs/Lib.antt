@@ -16,8 +16,3 @@ pub mod Going
 pub mod Tried
 pub mod Answered
 pub mod Happening
--- Handed on: what crates above name of those below.
-pub use Rattle.sd_topo.proofs as Topo
-pub use Rattle.sd_sched.proofs as Sched
-pub use Rattle.sd_history.proofs as History
-pub use Rattle.sd_fleet.proofs as Fleet

@@ -4,11 +4,11 @@ use Rattle.std.proofs.Common.{sym, ap, ◌∙◌, subst, arith}
 use Rattle.std.proofs.lemmas.Option.{same_Some}
 use Rattle.std.proofs.lemmas.List.Elements.{All-nil, All-push, All-filter, All-head, All-tail}
 use Rattle.sd_num.specs.Lists.{below, map_or}
-use Rattle.sd_topo.specs.Limits.{IsNetwork}
+use Rattle.sd_plan.specs.topo.Limits.{IsNetwork}
 use Rattle.sd_plan.proofs.Numbered.{found_passes}
-use Rattle.sd_clock.specs.declared.Report.{Report}
-use Rattle.sd_msg.specs.declared.Flight.{Flight}
-use Rattle.sd_watch.specs.Watch.{two_least}
+use Rattle.sd_num.specs.declared.clock.Report.{Report}
+use Rattle.sd_device.specs.declared.msg.Flight.{Flight}
+use Rattle.sd_replay.specs.watch.Watch.{two_least}
 use Rattle.sd_sched.specs.declared.Event.{Event}
 use Rattle.sd_sched.specs.declared.Event.TheVariants as event
 use Rattle.sd_sched.specs.Events.{reference_of, device_of, is_ask}

@@ -8,8 +8,8 @@ use Rattle.sd_history.specs.Steps.{Step, seen_of, parent_in}
 use Rattle.sd_history.specs.Chronicle.{chronicle, IsHistory}
 use Rattle.sd_history.specs.Lines.{counted_parent, is_on_loop, first_on_loop}
 use Rattle.sd_history.proofs.Known.{up_is_known}
-use Rattle.sd_watch.specs.Watch.{IsOnLoop, HasNoLoop, IsFirstOnLoop}
-use Rattle.sd_watch.proofs.Counted.{comes_back_on_loop, first_back}
+use Rattle.sd_replay.specs.watch.Watch.{IsOnLoop, HasNoLoop, IsFirstOnLoop}
+use Rattle.sd_replay.proofs.watch.Counted.{comes_back_on_loop, first_back}
 
 -- only devices of the topology are up
 abbrev pub UpIsKnown : Setting → List Step → Type 0
@@ -33,7 +33,3 @@ module _ (setting : Setting) (steps : List Step) (known : UpIsKnown setting step
   pub first_is : (first : Option ℕ) → MatchOption first (HasNoLoop (counted_parent setting steps)) (λ d. IsFirstOnLoop (counted_parent setting steps) d)
       → first_on_loop setting steps ≡ first
   first_is = first_back (counted_parent setting steps) (length setting.net.devices) parents_known
-
--- in each history only devices of the topology are up
-pub history_knows : (setting : Setting) (history : List Event) → IsHistory setting history → UpIsKnown setting (chronicle setting history)
-history_knows setting history is = up_is_known setting history is

@@ -5,10 +5,10 @@ use Rattle.std.proofs.Props.{props}
 use Rattle.std.proofs.Math.Logic.{∥∥₁_elim, ∥∥₁_map}
 use Rattle.sd_sched.specs.Events.{reference_of, device_of, link_of}
 use Rattle.sd_replay.proofs.Happening.{if_merely}
-use Rattle.sd_msg.specs.declared.Flight.{Flight}
-use Rattle.sd_core.specs.declared.node.Node.{Ghosts}
+use Rattle.sd_device.specs.declared.msg.Flight.{Flight}
+use Rattle.sd_device.specs.declared.node.Node.{Ghosts}
 use Rattle.sd_sched.specs.declared.Event.{Event}
-use Rattle.sd_topo.specs.Network.{Network}
+use Rattle.sd_plan.specs.topo.Network.{Network}
 use Rattle.sd_history.specs.declared.BrokenSet.{BrokenSet}
 use Rattle.sd_history.specs.World.{Setting, Seen}
 use Rattle.sd_history.specs.Steps.{Step, seen_of}

@@ -17,9 +17,9 @@ use Rattle.sd_history.proofs.Contained.{none_holds}
 use Rattle.sd_history.proofs.Known.{named_is_known}
 use Rattle.sd_replay.proofs.Loops.{UpIsKnown}
 use Rattle.sd_history.proofs.flights.Places.{changed_named}
-use Rattle.sd_premise.specs.FleetState.world.Registers.{untouched}
-use Rattle.sd_premise.proofs.FleetState.world.Changes.{changes_other}
-use Rattle.sd_premise.proofs.FleetState.world.Shutting.{window_next}
+use Rattle.sd_world.specs.world.Registers.{untouched}
+use Rattle.sd_world.proofs.world.Changes.{changes_other}
+use Rattle.sd_world.proofs.world.Shutting.{window_next}
 use Rattle.sd_replay.specs.Standing.{parent_row_in}
 
 -- another device is up as before

@@ -9,9 +9,9 @@ use Rattle.std.proofs.lemmas.Option.{same_Some}
 use Rattle.sd_num.specs.Lists.{below, map_or, at_place, same_number, follow}
 use Rattle.sd_num.proofs.Places.{at_written, at_unwritten}
 use Rattle.sd_num.proofs.Shared.{no_acting}
-use Rattle.sd_topo.specs.Network.{device_numbers}
-use Rattle.sd_watch.specs.Watch.{parent_in, IsOnLoop, HasNoLoop, IsFirstOnLoop, acting_devices, two_least}
-use Rattle.sd_watch.proofs.Settling.{only_within}
+use Rattle.sd_plan.specs.topo.Network.{device_numbers}
+use Rattle.sd_replay.specs.watch.Watch.{parent_in, IsOnLoop, HasNoLoop, IsFirstOnLoop, acting_devices, two_least}
+use Rattle.sd_replay.proofs.watch.Settling.{only_within}
 use Rattle.sd_sched.specs.Events.{device_of}
 use Rattle.sd_history.specs.World.{Setting}
 use Rattle.sd_history.specs.Steps.{Step}
@@ -19,9 +19,9 @@ use Rattle.sd_history.specs.Accepted.{AreSteps}
 use Rattle.sd_history.proofs.Shared.{same_follow}
 use Rattle.sd_history.specs.Lines.{RootsAlarm, counted_parent, first_on_loop, roots, loop_lines, root_lines}
 use Rattle.sd_replay.proofs.Loops.{UpIsKnown, parents_known, first_is}
-use Rattle.sd_watch.specs.parent_table.ParentTable as parent_table
-use Rattle.sd_watch.specs.declared.parent_table.ParentRow.{ParentRow}
-use Rattle.sd_watch.proofs.Shared.{no_parent}
+use Rattle.sd_replay.specs.watch.parent_table.ParentTable as parent_table
+use Rattle.sd_replay.specs.declared.watch.parent_table.ParentRow.{ParentRow}
+use Rattle.sd_replay.proofs.watch.Shared.{no_parent}
 use Rattle.sd_replay.specs.lines.Findings.{loop_found, roots_found}
 use Rattle.sd_replay.specs.Standing.{counted_acts, parent_row_in, parent_row_at, IsSet, IsParentTable, new_loop, new_roots}
 use Rattle.sd_replay.proofs.Others.{parent_row_same}

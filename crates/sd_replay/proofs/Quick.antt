@@ -10,7 +10,7 @@ use Rattle.sd_premise.specs.Calm.{Sees}
 use Rattle.sd_premise.specs.Standing as premises
 use Rattle.sd_premise.proofs.Asking.{can_observe}
 use Rattle.sd_premise.proofs.Stepping.{can_follow}
-use Rattle.sd_watch.specs.parent_table.ParentTable as parent_table
+use Rattle.sd_replay.specs.watch.parent_table.ParentTable as parent_table
 use Rattle.sd_replay.specs.declared.alarms.Alarms.{Alarms}
 use Rattle.sd_replay.specs.declared.monitors.Monitors.{Monitors}
 use Rattle.sd_replay.specs.Standing.{IsParentTable, IsQuickStep, CanLook, Looks}

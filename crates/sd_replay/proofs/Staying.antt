@@ -3,20 +3,20 @@ use Rattle.std.specs.Prelude.{◌≡◌, ℕ, ◌<◌, Bool, false, ◌&&◌, Li
 use Rattle.std.proofs.Common.{sym, ap, ◌∙◌}
 use Rattle.std.proofs.lemmas.List.{nil_from_length}
 use Rattle.sd_num.specs.Lists.{map_or}
-use Rattle.sd_core.specs.declared.node.Node.{Ghosts}
+use Rattle.sd_device.specs.declared.node.Node.{Ghosts}
 use Rattle.sd_sched.specs.declared.Event.{Event}
 use Rattle.sd_sched.specs.declared.Event.TheVariants.{Tick, Recv}
 use Rattle.sd_sched.specs.Events.{reference_of, device_of}
-use Rattle.sd_msg.specs.declared.Flight.{Flight}
-use Rattle.sd_msg.specs.declared.observer.Observer as observers
+use Rattle.sd_device.specs.declared.msg.Flight.{Flight}
+use Rattle.sd_device.specs.declared.msg.observer.Observer as observers
 use Rattle.sd_history.specs.World.{Setting, Seen, is_counted}
 use Rattle.sd_history.specs.Steps.{Step, seen_of}
 use Rattle.sd_history.specs.Nodes.{NodeStep, steps_of}
 use Rattle.sd_history.proofs.Known.{named_is_known}
-use Rattle.sd_fleet.specs.FleetState.declared.membership.AnswerSummary.{AnswerSummary}
-use Rattle.sd_fleet.specs.FleetState.membership.Memberships.{Registers, live_at, acts_at, parent_at, is_counted_at}
-use Rattle.sd_fleet.specs.FleetState.membership.Standing as memberships
-use Rattle.sd_fleet.proofs.FleetState.membership.Queries.{counted_is, parent_is, acts_is}
+use Rattle.sd_world.specs.declared.membership.AnswerSummary.{AnswerSummary}
+use Rattle.sd_world.specs.membership.Memberships.{Registers, live_at, acts_at, parent_at, is_counted_at}
+use Rattle.sd_world.specs.membership.Standing as memberships
+use Rattle.sd_world.proofs.membership.Queries.{counted_is, parent_is, acts_is}
 use Rattle.sd_fleet.specs.declared.Outcome.{Outcome}
 use Rattle.sd_fleet.specs.declared.messages.Sent.{Sent}
 use Rattle.sd_fleet.specs.declared.fleet.Fleet.{Fleet}
@@ -25,7 +25,7 @@ use Rattle.sd_fleet.specs.Keeping.{outcome_keeping}
 use Rattle.sd_fleet.specs.Standing as fleets
 use Rattle.sd_fleet.proofs.Shared.{sent_reach}
 use Rattle.sd_premise.specs.Calm.{IsCalmTick, IsCalmReceipt}
-use Rattle.sd_watch.specs.declared.parent_table.ParentRow.{ParentRow}
+use Rattle.sd_replay.specs.declared.watch.parent_table.ParentRow.{ParentRow}
 use Rattle.sd_replay.specs.declared.monitors.Monitors.{Monitors}
 use Rattle.sd_replay.specs.declared.event_output.EventOutput.{EventOutput}
 use Rattle.sd_replay.specs.Standing.{parent_row_in, HasSeen, StandsAsBefore, IsQuickStep, CanLook, HasRun}

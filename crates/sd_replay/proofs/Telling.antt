@@ -5,12 +5,12 @@ use Rattle.std.proofs.lemmas.List.{length-append, append-nil, map_push}
 use Rattle.std.proofs.lemmas.List.Sums.{count_by-le-length}
 use Rattle.sd_num.specs.Lists.{map_or, greatest}
 use Rattle.sd_replay.specs.lines.Printed.{printed}
-use Rattle.sd_topo.specs.Network.{Network}
-use Rattle.sd_topo.specs.Topologies.{network}
-use Rattle.sd_clock.specs.declared.Report.{Report}
-use Rattle.sd_clock.specs.Estimates.{contains}
-use Rattle.sd_msg.specs.Observed.{ReportAt}
-use Rattle.sd_msg.specs.Observing.{report_at}
+use Rattle.sd_plan.specs.topo.Network.{Network}
+use Rattle.sd_plan.specs.topo.Topologies.{network}
+use Rattle.sd_num.specs.declared.clock.Report.{Report}
+use Rattle.sd_num.specs.clock.Estimates.{contains}
+use Rattle.sd_device.specs.msg.Observed.{ReportAt}
+use Rattle.sd_device.specs.msg.Observing.{report_at}
 use Rattle.sd_sched.specs.Events.{reference_of, is_end_event}
 use Rattle.sd_history.specs.declared.BrokenSet.{BrokenSet}
 use Rattle.sd_history.specs.World.{Setting}

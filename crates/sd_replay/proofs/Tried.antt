@@ -1,8 +1,8 @@
 -- An event that was tried, and happened.
 use Rattle.std.specs.Prelude.{◌≡◌, List, Option, Some, IfSome}
 use Rattle.std.proofs.Common.{subst}
-use Rattle.sd_core.specs.declared.node.Node.{Ghosts}
-use Rattle.sd_msg.specs.declared.observer.Observer as observers
+use Rattle.sd_device.specs.declared.node.Node.{Ghosts}
+use Rattle.sd_device.specs.declared.msg.observer.Observer as observers
 use Rattle.sd_sched.specs.declared.Event.{Event}
 use Rattle.sd_history.specs.World.{Setting}
 use Rattle.sd_history.specs.Nodes.{NodeStep}

@@ -1,8 +1,8 @@
 -- For which runs a replay stands, and how it goes on.
 use Rattle.std.specs.Prelude.{◌≡◌, ℕ, Bool, false, ◌||◌, List, ◌∷◌, Option, Some, None, Result, Ok, Err, IsTrue, IfSome, IfErr, OnOk}
-use Rattle.sd_core.specs.declared.node.Node.{Ghosts}
-use Rattle.sd_msg.specs.declared.Flight.{Flight}
-use Rattle.sd_msg.specs.declared.observer.Observer as observers
+use Rattle.sd_device.specs.declared.node.Node.{Ghosts}
+use Rattle.sd_device.specs.declared.msg.Flight.{Flight}
+use Rattle.sd_device.specs.declared.msg.observer.Observer as observers
 use Rattle.sd_sched.specs.declared.Event.{Event}
 use Rattle.sd_sched.specs.Lines.{event_of_line}
 use Rattle.sd_sched.specs.Events.{is_ask}

@@ -1,6 +1,6 @@
 -- What the premises are shown of an event.
 use Rattle.std.specs.Prelude.{◌≡◌, List}
-use Rattle.sd_msg.specs.declared.Flight.{Flight}
+use Rattle.sd_device.specs.declared.msg.Flight.{Flight}
 use Rattle.sd_sched.specs.declared.Event.{Event}
 use Rattle.sd_history.specs.World.{Seen}
 use Rattle.sd_fleet.specs.declared.Outcome.{Outcome}

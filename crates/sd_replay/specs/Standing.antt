@@ -3,10 +3,10 @@ use Rattle.std.specs.Prelude.{◌≡◌, ℕ, ◌+◌, ◌<◌, ◌&&◌, List, 
 use Rattle.std.specs.Vec.{vec_capacity}
 use Rattle.sd_num.specs.Lists.{at_place}
 use Rattle.sd_replay.specs.lines.Printed.{printed}
-use Rattle.sd_topo.specs.Topologies.{network}
-use Rattle.sd_watch.specs.Watch.{parent_in, two_least}
-use Rattle.sd_core.specs.declared.node.Node.{Ghosts}
-use Rattle.sd_msg.specs.declared.observer.Observer as observers
+use Rattle.sd_plan.specs.topo.Topologies.{network}
+use Rattle.sd_replay.specs.watch.Watch.{parent_in, two_least}
+use Rattle.sd_device.specs.declared.node.Node.{Ghosts}
+use Rattle.sd_device.specs.declared.msg.observer.Observer as observers
 use Rattle.sd_sched.specs.declared.Event.{Event}
 use Rattle.sd_sched.specs.Events.{reference_of, device_of}
 use Rattle.sd_history.specs.World.{Setting, Seen, is_counted}
@@ -20,10 +20,10 @@ use Rattle.sd_fleet.specs.declared.Outcome.{Outcome}
 use Rattle.sd_fleet.specs.Outcomes.{outcome_of}
 use Rattle.sd_fleet.specs.declared.fleet.Fleet.{Fleet}
 use Rattle.sd_fleet.specs.Standing as fleets
-use Rattle.sd_watch.specs.parent_table.ParentTable as parent_table
-use Rattle.sd_watch.specs.declared.parent_table.ParentRow.{ParentRow}
+use Rattle.sd_replay.specs.watch.parent_table.ParentTable as parent_table
+use Rattle.sd_replay.specs.declared.watch.parent_table.ParentRow.{ParentRow}
 use Rattle.sd_premise.specs.Standing as premises
-use Rattle.sd_proof_safety.specs.invariant.Coming.{IsFair}
+use Rattle.sd_safety.specs.invariant.Coming.{IsFair}
 use Rattle.sd_replay.specs.declared.alarms.Alarms.{Alarms}
 use Rattle.sd_replay.specs.declared.monitors.Monitors.{Monitors}
 use Rattle.sd_replay.specs.declared.event_output.EventOutput.{EventOutput}

@@ -1,6 +1,6 @@
 -- What is found of an event, by the trouble that it brings and what came of it.
 use Rattle.std.specs.Prelude.{ℕ, Option}
-use Rattle.sd_clock.specs.declared.Report.{Report}
+use Rattle.sd_num.specs.declared.clock.Report.{Report}
 use Rattle.sd_sched.specs.declared.Event.{Event}
 use Rattle.sd_sched.specs.Events.{reference_of}
 use Rattle.sd_fleet.specs.declared.Outcome.{Outcome}

@@ -7,9 +7,9 @@ ghost use Rattle.sd_fleet.specs.Standing.{StandsFor};
 ghost use Rattle.sd_replay.specs.Standing.{parent_row_in, parent_row_at, IsParentTable, IsStepOf, HasAlarms};
 
 use crate::sights::{parent_row_of, update_rows};
-use sd_core::Node;
+use crate::watch::parent_table::{ParentRow, ParentTable};
+use sd_device::Node;
 use sd_fleet::Fleet;
-use sd_watch::parent_table::{ParentRow, ParentTable};
 
 /// What is new with an event.
 #[derive(Clone, Copy)]

@@ -1,7 +1,7 @@
 //! What is written of each event.
 ghost use Rattle.std.specs.Prelude.{◌≡◌, [], IfOk, false};
 ghost use Rattle.sd_replay.specs.lines.Printed.{printed};
-ghost use Rattle.sd_topo.specs.Topologies.{network};
+ghost use Rattle.sd_plan.specs.topo.Topologies.{network};
 ghost use Rattle.sd_replay.specs.lines.Findings.{IsOf, finds_none};
 ghost use Rattle.sd_replay.specs.Troubles.{found_by};
 ghost use Rattle.sd_replay.specs.Counting.{HasRoom, no_tally};
@@ -10,9 +10,9 @@ ghost use Rattle.sd_replay.specs.Standing.{IsNoted};
 use crate::Tally;
 use crate::lines::{EventLines, Findings, finds_none, print_findings};
 use crate::trouble::Trouble;
-use sd_clock::Report;
 use sd_num::NoMemory;
-use sd_topo::Topology;
+use sd_num::clock::Report;
+use sd_plan::topo::Topology;
 use std::alloc::Global;
 
 /// The lines of the last event, and the tally of all. Only `new` takes memory.

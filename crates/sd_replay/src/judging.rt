@@ -6,9 +6,9 @@ ghost use Rattle.sd_premise.specs.Order.{CanFollow};
 ghost use Rattle.sd_premise.specs.Standing.{CanObserve, StandsFor};
 ghost use Rattle.sd_replay.specs.Sights.{sight_by};
 
+use sd_device::msg::Flight;
 use sd_fleet::Outcome;
 use sd_history::BrokenSet;
-use sd_msg::Flight;
 use sd_premise::{Premises, Seen};
 use sd_sched::Event;
 

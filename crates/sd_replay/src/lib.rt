@@ -1,5 +1,6 @@
 //! The replay of a schedule: a fleet driven event by event, its premises judged, its loops and
-//! roots watched, its lines printed, and its reports told to an observer.
+//! roots watched (`watch`), its lines printed, and its reports told to an observer, such as commit
+//! wait (`wait`).
 //!
 //! [`Replay`] stands for runs (`StandsFor`, in specs/): an accepted event adds its step to every
 //! run for which the replay stood, and a fault leaves it standing for the same runs.
@@ -10,13 +11,17 @@ mod counting;
 mod event_output;
 mod faults;
 mod judging;
+mod laws;
 pub mod lines;
 mod monitors;
 mod replay;
 mod sights;
 mod trouble;
+pub mod wait;
+pub mod watch;
 
 pub use faults::ReplayFault;
+pub use laws::promises;
 pub use replay::Replay;
 pub use sd_fleet::ApplyFault;
 use sd_plan::{List, Plan};

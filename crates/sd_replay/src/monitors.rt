@@ -1,6 +1,6 @@
 //! Who looks on: judges the premises, and looks for loops of parents and several roots.
 ghost use Rattle.std.specs.Prelude.{◌≡◌, ◌<◌, ◌≤◌, ◌+◌, ◌^◌, List, [], ◌∷◌, length, filter, OnOk, IfOk};
-ghost use Rattle.sd_topo.specs.Topologies.{network};
+ghost use Rattle.sd_plan.specs.topo.Topologies.{network};
 ghost use Rattle.sd_history.specs.World.{Setting};
 ghost use Rattle.sd_history.specs.Steps.{Step};
 ghost use Rattle.sd_history.specs.Nodes.{NodeStep, steps_of};
@@ -8,7 +8,7 @@ ghost use Rattle.sd_history.specs.Lines.{lines_of};
 ghost use Rattle.sd_sched.specs.declared.Event.{Event as AnyEvent};
 ghost use Rattle.sd_fleet.specs.Standing.{IsAccepted};
 ghost use Rattle.sd_fleet.specs.declared.Outcome.{Outcome as AnyOutcome};
-ghost use Rattle.sd_premise.specs.FleetState.membership.Plans.{AreSound};
+ghost use Rattle.sd_world.specs.membership.Plans.{AreSound};
 ghost use Rattle.sd_replay.specs.lines.Findings.{IsOf, found_lines};
 ghost use Rattle.sd_replay.specs.Sights.{AreSentBy};
 ghost use Rattle.sd_replay.specs.Troubles.{found_with};
@@ -17,15 +17,15 @@ use crate::alarms::{NO_ALARMS, alarms_of};
 use crate::judging::judge;
 use crate::sights::collect;
 use crate::trouble::Trouble;
-use sd_core::Node;
+use crate::watch::parent_table::ParentTable;
+use sd_device::Node;
+use sd_device::msg::Flight;
 use sd_fleet::{Fleet, Outcome, Sent};
-use sd_msg::Flight;
 use sd_num::NoMemory;
 use sd_plan::Plan;
+use sd_plan::topo::Topology;
 use sd_premise::Premises;
 use sd_sched::Event;
-use sd_topo::Topology;
-use sd_watch::parent_table::ParentTable;
 use std::alloc::Global;
 
 /// What is kept to judge events: the premises, and how each device stood after the last one.
@@ -66,7 +66,7 @@ impl Monitors {
         &self.premises
     }
 
-    /// Makes room for an event that sends so many messages. Only this takes memory.
+    /// Makes room for an event that sends this many messages. Only this takes memory.
     #[inline(always)]
     pub(crate) fn ready(&mut self, alloc: Global, sent: usize) -> Result<(), NoMemory>
         ensures room { OnOk result (sent ≤ room_of self.new) }

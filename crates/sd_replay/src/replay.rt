@@ -1,18 +1,18 @@
 //! The replay: what happens with a line of a schedule.
 ghost use Rattle.std.specs.Prelude.{◌≡◌, ◌≤◌, ◌<◌, ◌^◌, ℕ, List, [], length, false, Some, None, Err, IsTrue, OnOk, IfOk, OnErr, IfErr, IfSome};
-ghost use Rattle.sd_topo.specs.Topologies.{network};
-ghost use Rattle.sd_topo.specs.Network.{Each as OfEach};
+ghost use Rattle.sd_plan.specs.topo.Topologies.{network};
+ghost use Rattle.sd_plan.specs.topo.Network.{Each as OfEach};
 ghost use Rattle.sd_plan.specs.Plans.{Fits};
-ghost use Rattle.sd_proof_safety.specs.Checker.Verdicts.{IsAccepted};
+ghost use Rattle.sd_checker.specs.Verdicts.{IsAccepted};
 ghost use Rattle.sd_sched.specs.declared.Event.TheVariants as events_of;
 ghost use Rattle.sd_sched.specs.Lines.{event_of_line};
 ghost use Rattle.sd_sched.specs.Spelled.{is_within};
 ghost use Rattle.sd_sched.specs.Events.{is_ask};
 ghost use Rattle.sd_history.specs.World.{Setting};
-ghost use Rattle.sd_msg.specs.Observed.{ReportAt};
+ghost use Rattle.sd_device.specs.msg.Observed.{ReportAt};
 ghost use Rattle.sd_fleet.specs.Room.{ends_in, most_sent_in};
 ghost use Rattle.sd_fleet.specs.Standing as fleets;
-ghost use Rattle.sd_premise.specs.FleetState.membership.Plans.{AreSound};
+ghost use Rattle.sd_world.specs.membership.Plans.{AreSound};
 ghost use Rattle.sd_premise.specs.Standing as premises;
 ghost use Rattle.sd_history.specs.Steps.{Step, seen_of};
 ghost use Rattle.sd_history.specs.Nodes.{NodeStep, steps_of};
@@ -25,14 +25,14 @@ use crate::event_output::EventOutput;
 use crate::monitors::Monitors;
 use crate::sights::acts_named;
 use crate::{PlanList, ReplayFault, Tally};
-use sd_core::Node;
+use sd_device::Node;
+use sd_device::msg::{Flight, Observer};
 use sd_fleet::{Fleet, Outcome, Sent};
-use sd_msg::{Flight, Observer};
 use sd_num::NoMemory;
 use sd_plan::Plan;
+use sd_plan::topo::Topology;
 use sd_premise::Premises;
 use sd_sched::{Event, read_line};
-use sd_topo::Topology;
 use std::alloc::Global;
 
 /// A fleet and its monitors before any event. `Replay::new` calls this so that it has few exits at
@@ -378,8 +378,7 @@ impl<N: Node, V: Observer> Replay<N, V> {
         Ok(())
     }
 
-    /// Makes the room that the event needs beside the fleet's own, which sends so many messages at
-    /// most.
+    /// Makes the room that the event needs beside the fleet's own. It sends at most this many messages.
     fn ready(&mut self, alloc: Global, event: &Event, most: usize) -> Result<(), NoMemory>
         requires most { most ≡ most_sent_in self.old.fleet.fabric event.now }
         ensures room { OnOk result (most ≤ room_of self.new.monitors) }

@@ -12,11 +12,11 @@ ghost use Rattle.sd_fleet.specs.declared.Outcome.{Outcome as AnyOutcome};
 ghost use Rattle.sd_replay.specs.Standing.{parent_row_in, IsSet, IsParentTable, IsStepOf};
 ghost use Rattle.sd_replay.specs.Sights.{AreSentBy};
 
-use sd_core::Node;
+use crate::watch::parent_table::{ParentRow, ParentTable};
+use sd_device::Node;
+use sd_device::msg::Flight;
 use sd_fleet::{Fleet, Sent};
-use sd_msg::Flight;
 use sd_sched::Event;
-use sd_watch::parent_table::{ParentRow, ParentTable};
 
 /// How a device stands: nobody's follower and no root where it does not count as live.
 pub(crate) fn parent_row_of<N: Node>(fleet: &Fleet<N>, d: u32) -> ParentRow

@@ -1,19 +1,19 @@
 -- Devices that agree at a counter are alike from it on.
 use Rattle.std.specs.Prelude.{◌≡◌, ℕ, ◌≤◌, Bool, true, false, Option, Some, None, max, option_map, refl, if◌then◌else◌}
 use Rattle.std.proofs.Common.{arith, sym, ◌∙◌, ap, subst}
-use Rattle.sd_fleet.specs.History.Sched.Num.declared.Rates.{Rates}
-use Rattle.sd_core.specs.Clock.declared.Estimate.{Estimate}
-use Rattle.sd_core.specs.Clock.Estimates.{report_of}
-use Rattle.sd_core.specs.Clock.Advances.{advanced}
+use Rattle.sd_num.specs.declared.Rates.{Rates}
+use Rattle.sd_num.specs.declared.clock.Estimate.{Estimate}
+use Rattle.sd_num.specs.clock.Estimates.{report_of}
+use Rattle.sd_num.specs.clock.Advances.{advanced}
 use Rattle.sd_plan.specs.declared.Duty.{Duty}
-use Rattle.sd_core.specs.declared.registers.Registers.{Registers}
-use Rattle.sd_core.specs.declared.registers.Mode.{Mode}
-use Rattle.sd_core.specs.declared.registers.Mode.TheVariants.{Primary, Backup, Acting, Idle}
-use Rattle.sd_core.specs.Rules.{is_acting_mode}
-use Rattle.sd_core.specs.Rebases.{waits_in}
-use Rattle.sd_core.proofs.Clock.Advance.{advanced_reports}
-use Rattle.sd_proof_resume.specs.Shifts.{Shift, raised_duty}
-use Rattle.sd_proof_resume.specs.Likeness.{IsAlike, AreAlike}
+use Rattle.sd_device.specs.declared.registers.Registers.{Registers}
+use Rattle.sd_device.specs.declared.registers.Mode.{Mode}
+use Rattle.sd_device.specs.declared.registers.Mode.TheVariants.{Primary, Backup, Acting, Idle}
+use Rattle.sd_device.specs.Rules.{is_acting_mode}
+use Rattle.sd_device.specs.Rebases.{waits_in}
+use Rattle.sd_num.proofs.clock.Advance.{advanced_reports}
+use Rattle.sd_resume.specs.law.Shifts.{Shift, raised_duty}
+use Rattle.sd_resume.specs.law.Likeness.{IsAlike, AreAlike}
 use Rattle.sd_resume.specs.Devices.{DevicesAgree, NodesAgree}
 
 -- a silence makes both move or take over, or neither

@@ -2,25 +2,15 @@
 use Rattle.std.specs.Prelude.{◌≡◌, ◌≢◌, ℕ, Option, Some, None, option_map, IfSome}
 use Rattle.std.proofs.Common.{sym, refl, ◌∙◌, ap}
 use Rattle.sd_plan.specs.declared.Duty.{Duty}
-use Rattle.sd_core.specs.declared.registers.Registers.{Registers}
-use Rattle.sd_core.specs.Rebases.{normal_at}
-use Rattle.sd_proof_resume.specs.Shifts.{Shift, raised_epoch, raised_duty, raised_stamp}
+use Rattle.sd_device.specs.declared.registers.Registers.{Registers}
+use Rattle.sd_device.specs.Rebases.{normal_at}
+use Rattle.sd_resume.specs.law.Shifts.{Shift, raised_epoch, raised_duty, raised_stamp}
 use Rattle.sd_resume.specs.declared.differences.Register.{Register}
 use Rattle.sd_resume.specs.declared.differences.Register.TheVariants as register
 use Rattle.sd_resume.specs.Duties.{SameTimes}
 use Rattle.sd_resume.specs.Devices.{OtherDiffers, RegistersAgree, RegisterDiffers, NodesAgree, NodesDiffer}
 
 -- Duties
-
-pub raised_by_parts : (shift : Shift) (one other : Duty) → one.epoch ≡ raised_epoch shift other.epoch → one ≡ record other { epoch = one.epoch }
-    → one ≡ raised_duty shift other
-raised_by_parts shift one other epoch others = others ∙ ap (λ (n : ℕ). record other { epoch = n }) epoch
-
-pub raised_parts : (shift : Shift) (one other : Duty) → one ≡ raised_duty shift other
-    → (one.epoch ≡ raised_epoch shift other.epoch) × (one ≡ record other { epoch = one.epoch })
-raised_parts shift one other same =
-    let epoch : one.epoch ≡ raised_epoch shift other.epoch = ap (λ (d : Duty). d.epoch) same in
-    (epoch, same ∙ ap (λ (n : ℕ). record other { epoch = n }) (sym epoch))
 
 -- duties with the same parents and times are equal but for the numbers of their plans
 pub otherwise_same : (one other : Duty) → one.role ≡ other.role → one.primary ≡ other.primary → one.backup ≡ other.backup → SameTimes one other
@@ -38,30 +28,7 @@ otherwise_times one other same =
       rates = ap (λ (d : Duty). d.rates) same;
     }
 
--- of two that are there
-pub some_apart : (shift : Shift) (one other : Duty) → one ≢ raised_duty shift other → Some one ≢ option_map (raised_duty shift) (Some other)
-some_apart shift one other apart = λ same. apart (inside one (raised_duty shift other) same)
-  where
-    inside : (a b : Duty) → Some a ≡ Some b → a ≡ b
-    inside a b same' = cc
-
 -- Registers
-
-pub other_differs : (shift : Shift) (one other : Registers) (x : Register) → OtherDiffers one other x → RegisterDiffers shift one other x
-other_differs shift one other register.Duty h = absurd h
-other_differs shift one other register.Given h = absurd h
-other_differs shift one other register.Stamp h = absurd h
-other_differs shift one other register.Mode h = h
-other_differs shift one other register.Sealed h = h
-other_differs shift one other register.Rates h = h
-other_differs shift one other register.Last h = h
-other_differs shift one other register.Sent h = h
-other_differs shift one other register.Estimate h = h
-
-pub others_differ : (shift : Shift) (one other : Registers) (found : Option Register) → IfSome found (OtherDiffers one other)
-    → IfSome found (RegisterDiffers shift one other)
-others_differ shift one other None h = tt
-others_differ shift one other (Some x) h = other_differs shift one other x h
 
 -- where they agree, they differ in none
 not_apart : (shift : Shift) (one other : Registers) → RegistersAgree shift one other → (x : Register) → RegisterDiffers shift one other x → ⊥

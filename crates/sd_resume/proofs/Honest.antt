@@ -4,31 +4,31 @@ use Rattle.std.specs.List.{list_any, list_all, cons_option}
 use Rattle.std.proofs.Common.{arith, sym, ◌∙◌, ap, subst, inl, inr}
 use Rattle.std.proofs.lemmas.Bool.{cases_lt, and_parts, leb-true, false_from_ne_true, false≢true}
 use Rattle.sd_num.proofs.Shared.{all_below}
-use Rattle.sd_topo.specs.Network.{Network, rates_of, device_numbers}
-use Rattle.sd_topo.specs.Limits.{IsNetwork}
-use Rattle.sd_topo.specs.declared.Thing.{Thing}
-use Rattle.sd_topo.specs.declared.Thing.TheVariants.{Device, Link}
-use Rattle.sd_topo.proofs.Laws.{rates_law}
-use Rattle.sd_plan.specs.Domain.Things.{same_thing}
+use Rattle.sd_plan.specs.topo.Network.{Network, rates_of, device_numbers}
+use Rattle.sd_plan.specs.topo.Limits.{IsNetwork}
+use Rattle.sd_plan.specs.declared.topo.Thing.{Thing}
+use Rattle.sd_plan.specs.declared.topo.Thing.TheVariants.{Device, Link}
+use Rattle.sd_plan.proofs.topo.Laws.{rates_law}
+use Rattle.sd_plan.specs.domain.Things.{same_thing}
 use Rattle.sd_plan.specs.declared.Plan.{Plan}
 use Rattle.sd_plan.specs.Plans.{is_member, members}
-use Rattle.sd_fleet.specs.History.Sched.Num.Lists.{leading}
-use Rattle.sd_fleet.specs.History.Things.{failure_of}
-use Rattle.sd_fleet.specs.History.World.{Setting, Seen, setting_over, makes, fails, is_thing, is_up, was_made, has_ever_failed, is_untouched, plan_numbered, latest_reference, latest_reading}
-use Rattle.sd_fleet.specs.History.Premises.{all_hold, readings, latest_tick, failures_since_closing}
-use Rattle.sd_fleet.proofs.History.Shared.{seen_parts, up_made}
-use Rattle.sd_fleet_state.specs.world.Registers.{up_at, reading_at}
-use Rattle.sd_fleet_state.specs.world.Standing.{StandsAt}
-use Rattle.sd_premise_clocks.specs.Readings.{is_after_each}
-use Rattle.sd_premise_clocks.proofs.Judging.{all_filter}
-use Rattle.sd_premise_clocks.proofs.Fewer.{keeps_with_more}
+use Rattle.sd_num.specs.Lists.{leading}
+use Rattle.sd_history.specs.Things.{failure_of}
+use Rattle.sd_history.specs.World.{Setting, Seen, setting_over, makes, fails, is_thing, is_up, was_made, has_ever_failed, is_untouched, plan_numbered, latest_reference, latest_reading}
+use Rattle.sd_history.specs.Premises.{all_hold, readings, latest_tick, failures_since_closing}
+use Rattle.sd_history.proofs.Shared.{seen_parts, up_made}
+use Rattle.sd_world.specs.world.Registers.{up_at, reading_at}
+use Rattle.sd_world.specs.world.Standing.{StandsAt}
+use Rattle.sd_monitors.specs.clocks.Readings.{is_after_each}
+use Rattle.sd_monitors.proofs.clocks.Judging.{all_filter}
+use Rattle.sd_monitors.proofs.clocks.Fewer.{keeps_with_more}
 use Rattle.sd_premise.specs.Order.{ComesInOrder, CanFollow}
 use Rattle.sd_premise.specs.Standing.{StandsFor, net_of}
 use Rattle.sd_premise.specs.declared.premises.Premises.{Premises}
-use Rattle.sd_proof_resume.specs.Shifts.{Shift}
-use Rattle.sd_proof_resume.specs.Views.{LooksAlike}
-use Rattle.sd_proof_resume.specs.Law.{whole}
-use Rattle.sd_proof_resume.specs.Cuts.{IsHonestOpening}
+use Rattle.sd_resume.specs.law.Shifts.{Shift}
+use Rattle.sd_resume.specs.law.Views.{LooksAlike}
+use Rattle.sd_resume.specs.law.Law.{whole}
+use Rattle.sd_resume.specs.law.Cuts.{IsHonestOpening}
 use Rattle.sd_resume.specs.declared.differences.Dishonesty.{Dishonesty}
 use Rattle.sd_resume.specs.declared.differences.Dishonesty.TheVariants as dishonesty
 use Rattle.sd_resume.specs.Honesty.{offsets_in, are_at_most, failed_since, IsDishonest, IsHonest, IsHonestLife, IsHonestAt, AllowsAsMuch, devices_of_both, links_of_both}

@@ -3,20 +3,20 @@ use Rattle.std.specs.Prelude.{◌≡◌, ℕ, ◌<◌, Bool, true, false, List, 
 use Rattle.std.proofs.Common.{ap, subst, sym, ◌∙◌}
 use Rattle.std.proofs.Math.Bool.{or-false}
 use Rattle.std.proofs.lemmas.Bool.{leb-false, eqb-true}
-use Rattle.sd_topo.specs.declared.Thing.{Thing}
-use Rattle.sd_topo.specs.declared.Thing.TheVariants.{Device, Link}
-use Rattle.sd_fleet.specs.History.Sched.Num.Lists.{map_or}
-use Rattle.sd_fleet.specs.History.Sched.declared.Event.{Event}
-use Rattle.sd_fleet.specs.History.Sched.declared.Event.TheVariants as event
-use Rattle.sd_fleet.specs.History.Sched.Events.{device_of, link_of}
-use Rattle.sd_fleet.specs.History.Things.{mended}
-use Rattle.sd_fleet.specs.History.World.{Setting, makes, fails, is_thing, has_failed}
-use Rattle.sd_fleet.specs.History.Steps.{Step, seen_of}
-use Rattle.sd_fleet.specs.History.Refusals.{refusal, unknown_device, unknown_link}
-use Rattle.sd_fleet.specs.History.Accepted.{AreSteps}
-use Rattle.sd_fleet.proofs.History.Among.{first, later}
-use Rattle.sd_fleet.proofs.History.Admitted.{rule_holds, accepted_is_admitted}
-use Rattle.sd_fleet.proofs.History.Known.{up_case}
+use Rattle.sd_plan.specs.declared.topo.Thing.{Thing}
+use Rattle.sd_plan.specs.declared.topo.Thing.TheVariants.{Device, Link}
+use Rattle.sd_num.specs.Lists.{map_or}
+use Rattle.sd_sched.specs.declared.Event.{Event}
+use Rattle.sd_sched.specs.declared.Event.TheVariants as event
+use Rattle.sd_sched.specs.Events.{device_of, link_of}
+use Rattle.sd_history.specs.Things.{mended}
+use Rattle.sd_history.specs.World.{Setting, makes, fails, is_thing, has_failed}
+use Rattle.sd_history.specs.Steps.{Step, seen_of}
+use Rattle.sd_history.specs.Refusals.{refusal, unknown_device, unknown_link}
+use Rattle.sd_history.specs.Accepted.{AreSteps}
+use Rattle.sd_history.proofs.Among.{first, later}
+use Rattle.sd_history.proofs.Admitted.{rule_holds, accepted_is_admitted}
+use Rattle.sd_history.proofs.Known.{up_case}
 
 -- the network has the thing
 abbrev pub IsKnown : Setting → Thing → Type 0

@@ -1,9 +1,9 @@
 -- What a rebase lowers is raised again: it is the normal form.
 use Rattle.std.specs.Prelude.{◌≡◌, ℕ, ◌+◌, ◌-◌, ◌*◌, ◌/◌, ◌≤◌, Bool, true, false, min, max, refl, if◌then◌else◌}
 use Rattle.std.proofs.Common.{arith, sym, ◌∙◌, ap, subst}
-use Rattle.sd_core.specs.declared.registers.Registers.{Registers}
-use Rattle.sd_core.specs.Rules.{is_acting_mode, floor_in}
-use Rattle.sd_core.specs.Rebases.{waits_in, normal_at, least_in, lowered, lowering, rebased}
+use Rattle.sd_device.specs.declared.registers.Registers.{Registers}
+use Rattle.sd_device.specs.Rules.{is_acting_mode, floor_in}
+use Rattle.sd_device.specs.Rebases.{waits_in, normal_at, least_in, lowered, lowering, rebased}
 use Rattle.sd_resume.specs.Devices.{raised_by}
 
 first_again : (a b c : ℕ) → a - min (min a b) c + min (min a b) c ≡ a
@@ -75,12 +75,3 @@ rebased_is_small r now floor =
 
     least_third : (a b c : ℕ) → min (min a b) c ≤ c
     least_third a b c = omega arith
-
--- the same of what a rebase leaves, and of what it answers
-pub small_there : (r lower : Registers) (now by : ℕ) → floor_in r ≤ now → lower ≡ rebased r now → by ≡ lowering r now → IsSmall lower by now
-small_there r lower now by floor left lowers =
-    subst (λ (l : Registers). IsSmall l by now) (sym left) (subst (λ (n : ℕ). IsSmall (rebased r now) n now) (sym lowers) (rebased_is_small r now floor))
-
-pub raised_there : (r lower : Registers) (now by : ℕ) → lower ≡ rebased r now → by ≡ lowering r now → raised_by by lower ≡ normal_at r now
-raised_there r lower now by left lowers =
-    ap (raised_by by) left ∙ ap (λ (n : ℕ). raised_by n (rebased r now)) lowers ∙ normal_again r now

@@ -2,27 +2,27 @@
 use Rattle.std.specs.Prelude.{◌≡◌, ◌≢◌, ℕ, ◌+◌, ◌<◌, ◌≤◌, Bool, true, false, ◌&&◌, ◌||◌, List, length, nat_eq, Option, Some, None, is_some, map, option_map, refl}
 use Rattle.std.proofs.Common.{arith, sym, ◌∙◌, ap, subst, inl, inr}
 use Rattle.std.proofs.lemmas.Bool.{cases_lt, eqb-true, eq-eqb, and_from, false_from_ne_true}
-use Rattle.sd_topo.specs.Network.{Network}
-use Rattle.sd_topo.specs.declared.Thing.{Thing}
-use Rattle.sd_topo.specs.declared.Thing.TheVariants.{Device, Link}
+use Rattle.sd_plan.specs.topo.Network.{Network}
+use Rattle.sd_plan.specs.declared.topo.Thing.{Thing}
+use Rattle.sd_plan.specs.declared.topo.Thing.TheVariants.{Device, Link}
 use Rattle.sd_plan.specs.declared.Plan.{Plan}
-use Rattle.sd_msg.specs.declared.Flight.{Flight}
-use Rattle.sd_core.specs.declared.registers.Registers.{Registers}
-use Rattle.sd_core.specs.contracts.device.DeviceNode.TheImpl.{ghosts as device}
-use Rattle.sd_fleet_state.specs.world.Registers.{is_open}
-use Rattle.sd_fleet_state.specs.world.Standing as worlds
-use Rattle.sd_fleet.specs.History.World.{Setting, Seen, setting_over, is_up, has_failed, latest_reading, window, window_is_open}
-use Rattle.sd_fleet.specs.History.Steps.{Step, seen_of, events_of, flight_count, flight_numbered}
-use Rattle.sd_fleet.specs.History.Refusals.{is_spent}
-use Rattle.sd_fleet.specs.History.Nodes.{NodeStep, steps_of, node_in}
+use Rattle.sd_device.specs.declared.msg.Flight.{Flight}
+use Rattle.sd_device.specs.declared.registers.Registers.{Registers}
+use Rattle.sd_device.specs.contracts.device.DeviceNode.TheImpl.{ghosts as device}
+use Rattle.sd_world.specs.world.Registers.{is_open}
+use Rattle.sd_world.specs.world.Standing as worlds
+use Rattle.sd_history.specs.World.{Setting, Seen, setting_over, is_up, has_failed, latest_reading, window, window_is_open}
+use Rattle.sd_history.specs.Steps.{Step, seen_of, events_of, flight_count, flight_numbered}
+use Rattle.sd_history.specs.Refusals.{is_spent}
+use Rattle.sd_history.specs.Nodes.{NodeStep, steps_of, node_in}
 use Rattle.sd_fleet.specs.Nodes.{node_at}
 use Rattle.sd_fleet.specs.Standing.{StandsFor}
-use Rattle.sd_fleet.proofs.History.Admitted.{run_is_admitted}
-use Rattle.sd_fleet.proofs.History.Devices.{admitted_devices_run, admitted_devices_have_history}
-use Rattle.sd_fleet.proofs.History.Known.{admitted_up_is_known}
-use Rattle.sd_proof_resume.specs.Shifts.{Shift, raised_seen}
-use Rattle.sd_proof_resume.specs.Views.{LooksAlike}
-use Rattle.sd_proof_resume.specs.Law.{whole}
+use Rattle.sd_history.proofs.Admitted.{run_is_admitted}
+use Rattle.sd_history.proofs.Devices.{admitted_devices_run, admitted_devices_have_history}
+use Rattle.sd_history.proofs.Known.{admitted_up_is_known}
+use Rattle.sd_resume.specs.law.Shifts.{Shift, raised_seen}
+use Rattle.sd_resume.specs.law.Views.{LooksAlike}
+use Rattle.sd_resume.specs.law.Law.{whole}
 use Rattle.sd_resume.specs.declared.differences.Difference.{Difference}
 use Rattle.sd_resume.specs.declared.differences.Difference.TheVariants as difference
 use Rattle.sd_resume.specs.Devices.{NodesAgree, NodesDiffer}

@@ -1,9 +1,9 @@
 -- The numbers of the second, raised.
 use Rattle.std.specs.Prelude.{◌≡◌, ◌≢◌, ℕ, zero, suc, ◌+◌, refl}
 use Rattle.std.proofs.Common.{arith, ap, sym, ◌∙◌}
-use Rattle.sd_msg.specs.declared.Stamp.{Stamp}
-use Rattle.sd_msg.specs.Stamps.{stamp}
-use Rattle.sd_proof_resume.specs.Shifts.{Shift, raised_epoch, raised_round, raised_stamp}
+use Rattle.sd_device.specs.declared.msg.Stamp.{Stamp}
+use Rattle.sd_device.specs.msg.Stamps.{stamp}
+use Rattle.sd_resume.specs.law.Shifts.{Shift, raised_epoch, raised_round, raised_stamp}
 
 pub epoch_none : (shift : Shift) (epoch : ℕ) → epoch ≡ 0 → raised_epoch shift epoch ≡ 0
 epoch_none shift zero none = refl

@@ -3,18 +3,18 @@ use Rattle.std.specs.Prelude.{◌≡◌, ℕ, ◌+◌, ◌≤◌, ◌<◌, Bool,
 use Rattle.std.proofs.Common.{arith, sym, ◌∙◌, ap, inl, inr}
 use Rattle.std.proofs.lemmas.Bool.{cases_lt}
 use Rattle.std.proofs.lemmas.Bool.Decides.{nat_tests}
-use Rattle.sd_fleet.specs.History.Sched.Num.Lists.{map_or}
-use Rattle.sd_msg.specs.declared.Flight.{Flight}
-use Rattle.sd_msg.specs.declared.TakeFault.{TakeFault}
-use Rattle.sd_msg.specs.declared.TakeFault.TheVariants.{Unknown, Spent}
-use Rattle.sd_msg.specs.Books.{is_given}
-use Rattle.sd_fleet.specs.History.World.{Setting}
-use Rattle.sd_fleet.specs.History.Steps.{Step, flight_count, flight_numbered}
-use Rattle.sd_fleet.specs.History.Refusals.{is_spent}
-use Rattle.sd_fleet.specs.History.Accepted.{AreSteps}
-use Rattle.sd_fleet.specs.History.flights.Flights.{look_in, says_unknown}
-use Rattle.sd_fleet.proofs.History.flights.Numbers.{numbered_exactly, numbered_none}
-use Rattle.sd_proof_resume.specs.Cuts.{NoneOnItsWay}
+use Rattle.sd_num.specs.Lists.{map_or}
+use Rattle.sd_device.specs.declared.msg.Flight.{Flight}
+use Rattle.sd_device.specs.declared.msg.TakeFault.{TakeFault}
+use Rattle.sd_device.specs.declared.msg.TakeFault.TheVariants.{Unknown, Spent}
+use Rattle.sd_device.specs.msg.Books.{is_given}
+use Rattle.sd_history.specs.World.{Setting}
+use Rattle.sd_history.specs.Steps.{Step, flight_count, flight_numbered}
+use Rattle.sd_history.specs.Refusals.{is_spent}
+use Rattle.sd_history.specs.Accepted.{AreSteps}
+use Rattle.sd_history.specs.flights.Flights.{look_in, says_unknown}
+use Rattle.sd_history.proofs.flights.Numbers.{numbered_exactly, numbered_none}
+use Rattle.sd_resume.specs.law.Cuts.{NoneOnItsWay}
 
 known_by : (steps : List Step) (o : Option Flight) → not (says_unknown (map_or o (Err Unknown) (λ f. if is_spent steps 0 f then Err Spent else Ok f))) ≡ is_some o
 known_by steps None = refl
@@ -33,7 +33,7 @@ sent_number setting steps n f are found =
     upto : (count n : ℕ) → is_given count n ≡ true → n ≤ count
     upto count n given = grind (arith, nat_tests, given)
 
--- a number from 1 on is known exactly where so many were sent
+-- a number from 1 on is known exactly where this many were sent
 pub known_is_sent : (setting : Setting) (steps : List Step) (n : ℕ) → AreSteps setting steps → 1 ≤ n
     → not (says_unknown (look_in steps n)) ≡ nat_le n (flight_count steps)
 known_is_sent setting steps n are some =
@@ -42,11 +42,11 @@ known_is_sent setting steps n are some =
     from_one : (n count : ℕ) → 1 ≤ n → is_given count n ≡ nat_le n count
     from_one n count some = grind (arith, nat_tests)
 
--- so many were sent or more, and not one more
+-- this many were sent or more, and not one more
 pub no_more_by : (count messages : ℕ) → nat_le messages count ≡ true → not (nat_le (messages + 1) count) ≡ nat_eq count messages
 no_more_by count messages some = grind (arith, nat_tests)
 
--- not so many were sent
+-- not this many were sent
 pub too_few_by : (count messages : ℕ) → nat_le messages count ≡ false → nat_eq count messages ≡ false
 too_few_by count messages few = grind (arith, nat_tests)
 

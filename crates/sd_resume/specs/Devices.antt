@@ -1,9 +1,9 @@
 -- When two devices agree at a counter: in normal form the registers of the first are those of the second, raised.
 use Rattle.std.specs.Prelude.{◌≡◌, ◌≢◌, ℕ, ◌+◌, ◌≤◌, Option, Some, None, option_map, IfSome}
-use Rattle.sd_core.specs.declared.registers.Registers.{Registers}
-use Rattle.sd_core.specs.Rules.{floor_in}
-use Rattle.sd_core.specs.Rebases.{normal_at}
-use Rattle.sd_proof_resume.specs.Shifts.{Shift, raised_duty, raised_stamp}
+use Rattle.sd_device.specs.declared.registers.Registers.{Registers}
+use Rattle.sd_device.specs.Rules.{floor_in}
+use Rattle.sd_device.specs.Rebases.{normal_at}
+use Rattle.sd_resume.specs.law.Shifts.{Shift, raised_duty, raised_stamp}
 use Rattle.sd_resume.specs.declared.differences.Register.{Register}
 use Rattle.sd_resume.specs.declared.differences.Register.TheVariants as register
 

@@ -1,18 +1,18 @@
 -- What is said of the histories of two fleets: that the second is an opening for the first, or in what they differ.
 use Rattle.std.specs.Prelude.{◌≡◌, ◌≢◌, ◌+◌, ◌||◌, true, false, List, length, Some}
-use Rattle.sd_topo.specs.Network.{Network}
+use Rattle.sd_plan.specs.topo.Network.{Network}
 use Rattle.sd_plan.specs.declared.Plan.{Plan}
-use Rattle.sd_msg.specs.declared.Flight.{Flight}
-use Rattle.sd_core.specs.declared.registers.Registers.{Registers}
-use Rattle.sd_core.specs.contracts.device.DeviceNode.TheImpl.{ghosts as device}
-use Rattle.sd_fleet.specs.History.World.{setting_over, is_up, has_failed, latest_reference, latest_reading, window_is_open, epoch_in_force}
-use Rattle.sd_fleet.specs.History.Steps.{seen_of, flight_count, flight_numbered}
-use Rattle.sd_fleet.specs.History.Refusals.{after_end, is_spent}
-use Rattle.sd_fleet.specs.History.Nodes.{NodeStep, steps_of, node_in}
+use Rattle.sd_device.specs.declared.msg.Flight.{Flight}
+use Rattle.sd_device.specs.declared.registers.Registers.{Registers}
+use Rattle.sd_device.specs.contracts.device.DeviceNode.TheImpl.{ghosts as device}
+use Rattle.sd_history.specs.World.{setting_over, is_up, has_failed, latest_reference, latest_reading, window_is_open, epoch_in_force}
+use Rattle.sd_history.specs.Steps.{seen_of, flight_count, flight_numbered}
+use Rattle.sd_history.specs.Refusals.{after_end, is_spent}
+use Rattle.sd_history.specs.Nodes.{NodeStep, steps_of, node_in}
 use Rattle.sd_fleet.specs.Standing.{StandsFor}
-use Rattle.sd_proof_resume.specs.Shifts.{Shift}
-use Rattle.sd_proof_resume.specs.Law.{whole}
-use Rattle.sd_proof_resume.specs.Cuts.{IsOpening, NoneOnItsWay}
+use Rattle.sd_resume.specs.law.Shifts.{Shift}
+use Rattle.sd_resume.specs.law.Law.{whole}
+use Rattle.sd_resume.specs.law.Cuts.{IsOpening, NoneOnItsWay}
 use Rattle.sd_resume.specs.declared.differences.Difference.{Difference}
 use Rattle.sd_resume.specs.declared.differences.Difference.TheVariants as difference
 use Rattle.sd_resume.specs.Devices.{NodesDiffer}

@@ -1,13 +1,13 @@
 -- When two fleets of devices agree, in what they keep.
 use Rattle.std.specs.Prelude.{◌≡◌, ◌≢◌, ℕ, ◌+◌, ◌<◌, true, ◌||◌, length}
-use Rattle.sd_topo.specs.declared.Thing.TheVariants.{Device, Link}
-use Rattle.sd_core.specs.declared.registers.Registers.{Registers}
-use Rattle.sd_core.specs.contracts.device.DeviceNode.TheImpl.{ghosts as device}
-use Rattle.sd_fleet_state.specs.world.Registers as worlds
-use Rattle.sd_fleet_state.specs.world.Registers.{up_at, failed_at, reading_at, is_open}
+use Rattle.sd_plan.specs.declared.topo.Thing.TheVariants.{Device, Link}
+use Rattle.sd_device.specs.declared.registers.Registers.{Registers}
+use Rattle.sd_device.specs.contracts.device.DeviceNode.TheImpl.{ghosts as device}
+use Rattle.sd_world.specs.world.Registers as worlds
+use Rattle.sd_world.specs.world.Registers.{up_at, failed_at, reading_at, is_open}
 use Rattle.sd_fleet.specs.Nodes.{node_at}
 use Rattle.sd_fleet.specs.declared.fleet.Fleet.{Fleet}
-use Rattle.sd_proof_resume.specs.Shifts.{Shift}
+use Rattle.sd_resume.specs.law.Shifts.{Shift}
 use Rattle.sd_resume.specs.declared.differences.Difference.{Difference}
 use Rattle.sd_resume.specs.declared.differences.Difference.TheVariants as difference
 use Rattle.sd_resume.specs.Devices.{NodesAgree, NodesDiffer}
@@ -38,7 +38,7 @@ pub record DeviceAgrees (shift : Shift) (one other : DeviceFleet) (d : ℕ) : Ty
 abbrev pub AllDevicesAgree : Shift → (one other : DeviceFleet) → ℕ → Type 0
 AllDevicesAgree shift one other count = (d : ℕ) → d < count → DeviceAgrees shift one other d
 
--- two fleets of so many devices and links agree
+-- two fleets of this many devices and links agree
 pub record FleetsAgree (shift : Shift) (one other : DeviceFleet) : Type 0 where
   pub moments : MomentsAgree shift (world_of one) (world_of other)
   pub devices : AllDevicesAgree shift one other (devices_of one)

@@ -1,22 +1,22 @@
 -- When an opening is honest for the first of two histories, and the facts in which it is not.
 use Rattle.std.specs.Prelude.{◌≡◌, ◌≢◌, ℕ, ◌≤◌, ◌<◌, min, Bool, true, false, ◌&&◌, ◌||◌, not, nat_le, List, length}
 use Rattle.std.specs.List.{list_any}
-use Rattle.sd_topo.specs.Network.{Network, rates_of}
-use Rattle.sd_topo.specs.declared.Thing.{Thing}
-use Rattle.sd_topo.specs.declared.Thing.TheVariants.{Device, Link}
-use Rattle.sd_plan.specs.Domain.Things.{same_thing}
+use Rattle.sd_plan.specs.topo.Network.{Network, rates_of}
+use Rattle.sd_plan.specs.declared.topo.Thing.{Thing}
+use Rattle.sd_plan.specs.declared.topo.Thing.TheVariants.{Device, Link}
+use Rattle.sd_plan.specs.domain.Things.{same_thing}
 use Rattle.sd_plan.specs.declared.Plan.{Plan}
-use Rattle.sd_fleet.specs.History.World.{Setting, Seen, setting_over, is_up, is_untouched, latest_reference, latest_reading}
-use Rattle.sd_fleet.specs.History.Premises.{all_hold, readings, latest_tick, failures_since_closing}
-use Rattle.sd_premise_clocks.specs.declared.offsets.Offsets.{Offsets}
-use Rattle.sd_premise_clocks.specs.Readings.{least_offsets}
-use Rattle.sd_premise_clocks.specs.Owing.{is_awaited}
+use Rattle.sd_history.specs.World.{Setting, Seen, setting_over, is_up, is_untouched, latest_reference, latest_reading}
+use Rattle.sd_history.specs.Premises.{all_hold, readings, latest_tick, failures_since_closing}
+use Rattle.sd_monitors.specs.declared.clocks.offsets.Offsets.{Offsets}
+use Rattle.sd_monitors.specs.clocks.Readings.{least_offsets}
+use Rattle.sd_monitors.specs.clocks.Owing.{is_awaited}
 use Rattle.sd_premise.specs.Standing.{StandsFor, net_of}
 use Rattle.sd_premise.specs.declared.premises.Premises.{Premises}
-use Rattle.sd_proof_resume.specs.Shifts.{Shift}
-use Rattle.sd_proof_resume.specs.Views.{LooksAlike}
-use Rattle.sd_proof_resume.specs.Law.{whole}
-use Rattle.sd_proof_resume.specs.Cuts.{keeps_with, IsHonestOpening}
+use Rattle.sd_resume.specs.law.Shifts.{Shift}
+use Rattle.sd_resume.specs.law.Views.{LooksAlike}
+use Rattle.sd_resume.specs.law.Law.{whole}
+use Rattle.sd_resume.specs.law.Cuts.{keeps_with, IsHonestOpening}
 use Rattle.sd_resume.specs.declared.differences.Dishonesty.{Dishonesty}
 use Rattle.sd_resume.specs.declared.differences.Dishonesty.TheVariants as dishonesty
 

@@ -7,3 +7,5 @@ pub mod Fleets
 pub mod Messages
 pub mod Differences
 pub mod Honesty
+pub mod command
+pub mod law

@@ -1,20 +1,20 @@
 -- The messages of the runs of a fleet.
 use Rattle.std.specs.Prelude.{◌≡◌, ℕ, Bool, true, false, nat_eq, List, Some}
-use Rattle.sd_msg.specs.declared.Flight.{Flight}
-use Rattle.sd_core.specs.declared.registers.Registers.{Registers}
-use Rattle.sd_core.specs.contracts.device.DeviceNode.TheImpl.{ghosts as device}
-use Rattle.sd_fleet.specs.History.World.{Setting}
-use Rattle.sd_fleet.specs.History.Steps.{flight_count, flight_numbered}
-use Rattle.sd_fleet.specs.History.Refusals.{is_spent}
-use Rattle.sd_fleet.specs.History.Nodes.{NodeStep, steps_of}
+use Rattle.sd_device.specs.declared.msg.Flight.{Flight}
+use Rattle.sd_device.specs.declared.registers.Registers.{Registers}
+use Rattle.sd_device.specs.contracts.device.DeviceNode.TheImpl.{ghosts as device}
+use Rattle.sd_history.specs.World.{Setting}
+use Rattle.sd_history.specs.Steps.{flight_count, flight_numbered}
+use Rattle.sd_history.specs.Refusals.{is_spent}
+use Rattle.sd_history.specs.Nodes.{NodeStep, steps_of}
 use Rattle.sd_fleet.specs.Standing.{StandsFor}
-use Rattle.sd_proof_resume.specs.Cuts.{NoneOnItsWay}
-use Rattle.sd_proof_resume.specs.Shifts.{Shift}
+use Rattle.sd_resume.specs.law.Cuts.{NoneOnItsWay}
+use Rattle.sd_resume.specs.law.Shifts.{Shift}
 use Rattle.sd_resume.specs.declared.differences.Difference.{Difference}
 use Rattle.sd_resume.specs.declared.differences.Difference.TheVariants as difference
 use Rattle.sd_resume.specs.Fleets.{DeviceFleet}
 
--- whether each run of the fleet has sent so many messages
+-- whether each run of the fleet has sent this many messages
 abbrev pub HasSent : DeviceFleet → ℕ → Bool → Type 0
 HasSent fleet messages is =
     (setting : Setting) (run : List (NodeStep Registers)) → StandsFor device fleet setting run → is ≡ nat_eq (flight_count (steps_of run)) messages

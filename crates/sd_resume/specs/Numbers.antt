@@ -1,5 +1,5 @@
 -- The shift that a call is given.
-use Rattle.sd_proof_resume.specs.Shifts as shifts
+use Rattle.sd_resume.specs.law.Shifts as shifts
 use Rattle.sd_resume.specs.declared.shift.Shift.{Shift}
 
 -- as that of two histories

@@ -1,8 +1,8 @@
 -- When two worlds agree, in what they keep.
 use Rattle.std.specs.Prelude.{◌≡◌, ℕ, ◌+◌, ◌<◌, true, false}
-use Rattle.sd_topo.specs.declared.Thing.TheVariants.{Device, Link}
-use Rattle.sd_fleet_state.specs.world.Registers.{Registers, up_at, failed_at, reading_at, is_open}
-use Rattle.sd_proof_resume.specs.Shifts.{Shift}
+use Rattle.sd_plan.specs.declared.topo.Thing.TheVariants.{Device, Link}
+use Rattle.sd_world.specs.world.Registers.{Registers, up_at, failed_at, reading_at, is_open}
+use Rattle.sd_resume.specs.law.Shifts.{Shift}
 
 -- both are between two windows, at one time, and the same plan is in force
 pub record MomentsAgree (shift : Shift) (one other : Registers) : Type 0 where

@@ -1,4 +1,4 @@
-//! Whether two fleets stand so that all later events are the same behind both.
+//! Whether two fleets stand so that all later events are the same after both.
 ghost use Rattle.std.specs.Prelude.{◌≡◌, ◌<◌, ◌&&◌, nat_eq, OnOk, IfErr};
 ghost use Rattle.sd_resume.specs.Numbers.{shift_of};
 ghost use Rattle.sd_resume.specs.Fleets.{devices_of, links_of, DeviceAgrees, AllDevicesAgree, FleetsAgree, FleetsDiffer};
@@ -10,11 +10,11 @@ use crate::messages::{first_on_its_way, has_sent};
 use crate::nodes::compare_nodes;
 use crate::shift::Shift;
 use crate::worlds::{compare_links, compare_moments, compare_states};
-use sd_core::Device;
+use sd_device::Device;
 use sd_fleet::Fleet;
 
 /// Whether the second fleet is an opening for the first, whose numbers are greater by the shift: all
-/// later events are the same behind both then. Or the first in which they differ.
+/// later events are the same after both then. Or the first in which they differ.
 ///
 /// It costs a look at each device and each link, and at each message that the first has sent.
 pub fn agrees(

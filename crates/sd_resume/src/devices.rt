@@ -1,14 +1,14 @@
 //! In which register two devices differ.
 ghost use Rattle.std.specs.Prelude.{◌≡◌, ◌+◌, ◌≤◌, ◌<◌, ◌^◌, None, IfSome};
-ghost use Rattle.sd_core.specs.Rules.{floor_in, ceiling_in};
-ghost use Rattle.sd_core.specs.Rebases.{normal_at};
+ghost use Rattle.sd_device.specs.Rules.{floor_in, ceiling_in};
+ghost use Rattle.sd_device.specs.Rebases.{normal_at};
 ghost use Rattle.sd_resume.specs.Numbers.{shift_of};
 ghost use Rattle.sd_resume.specs.Devices.{raised_by, OthersAgree, OtherDiffers, RegistersAgree, RegisterDiffers, DevicesAgree};
 
 use crate::differences::Register;
 use crate::duties::raises_duties;
 use crate::shift::Shift;
-use sd_core::{Device, Registers};
+use sd_device::{Device, Registers};
 
 /// The first register in which the two differ in their normal forms at a counter, if there is one.
 pub(crate) fn compare_devices(

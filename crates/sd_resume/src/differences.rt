@@ -1,5 +1,5 @@
 //! In what two fleets may differ, and in what an opening may not be honest.
-use sd_topo::Thing;
+use sd_plan::topo::Thing;
 
 /// A register of a device, in the normal form of all of them.
 #[derive(Clone, Copy, Debug, PartialEq, Eq)]

@@ -1,6 +1,6 @@
 //! Whether a duty of the first of two fleets is that of the second.
 ghost use Rattle.std.specs.Prelude.{◌≡◌, ◌≢◌, true, false, option_map};
-ghost use Rattle.sd_proof_resume.specs.Shifts.{raised_duty};
+ghost use Rattle.sd_resume.specs.law.Shifts.{raised_duty};
 ghost use Rattle.sd_resume.specs.Numbers.{shift_of};
 ghost use Rattle.sd_resume.specs.Duties.{SameTimes};
 

@@ -1,16 +1,16 @@
-//! Whether an opening is honest: then what breaks behind it is broken behind the first history too.
+//! Whether an opening is honest: then what breaks after it is broken after the first history too.
 ghost use Rattle.std.specs.Prelude.{◌≡◌, ◌<◌, ◌^◌, true, false, List, length, OnOk, IfErr};
-ghost use Rattle.sd_fleet.specs.History.World.{Setting, Seen, is_untouched as is_untouched_seen};
-ghost use Rattle.sd_fleet.specs.History.Premises.{all_hold, broken_in};
-ghost use Rattle.sd_fleet_state.specs.world.Registers.{reading_at};
+ghost use Rattle.sd_history.specs.World.{Setting, Seen, is_untouched as is_untouched_seen};
+ghost use Rattle.sd_history.specs.Premises.{all_hold, broken_in};
+ghost use Rattle.sd_world.specs.world.Registers.{reading_at};
 ghost use Rattle.sd_premise.specs.Standing.{StandsFor, net_of};
 ghost use Rattle.sd_resume.specs.Honesty.{OfHistories, failed_since, IsHonest, AreDishonest, HaveOffsets, HaveTicked, HaveTouched, AreHonestOf, AreHonestLives, AreHonestAt, AreHonestDevices, AreHonestLinks, devices_of_both, links_of_both};
 
 use crate::differences::Dishonesty;
+use sd_plan::topo::Thing;
 use sd_premise::{BrokenSet, Premises};
-use sd_topo::Thing;
 
-/// Whether the second, an opening, is honest for the first: what breaks behind it is broken behind
+/// Whether the second, an opening, is honest for the first: what breaks after it is broken after
 /// the first too. Or a fact in which it is not. Both are over one network, and look alike.
 ///
 /// It costs a look at each device and each link.

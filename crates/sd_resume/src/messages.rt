@@ -1,20 +1,20 @@
 //! In which messages two fleets differ.
 ghost use Rattle.std.specs.Prelude.{◌≡◌, ◌≤◌, ◌<◌, ◌^◌, ◌+◌, ◌-◌, ℕ, List, true, false, not, nat_le, None, IfSome};
-ghost use Rattle.sd_core.specs.declared.registers.Registers.{Registers};
-ghost use Rattle.sd_core.specs.contracts.device.DeviceNode.TheImpl.{ghosts as device};
-ghost use Rattle.sd_fleet.specs.History.World.{Setting};
-ghost use Rattle.sd_fleet.specs.History.Steps.{flight_count};
-ghost use Rattle.sd_fleet.specs.History.flights.Flights.{says_unknown};
-ghost use Rattle.sd_fleet.specs.History.Nodes.{NodeStep, steps_of};
+ghost use Rattle.sd_device.specs.declared.registers.Registers.{Registers};
+ghost use Rattle.sd_device.specs.contracts.device.DeviceNode.TheImpl.{ghosts as device};
+ghost use Rattle.sd_history.specs.World.{Setting};
+ghost use Rattle.sd_history.specs.Steps.{flight_count};
+ghost use Rattle.sd_history.specs.flights.Flights.{says_unknown};
+ghost use Rattle.sd_history.specs.Nodes.{NodeStep, steps_of};
 ghost use Rattle.sd_fleet.specs.Standing.{StandsFor};
 ghost use Rattle.sd_resume.specs.Messages.{HasSent, HasNoneOnItsWay, IsOnItsWay, IsNotOnItsWay};
 
 use crate::differences::Difference;
-use sd_core::Device;
+use sd_device::Device;
+use sd_device::msg::{Flight, TakeFault};
 use sd_fleet::Fleet;
-use sd_msg::{Flight, TakeFault};
 
-/// So many links a network has at most.
+/// This many links a network has at most.
 const MOST_LINKS: u64 = 32_768;
 
 /// Whether something was found under a number that was given.
@@ -24,7 +24,7 @@ fn is_known(found: &Result<Flight, TakeFault>) -> bool
     !matches!(found, Err(TakeFault::Unknown))
 }
 
-/// Whether so many messages were sent, or more.
+/// Whether this many messages were sent, or more.
 fn has_sent_some(fleet: &Fleet<Device>, messages: u64) -> bool
     ensures { (setting : Setting) (run : List (NodeStep Registers))
         → StandsFor device fleet.now setting run
@@ -46,7 +46,7 @@ fn most_sent(fleet: &Fleet<Device>) -> u64
     fleet.world().events() * MOST_LINKS
 }
 
-/// Whether so many messages were sent, and no more.
+/// Whether this many messages were sent, and no more.
 pub(crate) fn has_sent(fleet: &Fleet<Device>, messages: u64) -> bool
     ensures { HasSent fleet.now messages result }
 {

@@ -1,7 +1,7 @@
 //! In what the nodes of a device differ, where it is up.
 ghost use Rattle.std.specs.Prelude.{◌≡◌, ◌≤◌, ◌<◌, ◌^◌, true, Some, is_some, IfSome, OnOk, IfErr};
-ghost use Rattle.sd_core.specs.Rules.{floor_in, ceiling_in};
-ghost use Rattle.sd_fleet_state.specs.world.Registers.{up_at, reading_at};
+ghost use Rattle.sd_device.specs.Rules.{floor_in, ceiling_in};
+ghost use Rattle.sd_world.specs.world.Registers.{up_at, reading_at};
 ghost use Rattle.sd_fleet.specs.Nodes.{node_at};
 ghost use Rattle.sd_resume.specs.Numbers.{shift_of};
 ghost use Rattle.sd_resume.specs.Devices.{NodesAgree};
@@ -11,7 +11,7 @@ ghost use Rattle.sd_resume.specs.Fleets.{world_of, devices_of, FleetsDiffer};
 use crate::devices::compare_devices;
 use crate::differences::Difference;
 use crate::shift::Shift;
-use sd_core::Device;
+use sd_device::Device;
 use sd_fleet::Fleet;
 
 /// The first register in which a device differs, of which they know the same.

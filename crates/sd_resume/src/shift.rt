@@ -1,9 +1,9 @@
 //! How the numbers of two fleets correspond.
 ghost use Rattle.std.specs.Prelude.{◌≡◌, ◌≢◌, true, false};
-ghost use Rattle.sd_proof_resume.specs.Shifts.{raised_epoch, raised_stamp};
+ghost use Rattle.sd_resume.specs.law.Shifts.{raised_epoch, raised_stamp};
 ghost use Rattle.sd_resume.specs.Numbers.{shift_of};
 
-use sd_msg::Stamp;
+use sd_device::msg::Stamp;
 
 /// By how much the numbers of the first of two fleets are greater.
 #[derive(Clone, Copy, Debug, PartialEq, Eq)]

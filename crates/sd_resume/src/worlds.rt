@@ -6,9 +6,9 @@ ghost use Rattle.sd_resume.specs.Fleets.{world_of, devices_of, links_of, FleetsD
 
 use crate::differences::Difference;
 use crate::shift::Shift;
-use sd_core::Device;
+use sd_device::Device;
 use sd_fleet::Fleet;
-use sd_topo::Thing;
+use sd_plan::topo::Thing;
 
 /// The first in which they differ, of what is one for all devices and links.
 pub(crate) fn compare_moments(

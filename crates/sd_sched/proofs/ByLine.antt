@@ -11,7 +11,7 @@ use Rattle.std.proofs.lemmas.Grind.{common_steps}
 use Rattle.sd_sched.proofs.Cuts.{fields_step}
 use Rattle.sd_sched.proofs.ByWord.{event_of, event_of_word_is, known_word}
 
--- the event of a line by its first field and what is behind it
+-- the event of a line by its first field and what follows it
 pub word_first : (line : List ℕ) (w : Word) (numbers : Result (List ℕ) LineFault) → first_field line ≡ (row_of w).spelled
     → numbers_from 1 (row_of w).shape (fields_behind (drop (length (first_field line)) line)) ≡ numbers → event_of_line line ≡ event_of (row_of w).event numbers
 unfolding event_of_line
@@ -22,7 +22,7 @@ word_first line w numbers spells read =
     ∙ event_of_word_is (row_of w) (fields_behind (drop (length (first_field line)) line))
     ∙ ap (event_of (row_of w).event) read
 
--- the event of a line that begins with a word is that of the numbers of the fields behind it
+-- the event of a line that begins with a word is that of the numbers of the fields after it
 pub line_of_word : (line first : List ℕ) (w : Word) (shape : List Field) (numbers : Result (List ℕ) LineFault) → first ≡ first_field line
     → first ≡ (row_of w).spelled → shape ≡ (row_of w).shape → length first ≤ length line
     → numbers_from 1 shape (fields_behind (take (length line - length first) (drop (length first) line))) ≡ numbers

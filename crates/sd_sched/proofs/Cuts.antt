@@ -1,4 +1,4 @@
--- The fields of a line: the first of them, and those behind it.
+-- The fields of a line: the first of them, and those after it.
 use Rattle.std.proofs.Common.{◌≡◌, ℕ, zero, suc, ◌≤◌, Bool, true, false, cond, eqb, List, [], ◌∷◌, length, take, drop, refl, ap, arith}
 use Rattle.std.specs.Prelude.{nat_eq, slice_get}
 use Rattle.std.specs.List.{list_all}
@@ -9,7 +9,7 @@ use Rattle.sd_sched.specs.Lines.{fields, with_front, first_field}
 use Rattle.sd_sched.specs.Reading.{fields_behind}
 use Rattle.sd_sched.proofs.Joined.{no_space_digit}
 
--- what stands before the first space, and the fields behind it
+-- what stands before the first space, and the fields after it
 pub fields_step : (bytes : List ℕ) → fields bytes ≡ first_field bytes ∷ fields_behind (drop (length (first_field bytes)) bytes)
 fields_step [] = refl
 fields_step (byte ∷ bytes) = go (eqb byte 32) (fields_step bytes)

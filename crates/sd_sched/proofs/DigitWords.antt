@@ -23,7 +23,7 @@ module _ (text : List ℕ) (at word : ℕ) (fit : Bytes (λ k. get_or text k 0))
           ap (digits_value 10) (sym (take-take count 8 (drop at text) (omega arith))) ∙ read.1,
         )
 
-    -- those of a word of digits, and more behind them
+    -- those of a word of digits, and more after them
     pub word_goes_on : (count n v : ℕ) → count < 8 → at + 16 ≤ length text → IsOfDigits word → digits_len (drop (at + 8) text) ≡ count
         → digits_value 10 (take count (drop (at + 8) text)) ≡ n
         → v ≡ (digits_value 10 (take 8 (drop at text)) * 10 ^ count + n) % 2 ^ 64

@@ -37,10 +37,6 @@ first_is_all bytes none =
     go true none = absurd (cc)
     go false none = refl
 
--- the fields begin with what stands before the first space
-pub first_of_fields : (bytes : List ℕ) → get_or (fields bytes) 0 [] ≡ first_field bytes
-first_of_fields bytes = ap (λ (fs : List (List ℕ)). get_or fs 0 []) (fields_step bytes)
-
 -- a line whose first field is no word of the schedule
 pub unknown_first : (bytes : List ℕ) → is_word (first_field bytes) ≡ false → event_of_line bytes ≡ Err UnknownWord
 unfolding event_of_line

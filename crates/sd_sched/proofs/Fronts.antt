@@ -1,4 +1,4 @@
--- The line at the front of bytes, by its word and the fields behind it.
+-- The line at the front of bytes, by its word and the fields after it.
 use Rattle.std.proofs.Common.{◌≡◌, ◌∙◌, ℕ, ◌+◌, ◌-◌, ◌≤◌, true, not, List, ◌++◌, length, take, slice_range, Ok, refl, ap, arith, take-add}
 use Rattle.std.specs.Prelude.{nat_eq}
 use Rattle.std.proofs.lemmas.List.Folds.{list_all-append}
@@ -14,7 +14,7 @@ use Rattle.sd_sched.proofs.InPlace.{numbers_in, fields_first, fields_ordered, fi
 module _ (w : Word) (bytes : List ℕ) (place len : ℕ) (ns : List ℕ) (spells : take place bytes ≡ (row_of w).spelled)
     (has : HasFields (row_of w).shape bytes place len ns)
   where
-    -- the line is the word, and what is behind it
+    -- the line is the word, and what follows it
     parts : take len bytes ≡ (row_of w).spelled ++ slice_range bytes place len
     parts =
         let ordered = fields_ordered (row_of w).shape bytes place len ns has in

@@ -46,7 +46,7 @@ has_number most bytes from count v inside few short ends is written =
       below = omega (arith, same, below);
     }
 
--- a byte at a place, and those behind it
+-- a byte at a place, and those after it
 at_splits : (bytes : List ℕ) (place byte : ℕ) → is_at bytes place byte ≡ true → drop place bytes ≡ byte ∷ drop (suc place) bytes
 at_splits [] place byte is = cc
 at_splits (b ∷ bs) zero byte is = let same : b ≡ byte = eqb-true b byte is in rw same refl
@@ -100,7 +100,7 @@ fields_short (field ∷ shape) bytes place len (n ∷ ns) has =
     at_most Which = omega arith
     at_most Kind = omega arith
 
--- the bytes of fields: a space, the digits of the first, and what is behind it
+-- the bytes of fields: a space, the digits of the first, and what follows it
 slice_first : (shape : List Field) (bytes : List ℕ) (place end len : ℕ) (ns : List ℕ) → is_at bytes place 32 ≡ true → place + 1 < end
     → HasFields shape bytes end len ns
     → slice_range bytes place len ≡ 32 ∷ slice_range bytes (place + 1) end ++ slice_range bytes end len
@@ -109,7 +109,7 @@ slice_first shape bytes place end len ns space before behind =
     slice_at bytes place 32 len space (omega (arith, ordered))
     ∙ ap (λ (bs : List ℕ). 32 ∷ bs) (range_split bytes (place + 1) end len (omega arith) ordered)
 
--- what has no space is the first field before what is behind it
+-- what has no space is the first field before what follows it
 pub fields_first : (shape : List Field) (bytes text : List ℕ) (end len : ℕ) (ns : List ℕ) → has_no_space text ≡ true
     → HasFields shape bytes end len ns → fields (text ++ slice_range bytes end len) ≡ text ∷ fields_behind (slice_range bytes end len)
 fields_first [] bytes text end len [] clean has =
@@ -168,7 +168,7 @@ fields_one_line (field ∷ shape) bytes place len (n ∷ ns) has =
       fields_one_line shape bytes end len ns behind,
     ) refl
 
--- a newline is behind them
+-- a newline follows them
 pub newline_behind : (shape : List Field) (bytes : List ℕ) (place len : ℕ) (ns : List ℕ) → HasFields shape bytes place len ns
     → is_at bytes len 10 ≡ true
 newline_behind [] bytes place len [] has = rw (← has.0) has.1

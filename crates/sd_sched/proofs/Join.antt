@@ -31,7 +31,7 @@ pub count_wins : (a : Result (List ℕ) LineFault) → a then Err FieldCount ≡
 count_wins (Ok xs) = refl
 count_wins (Err f) = refl
 
--- nothing behind adds nothing
+-- nothing after adds nothing
 pub then_none : (a : Result (List ℕ) LineFault) → a then Ok [] ≡ a
 then_none (Ok xs) = ap Ok (append-nil xs)
 then_none (Err f) = refl
@@ -67,7 +67,7 @@ ReadTo-none shape behind = record {
     go (Ok ns) = refl
     go (Err f) = refl
 
--- what is read of the fields that are left: of one, and of those behind it
+-- what is read of the fields that are left: of one, and of those after it
 one_more : (shape : List Field) (place : ℕ) (bytes : List ℕ) (front : Result (List ℕ) LineFault) (number : Option ℕ) → place < length shape
     → number ≡ field_number (get_or shape place Amount) (first_field bytes)
     → front then numbers_from (place + 1) (drop place shape) (fields bytes)

@@ -11,5 +11,3 @@ pub mod DigitWords
 pub mod InPlace
 pub mod Fronts
 pub mod ReadBack
--- Handed on: what crates above name of those below.
-pub use Rattle.sd_num.proofs as Num

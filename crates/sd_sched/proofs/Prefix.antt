@@ -25,7 +25,7 @@ pub front_length : (bytes : List ℕ) (n : ℕ) → n ≤ length bytes → list_
     → map_or (slice_get bytes n) true (λ byte. nat_eq byte 32) ≡ true → length (first_field bytes) ≡ n
 front_length bytes n inside digits ends = ap length (first_is_digits bytes n digits ends inside) ∙ length-take-le n bytes inside
 
--- what is left behind them is what is left behind the field
+-- what is left after them is what is left after the field
 pub front_left : (bytes : List ℕ) (n : ℕ) → n ≤ length bytes → list_all is_digit (take n bytes) ≡ true
     → map_or (slice_get bytes n) true (λ byte. nat_eq byte 32) ≡ true → drop n bytes ≡ drop (length (first_field bytes)) bytes
 front_left bytes n inside digits ends = rw (front_length bytes n inside digits ends) refl

@@ -16,12 +16,6 @@ use Rattle.sd_sched.specs.declared.Event.TheVariants.{Start, Tick, Recv, Lose, F
 use Rattle.sd_sched.proofs.Decimals.{decimal_digits, number-decimal}
 use Rattle.sd_sched.proofs.Joined.{has_no_space, fields-joined, digits_no_space}
 
--- the fields with their newline are the line and a newline
-pub terminated_is : (first : List ℕ) (others : List (List ℕ)) → terminated (first ∷ others) ≡ join_with_byte 32 (first ∷ others) ++ 10 ∷ []
-terminated_is first [] = refl
-terminated_is first (next ∷ others) =
-    ap (λ (bytes : List ℕ). first ++ 32 ∷ bytes) (terminated_is next others) ∙ sym (append_assoc first (32 ∷ join_with_byte 32 (next ∷ others)) (10 ∷ []))
-
 -- the number of a field is within its limit
 abbrev is_number_of : Field → ℕ → Bool
 is_number_of Amount n = nat_le n (limit Amount)

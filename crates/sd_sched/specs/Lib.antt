@@ -7,5 +7,3 @@ pub mod Reading
 pub mod Words
 pub mod InPlace
 pub mod Printing
--- Handed on: what crates above name of those below.
-pub use Rattle.sd_num.specs as Num

@@ -41,7 +41,7 @@ only_reads Ask = true
 only_reads Commit = true
 only_reads _ = false
 
--- the fields of what is left of a line behind a field: of nothing none, and else those behind the space
+-- the fields of what is left of a line after a field: of nothing none, and else those after the space
 abbrev pub fields_behind : List ℕ → List (List ℕ)
 fields_behind [] = []
 fields_behind (space ∷ bytes) = fields bytes
@@ -52,14 +52,14 @@ fault_of Amount place = Number place
 fault_of Which place = Number place
 fault_of Kind place = UnknownWord
 
--- a field's fault and that of the line behind it: the count is answered before a kind, a kind before a number, and of numbers the first
+-- a field's fault and that of the line after it: the count is answered before a kind, a kind before a number, and of numbers the first
 abbrev pub reported_first : LineFault → LineFault → LineFault
 reported_first first FieldCount = FieldCount
 reported_first first UnknownWord = UnknownWord
 reported_first first (Number place) = first
 
 infixl 10 ◌then◌
--- the numbers of some fields and of those behind them, or the fault that is answered
+-- the numbers of some fields and of those after them, or the fault that is answered
 abbrev pub ◌then◌ : Result (List ℕ) LineFault → Result (List ℕ) LineFault → Result (List ℕ) LineFault
 (Ok front) then (Ok behind) = Ok (front ++ behind)
 (Ok front) then (Err fault) = Err fault

@@ -85,7 +85,7 @@ fn flags_from_ten(word: u64) -> u64
     ((word & 0x7f7f_7f7f_7f7f_7f7f) + 0x7676_7676_7676_7676 | word) & 0x8080_8080_8080_8080
 }
 
-/// The word with so many of its first bytes moved up to its end.
+/// The word with this many of its first bytes moved up to its end.
 #[inline(always)]
 fn keep_first(word: u64, count: u32) -> u64
     requires { count < 8 }

@@ -11,7 +11,7 @@ use crate::Event;
 use crate::numbers::{number_at, short_at};
 use crate::words::Word;
 
-/// A text with so many bytes has room for each of these lines, and for what is looked at behind
+/// A text with this many bytes has room for each of these lines, and for what is looked at after
 /// the place where its last number begins.
 const ROOM: usize = 80;
 
@@ -115,7 +115,7 @@ fn fast_line(text: &[u8]) -> Option<BufferedLine>
     }
 }
 
-/// Which of these words the text begins with, and where the space behind it is.
+/// Which of these words the text begins with, and where the space after it is.
 #[inline(always)]
 fn fast_word(text: &[u8]) -> Option<(Word, usize)>
     ensures spelled { IfSome result
@@ -132,7 +132,7 @@ fn fast_word(text: &[u8]) -> Option<(Word, usize)>
     }
 }
 
-/// Reads the reference time and the device behind the space at a place. A space is behind them.
+/// Reads the reference time and the device after the space at a place. A space follows them.
 #[inline(always)]
 fn read_head(text: &[u8], place: usize) -> Option<Head>
     requires room { place + 44 ≤ length text.now }

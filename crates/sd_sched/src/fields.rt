@@ -23,11 +23,11 @@ const MOST_WHICH: u64 = (1 << 32) - 1;
 pub struct Found<'a> {
     /// Its number, unless it has none within its limit.
     pub number: Option<u64>,
-    /// What is left of the line behind it: nothing, or a space and more fields.
+    /// What is left of the line after it: nothing, or a space and more fields.
     pub left: &'a [u8],
 }
 
-/// The numbers of the fields behind a word, or the fault of the line. What is behind the word is
+/// The numbers of the fields after a word, or the fault of the line. What is after the word is
 /// nothing, or a space and the fields.
 pub fn read_fields(shape: &[Field], behind: &[u8]) -> Result<[u64; MOST_FIELDS], LineFault>
     requires { length shape.now ≤ MOST_FIELDS }
@@ -130,7 +130,7 @@ fn within(number: u64, most: u64) -> Option<u64>
     if number <= most { Some(number) } else { None }
 }
 
-/// Whether digits are a number: there is one, and no other stands behind a leading `0`.
+/// Whether digits are a number: there is one, and no other stands after a leading `0`.
 pub fn is_plain(digits: &[u8]) -> bool
     ensures { result ≡ (nat_lt 0 (length digits.now) && not (leads_with_zero digits.now)) }
 {
@@ -171,7 +171,7 @@ fn read_refused(bytes: &[u8], most: u64) -> Found<'_>
     }
 }
 
-/// Reads the field at the front of the bytes, which says what the number behind it names.
+/// Reads the field at the front of the bytes, which says what the number after it names.
 fn read_kind(bytes: &[u8]) -> Found<'_>
     ensures number { result.number ≡ field_number Field.Kind (first_of bytes.now) }
     ensures within { IfSome result.number (λ n. n ≤ 1) }

@@ -1,4 +1,4 @@
-//! A number at a place of a text, and the byte behind it: its digits are read eight at a time, and
+//! A number at a place of a text, and the byte after it: its digits are read eight at a time, and
 //! no limit is looked at, since so few digits make no number beyond it.
 ghost use Rattle.std.specs.Prelude.{◌≡◌, ◌+◌, ◌*◌, ◌%◌, ◌^◌, ◌<◌, ◌≤◌, ℕ, List, length, take, drop, IfSome, IsTrue};
 ghost use Rattle.std.specs.Str.Parse.{digits_value};
@@ -19,7 +19,7 @@ pub struct Placed {
     pub end: usize,
 }
 
-/// Reads the number at a place, if it has at most seven digits and this byte is behind it.
+/// Reads the number at a place, if it has at most seven digits and this byte is after it.
 #[inline(always)]
 pub fn short_at(text: &[u8], from: usize, behind: u8) -> Option<Placed>
     requires { from + 8 ≤ length text.now }
@@ -31,7 +31,7 @@ pub fn short_at(text: &[u8], from: usize, behind: u8) -> Option<Placed>
     ended(text, from, digits, behind)
 }
 
-/// Reads the number at a place, if it has at most fifteen digits and this byte is behind it.
+/// Reads the number at a place, if it has at most fifteen digits and this byte is after it.
 #[inline(always)]
 pub fn number_at(text: &[u8], from: usize, behind: u8) -> Option<Placed>
     requires { from + 16 ≤ length text.now }
@@ -49,7 +49,7 @@ pub fn number_at(text: &[u8], from: usize, behind: u8) -> Option<Placed>
     }
 }
 
-/// Eight digits, and more behind them.
+/// Eight digits, and more after them.
 #[inline(always)]
 fn joined(word: u64, more: Digits) -> Digits
     requires digits { IsOfDigits word }
@@ -66,7 +66,7 @@ fn joined(word: u64, more: Digits) -> Digits
     }
 }
 
-/// The number of the digits at a place, if it is written as a number and this byte is behind it.
+/// The number of the digits at a place, if it is written as a number and this byte is after it.
 #[inline(always)]
 fn ended(text: &[u8], from: usize, digits: Digits, behind: u8) -> Option<Placed>
     requires inside { from + digits.count < length text.now }

@@ -22,7 +22,7 @@ pub enum Word {
     End,
 }
 
-/// What a field behind a word is.
+/// What a field after a word is.
 #[derive(Clone, Copy)]
 pub enum Field {
     /// A time or a counter, an uncertainty or the number of a message: at most 2^60.
@@ -33,7 +33,7 @@ pub enum Field {
     Kind,
 }
 
-/// How many fields may stand behind a word.
+/// How many fields may stand after a word.
 pub const MOST_FIELDS: usize = 5;
 
 impl Word {
@@ -62,7 +62,7 @@ impl Word {
         }
     }
 
-    /// The fields behind the word.
+    /// The fields after the word.
     pub fn shape(self) -> &'static [Field]
         ensures shape { result.now ≡ (row_of self).shape }
         ensures few { length result.now ≤ MOST_FIELDS }

@@ -1,2 +1,0 @@
--- Handed on: what crates above name of those below.
-pub use Rattle.sd_topo.proofs as Topo

@@ -1,10 +1,10 @@
 //! The networks that are read, with the shape that proofs know them by.
 ghost use Rattle.std.specs.Prelude.{◌≡◌, ◌<◌, length, IfOk, IsTrue, ◌↔◌};
-ghost use Rattle.sd_topo.specs.Topologies.{network};
+ghost use Rattle.sd_plan.specs.topo.Topologies.{network};
 ghost use Rattle.sd_plan.specs.Examples.{HasEnds, IsFabric, IsSquare};
 
 use crate::texts::{FABRIC, SQUARE_TRAY};
-use sd_topo::Topology;
+use sd_plan::topo::Topology;
 use sd_topotext::{TopoFault, read_topology};
 use std::alloc::Global;
 

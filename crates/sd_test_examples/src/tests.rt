@@ -2,8 +2,8 @@
 ghost use Rattle.std.specs.Prelude.{◌≡◌, length, IfOk};
 
 use super::*;
+use sd_plan::topo::Thing;
 use sd_plan::{DeviceList, End, PlanTable, Role, Span, WalkIndex, epath, path};
-use sd_topo::Thing;
 use std::alloc::Global;
 use std::test::Fail;
 

@@ -1,10 +1,10 @@
 -- What a clock that stands still reports, and what it sends.
 use Rattle.std.specs.Prelude.{ℕ}
-use Rattle.sd_test_fleet_kit.specs.Clock.declared.Report.{Report}
-use Rattle.sd_test_fleet_kit.specs.Msg.declared.Message.{Message}
-use Rattle.sd_test_fleet_kit.specs.Core.declared.Effect.{Effect}
-use Rattle.sd_test_fleet_kit.specs.Core.declared.Effect.TheVariants.{Quiet, Send}
-use Rattle.sd_test_fleet_kit.specs.Core.Calls.{Call, Tick}
+use Rattle.sd_num.specs.declared.clock.Report.{Report}
+use Rattle.sd_device.specs.declared.msg.Message.{Message}
+use Rattle.sd_device.specs.declared.Effect.{Effect}
+use Rattle.sd_device.specs.declared.Effect.TheVariants.{Quiet, Send}
+use Rattle.sd_device.specs.Calls.{Call, Tick}
 
 -- what the clock reports
 abbrev pub still : Report

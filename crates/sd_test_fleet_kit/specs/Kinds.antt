@@ -1,11 +1,11 @@
 -- What nodes of other kinds than a device do at a call.
 use Rattle.std.specs.Prelude.{true}
-use Rattle.sd_core.specs.declared.Effect.{Effect}
-use Rattle.sd_core.specs.declared.Effect.TheVariants.{Quiet, Send}
-use Rattle.sd_core.specs.declared.registers.Registers.{Registers}
-use Rattle.sd_core.specs.declared.registers.Mode.TheVariants.{Primary, Backup}
-use Rattle.sd_core.specs.Calls.{Call, Receive}
-use Rattle.sd_core.specs.Rules.{called}
+use Rattle.sd_device.specs.declared.Effect.{Effect}
+use Rattle.sd_device.specs.declared.Effect.TheVariants.{Quiet, Send}
+use Rattle.sd_device.specs.declared.registers.Registers.{Registers}
+use Rattle.sd_device.specs.declared.registers.Mode.TheVariants.{Primary, Backup}
+use Rattle.sd_device.specs.Calls.{Call, Receive}
+use Rattle.sd_device.specs.Rules.{called}
 
 -- after a message the device is sealed
 abbrev pub seals_itself : Registers → Call → Registers × Effect

@@ -1,10 +1,10 @@
 -- What holds of each plan of a list that grows.
 use Rattle.std.specs.Prelude.{◌≡◌, List, [], ◌∷◌, ◌++◌}
 use Rattle.std.proofs.Common.{subst, sym}
-use Rattle.sd_checker.specs.Topo.Network.{Each}
-use Rattle.sd_checker.specs.Plan.declared.Plan.{Plan}
-use Rattle.sd_checker.proofs.Plan.Shared.{each_more}
-use Rattle.sd_replay.proofs.Fleet.Eaches.{each_joined}
+use Rattle.sd_plan.specs.topo.Network.{Each}
+use Rattle.sd_plan.specs.declared.Plan.{Plan}
+use Rattle.sd_plan.proofs.Shared.{each_more}
+use Rattle.sd_fleet.proofs.Eaches.{each_joined}
 
 -- the same list, as another name has it
 pub each_as : (P : Plan → Type 0) (plans same : List Plan) → same ≡ plans → Each P plans → Each P same

@@ -1,5 +1,5 @@
-//! A replay of devices beside a plain slow one, on histories drawn by lot over four networks: each
-//! line of each event is compared.
+//! A replay beside a plain slow one, on histories drawn by lot over four networks: each line of each
+//! event is compared. It is of devices, and of nodes that seal themselves or fall back at a message.
 
 mod accepted;
 mod changes;
@@ -14,24 +14,25 @@ use crate::plain::{PlainReplay, Site};
 use accepted::accepted_plans;
 use course::Course;
 use networks::{FABRIC, NETWORKS, Network, SQUARE};
+use sd_device::msg::NoObserver;
+use sd_device::{Device, Node};
+use sd_plan::Plan;
+use sd_plan::topo::{Thing, Topology};
 use sd_replay::{PlanList, Replay, ReplayFault};
-use sd_test_fleet_kit::device::Device;
-use sd_test_fleet_kit::msg::NoObserver;
-use sd_test_fleet_kit::plain::Numbers;
-use sd_test_fleet_kit::plan::Plan;
-use sd_test_fleet_kit::sched::{Event, line_text, read_line};
-use sd_test_fleet_kit::topo::{Thing, Topology};
-use sd_test_fleet_kit::topotext::read_topology;
+use sd_sched::{Event, line_text, read_line};
+use sd_test_fleet_kit::kinds::{FallingBack, SelfSealing};
+use sd_test_fleet_kit::plain::{NodeKind, Numbers};
+use sd_topotext::read_topology;
 use std::alloc::Global;
 use std::process::Abort;
 use std::test::Fail;
 use tally::{Seen, Tally};
 use tempers::{RASH, RENEWED, TEMPERS, Temper};
 
-/// So many histories of each temper are drawn over each network.
+/// This many histories of each temper are drawn over each network.
 const HISTORIES: u32 = 4;
 
-/// In so many of all histories each premise breaks and each alarm comes, and in as many it does not.
+/// In this many histories each premise breaks and each alarm comes, and in as many it does not.
 const LEAST: u64 = 8;
 
 /// What a history is drawn for.
@@ -42,14 +43,16 @@ struct Kind<'a> {
     seed: u64,
     /// Whether the replay is given lines, and not events.
     by_lines: bool,
+    /// What its nodes are.
+    nodes: NodeKind,
 }
 
 /// What is compared, and what was seen.
 #[derive(Drop)]
-struct Trial<'a, 'b> {
-    replay: &'a mut Replay<Device, NoObserver>,
-    plain: &'a mut PlainReplay<'b>,
-    seen: &'a mut Seen,
+struct Trial<'a, N: Node> {
+    replay: Replay<N, NoObserver>,
+    plain: PlainReplay<'a>,
+    seen: Seen,
 }
 
 /// A line without its newline.
@@ -61,14 +64,14 @@ fn without_newline(text: &[u8]) -> &[u8] {
 }
 
 /// Whether the replay has printed this text.
-fn prints(replay: &Replay<Device, NoObserver>, text: &str) -> bool {
+fn prints<N: Node>(replay: &Replay<N, NoObserver>, text: &str) -> bool {
     replay.lines() == text.as_bytes()
 }
 
 /// An event that the replay accepts happens in the plain program too, which finds the same of it.
-fn compare(
+fn compare<N: Node>(
     rt: &(impl AllocGlobal + Abort),
-    trial: &mut Trial<'_, '_>,
+    trial: &mut Trial<'_, N>,
     kind: Kind<'_>,
     event: Event,
 ) -> Result<(), Fail> {
@@ -76,7 +79,7 @@ fn compare(
     let found = trial.plain.happen(event)?;
     let text = found.text(rt.alloc(), trial.plain.site)?;
     assert!(rt;
-        prints(trial.replay, text.as_str()),
+        prints(&trial.replay, text.as_str()),
         "history {seed}: {event:?} {text}"
     );
     let closed = trial.plain.plain.has_just_closed();
@@ -85,9 +88,9 @@ fn compare(
 }
 
 /// An event that was drawn, which the fleet may refuse.
-fn happen(
+fn happen<N: Node>(
     rt: &(impl AllocGlobal + Abort),
-    trial: &mut Trial<'_, '_>,
+    trial: &mut Trial<'_, N>,
     kind: Kind<'_>,
     drawn: &Event,
 ) -> Result<(), Fail> {
@@ -108,15 +111,15 @@ fn happen(
 }
 
 /// One history up to its end.
-fn run_history(
+fn run_history<N: Node>(
     rt: &(impl AllocGlobal + Abort),
-    trial: &mut Trial<'_, '_>,
+    trial: &mut Trial<'_, N>,
     kind: Kind<'_>,
 ) -> Result<(), Fail> {
     let mut numbers = Numbers { state: kind.seed };
     for _ in 0..kind.temper.events {
         let drawn = Course {
-            replay: &*trial.plain,
+            replay: &trial.plain,
             temper: kind.temper,
             failures: kind.failures,
             seed: kind.seed,
@@ -129,7 +132,7 @@ fn run_history(
 }
 
 /// The replay has counted what was seen.
-fn compare_tallies(rt: &impl Abort, trial: &Trial<'_, '_>) {
+fn compare_tallies<N: Node>(rt: &impl Abort, trial: &Trial<'_, N>) {
     let tally = trial.replay.tally();
     assert!(rt; trial.replay.ended());
     assert_eq!(rt; tally.events, trial.seen.events);
@@ -139,28 +142,29 @@ fn compare_tallies(rt: &impl Abort, trial: &Trial<'_, '_>) {
 }
 
 /// One history over a network, in a replay and in the plain program.
-fn run_over(
+fn run_over<N: Node>(
     rt: &(impl AllocGlobal + Abort),
-    replay: &mut Replay<Device, NoObserver>,
+    replay: Replay<N, NoObserver>,
     site: &Site<'_>,
     kind: Kind<'_>,
     tally: &mut Tally,
 ) -> Result<(), Fail> {
-    let mut seen = Seen::new();
-    let mut plain = PlainReplay::new(rt.alloc(), site);
     let mut trial = Trial {
         replay,
-        plain: &mut plain,
-        seen: &mut seen,
+        plain: PlainReplay::of_kind(rt.alloc(), site, kind.nodes),
+        seen: Seen::new(),
     };
-    run_history(rt, &mut trial, kind)?;
-    compare_tallies(rt, &trial);
-    tally.add(&seen, plain.broken.as_slice());
-    Ok(())
+    let ran = run_history(rt, &mut trial, kind);
+    if ran.is_ok() {
+        compare_tallies(rt, &trial);
+        tally.add(&trial.seen, trial.plain.broken.as_slice());
+    }
+    drop(trial);
+    ran
 }
 
 /// A replay of a network before any event.
-fn replay_of(alloc: Global, network: &Network) -> Result<Replay<Device, NoObserver>, Fail> {
+fn replay_of<N: Node>(alloc: Global, network: &Network) -> Result<Replay<N, NoObserver>, Fail> {
     let topo = read_topology(alloc, network.topology.as_bytes())?;
     let plans = accepted_plans(alloc, &topo, network.plans)?;
     Ok(Replay::new(alloc, topo, PlanList::from_vec(plans), NoObserver)?)
@@ -174,9 +178,9 @@ struct PlannedTopology<'a> {
 }
 
 /// One history over a topology and its plans.
-fn run_on(
+fn run_on<N: Node>(
     rt: &(impl AllocGlobal + Abort),
-    replay: &mut Replay<Device, NoObserver>,
+    replay: Replay<N, NoObserver>,
     planned: PlannedTopology<'_>,
     kind: Kind<'_>,
     tally: &mut Tally,
@@ -186,9 +190,9 @@ fn run_on(
 }
 
 /// One history over a network, in this replay of it.
-fn run_in(
+fn run_in<N: Node>(
     rt: &(impl AllocGlobal + Abort),
-    replay: &mut Replay<Device, NoObserver>,
+    replay: Replay<N, NoObserver>,
     network: &Network,
     kind: Kind<'_>,
     tally: &mut Tally,
@@ -203,35 +207,40 @@ fn run_in(
 }
 
 /// One history over a network.
-fn run_network(
+fn run_network<N: Node>(
     rt: &(impl AllocGlobal + Abort),
     network: &Network,
     kind: Kind<'_>,
     tally: &mut Tally,
 ) -> Result<(), Fail> {
-    let mut replay = replay_of(rt.alloc(), network)?;
-    run_in(rt, &mut replay, network, kind, tally)
+    let replay = replay_of::<N>(rt.alloc(), network)?;
+    run_in(rt, replay, network, kind, tally)
 }
 
-/// One history of a temper, given by lines or by events.
-fn kind_of<'a>(network: &'a Network, temper: &'a Temper, seed: u64, by_lines: bool) -> Kind<'a> {
+/// One history of a temper, of devices that are given events.
+fn kind_of<'a>(network: &'a Network, temper: &'a Temper, seed: u64) -> Kind<'a> {
     Kind {
         temper,
         failures: network.failures,
         seed,
-        by_lines,
+        by_lines: false,
+        nodes: NodeKind::Device,
     }
 }
 
 /// A history of each temper over a network.
-fn run_tempers(
+fn run_tempers<N: Node>(
     rt: &(impl AllocGlobal + Abort),
     network: Network,
+    nodes: NodeKind,
     tally: &mut Tally,
 ) -> Result<(), Fail> {
     for temper in TEMPERS {
-        let kind = kind_of(&network, &temper, tally.events, false);
-        run_network(rt, &network, kind, tally)?;
+        let kind = Kind {
+            nodes,
+            ..kind_of(&network, &temper, tally.events)
+        };
+        run_network::<N>(rt, &network, kind, tally)?;
     }
     Ok(())
 }
@@ -241,7 +250,7 @@ fn a_replay_prints_what_a_plain_program_finds(rt: HostRuntime) -> Result<(), Fai
     let mut tally = Tally::new();
     for _ in 0..HISTORIES {
         for network in NETWORKS {
-            run_tempers(&rt, network, &mut tally)?;
+            run_tempers::<Device>(&rt, network, NodeKind::Device, &mut tally)?;
         }
     }
     assert!(rt; tally.is_ample(LEAST), "{tally:?}");
@@ -249,13 +258,30 @@ fn a_replay_prints_what_a_plain_program_finds(rt: HostRuntime) -> Result<(), Fai
 }
 
 #[test]
+fn a_replay_of_nodes_that_seal_themselves_prints_the_same(rt: HostRuntime) -> Result<(), Fail> {
+    let mut tally = Tally::new();
+    run_tempers::<SelfSealing>(&rt, FABRIC, NodeKind::SelfSealing, &mut tally)?;
+    run_tempers::<SelfSealing>(&rt, SQUARE, NodeKind::SelfSealing, &mut tally)
+}
+
+#[test]
+fn a_replay_of_nodes_that_fall_back_prints_the_same(rt: HostRuntime) -> Result<(), Fail> {
+    let mut tally = Tally::new();
+    run_tempers::<FallingBack>(&rt, FABRIC, NodeKind::FallingBack, &mut tally)?;
+    run_tempers::<FallingBack>(&rt, SQUARE, NodeKind::FallingBack, &mut tally)
+}
+
+#[test]
 fn a_replay_that_is_given_lines_prints_the_same(rt: HostRuntime) -> Result<(), Fail> {
     let mut tally = Tally::new();
-    run_network(
-        &rt,
-        &FABRIC,
-        kind_of(&FABRIC, &RENEWED, 1, true),
-        &mut tally,
-    )?;
-    run_network(&rt, &SQUARE, kind_of(&SQUARE, &RASH, 2, true), &mut tally)
+    let renewed = Kind {
+        by_lines: true,
+        ..kind_of(&FABRIC, &RENEWED, 1)
+    };
+    run_network::<Device>(&rt, &FABRIC, renewed, &mut tally)?;
+    let rash = Kind {
+        by_lines: true,
+        ..kind_of(&SQUARE, &RASH, 2)
+    };
+    run_network::<Device>(&rt, &SQUARE, rash, &mut tally)
 }

@@ -15,7 +15,7 @@ mod searches;
 
 /// What is written for words that are no command's.
 const USAGE: &str =
-    "usage: sundialctl search TOPOLOGY BASE HOLD SEED STEPS | renew TOPOLOGY PLAN ABSENT BASE HOLD SEED STEPS | bounds TOPOLOGY PLAN BASE HOLD | resume TOPOLOGY PLAN.. SCHEDULE / PLAN.. OPENING | record TOPOLOGY PLAN.. LOG | merge LOGS FEED\n";
+    "usage: sundialctl search TOPOLOGY BASE HOLD SEED STEPS | renew TOPOLOGY PLAN ABSENT BASE HOLD SEED STEPS | bounds TOPOLOGY PLAN BASE HOLD | resume TOPOLOGY PLAN.. SCHEDULE / PLAN.. OPENING | record TOPOLOGY PLAN.. LOG | merge LOGS FEED | version\n";
 
 /// A run of words over texts. The calls of the shelf that are listed fail, and so do the writes.
 fn run_over(
@@ -48,7 +48,7 @@ fn assert_writes(
 
 #[test]
 fn other_words_are_usage(rt: HostRuntime) -> Result<(), Fail> {
-    let cases: [&[&str]; 23] = [
+    let cases: [&[&str]; 25] = [
         &[],
         &["plan", "topology"],
         &["search", "topology", "1", "1", "1"],
@@ -58,6 +58,8 @@ fn other_words_are_usage(rt: HostRuntime) -> Result<(), Fail> {
         &["bounds", "topology", "plan", "1"],
         &["bounds", "topology", "plan", "1", "1", "1"],
         &["bounds", "topology", "plan", "1", "1152921504606846977"],
+        &["version", "1"],
+        &["Version"],
         &["merge"],
         &["merge", "2"],
         &["merge", "0", "feed"],
@@ -82,4 +84,9 @@ fn other_words_are_usage(rt: HostRuntime) -> Result<(), Fail> {
         assert_writes(&rt, words, &texts, (USAGE, Status::Usage))?;
     }
     Ok(())
+}
+
+#[test]
+fn the_version_is_printed(rt: HostRuntime) -> Result<(), Fail> {
+    assert_writes(&rt, &["version"], &[], ("version 1.0.0\n", Status::Done))
 }

@@ -3,8 +3,8 @@
 
 ghost use Rattle.std.specs.Prelude.{◌≡◌, ◌≤◌, false, IfOk};
 
+use sd_io::outside::{MemShelf, MemSink};
 use sd_num::NoMemory;
-use sd_outside::{MemShelf, MemSink};
 use sd_top::{Status, run};
 use std::alloc::{AllocError, Global};
 
@@ -58,7 +58,7 @@ fn sink_of(alloc: Global, failing: &[(u64, usize)]) -> Result<MemSink, AllocErro
 }
 
 /// Runs the words over a shelf and a sink of 10,000 bytes. A write whose number is listed, counted
-/// from 1, keeps so many bytes and fails.
+/// from 1, keeps this many bytes and fails.
 ///
 /// Nothing is promised here of what the run answers: a row compares that, and its proof need not go
 /// through all that `run` promises.

@@ -5,7 +5,7 @@ mod faults;
 mod words;
 
 use crate::kit::{run_words, shelf_of};
-use sd_outside::MemShelf;
+use sd_io::outside::MemShelf;
 use sd_test_examples::{TRIANGLE, TRIANGLE_PLAN};
 use sd_top::Status;
 use std::alloc::{AllocError, Global};

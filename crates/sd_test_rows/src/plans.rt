@@ -3,7 +3,7 @@
 use std::alloc::Global;
 use std::test::Fail;
 
-/// The words of a command over so many plans.
+/// The words of a command over this many plans.
 pub(crate) fn words_of(
     alloc: Global,
     command: &'static str,

@@ -10,7 +10,7 @@ mod versions;
 mod words;
 
 use crate::kit::run_words;
-use sd_outside::MemShelf;
+use sd_io::outside::MemShelf;
 use sd_test_examples::{TRIANGLE, TRIANGLE_PLAN};
 use sd_top::Status;
 use std::alloc::{AllocError, Global};

@@ -13,7 +13,7 @@ pub(crate) struct Run<'a> {
     pub(crate) words: &'a [&'a str],
     /// The texts under their names.
     pub(crate) texts: &'a [(&'a str, &'a [u8])],
-    /// A read gives at most so many bytes of them.
+    /// A read gives at most this many bytes of them.
     pub(crate) piece: usize,
     /// The calls of the shelf that fail, counted from 1.
     pub(crate) calls: &'a [u64],
@@ -34,14 +34,14 @@ pub(crate) fn run_of<'a>(words: &'a [&'a str], texts: &'a [(&'a str, &'a [u8])])
     }
 }
 
-/// A text whose first line no command knows, with 20,000 bytes behind it that end no line.
+/// A text whose first line no command knows, with 20,000 bytes after it that end no line.
 pub(crate) fn refused_at_once(alloc: Global) -> Result<Vec<u8>, AllocError> {
     let mut text = vec![in alloc; b'y'; 20_002]?;
     text.as_mut_slice()[..2].copy_from_slice(b"x\n");
     Ok(text)
 }
 
-/// A run writes and answers what is due, and leaves at least so many bytes of the text that it
+/// A run writes and answers what is due, and leaves at least this many bytes of the text that it
 /// began last.
 pub(crate) fn assert_leaves(
     rt: &(impl Abort + AllocGlobal),
@@ -87,7 +87,7 @@ pub(crate) fn assert_ran(
     assert_leaves(rt, run, due, 0)
 }
 
-/// A run makes so many calls of the shelf: where one of them fails it writes nothing, and else this.
+/// A run makes this many calls of the shelf. Where one fails it writes nothing, and else this.
 pub(crate) fn assert_calls_fail(
     rt: &(impl Abort + AllocGlobal),
     run: Run<'_>,

@@ -1,19 +1,19 @@
 -- That a device alone goes on as the work of `solo` says.
 use Rattle.std.proofs.Common.{◌≡◌, ℕ, ◌+◌, List, [], ◌∷◌, Option, Some, None, Ok, sym, ap, ◌∙◌, subst, length, add-one, refl}
-use Rattle.sd_clock.specs.declared.Report.{Report}
+use Rattle.sd_num.specs.declared.clock.Report.{Report}
 use Rattle.sd_num.specs.Lists.{map_or}
 use Rattle.sd_sched.specs.declared.Event.{Event}
-use Rattle.sd_solo.specs.Histories.{bytes_of, refusal, report_by, report_text}
-use Rattle.sd_solo.specs.Lines.{solo_event}
-use Rattle.sd_solo.specs.Registers.{StandsFor}
-use Rattle.sd_solo.specs.declared.Solo.{Solo}
-use Rattle.sd_solo.specs.declared.SoloFault.{SoloFault}
-use Rattle.sd_solo.proofs.Standing.{latest_accepted}
+use Rattle.sd_commands.specs.solo.Histories.{bytes_of, refusal, report_by, report_text}
+use Rattle.sd_commands.specs.solo.Lines.{solo_event}
+use Rattle.sd_commands.specs.solo.Registers.{StandsFor}
+use Rattle.sd_commands.specs.declared.solo.Solo.{Solo}
+use Rattle.sd_commands.specs.declared.solo.SoloFault.{SoloFault}
+use Rattle.sd_commands.proofs.solo.Standing.{latest_accepted}
 use Rattle.std.specs.Prelude.{IsTrue, codes, decimal}
-use Rattle.sd_cmd_files.specs.work.Leaving.{are_lines}
-use Rattle.sd_cmd_files.specs.work.Works.{Work}
-use Rattle.sd_cmd_files.specs.work.WholeLines.{WritesWhole}
-use Rattle.sd_cmd_files.proofs.work.Whole.{text_whole}
+use Rattle.sd_files.specs.work.Leaving.{are_lines}
+use Rattle.sd_files.specs.work.Works.{Work}
+use Rattle.sd_files.specs.work.WholeLines.{WritesWhole}
+use Rattle.sd_files.proofs.work.Whole.{text_whole}
 use Rattle.sd_top.specs.Schedules.{accepted, solo_work, unless_refused}
 
 -- a line was taken that gave an event, which was printed

@@ -1,30 +1,30 @@
 -- The bounds of a topology's links are those of what its file says.
 use Rattle.std.proofs.Common.{ℕ, true, List, Option, Some, None, Result, Ok, Err, sym, subst}
 use Rattle.std.specs.Prelude.{IfSome}
-use Rattle.sd_cmd_files.specs.Stream.Reader.{IsNear}
-use Rattle.sd_topo.specs.Network.{Network}
-use Rattle.sd_topo.specs.Topologies.{network}
-use Rattle.sd_topo.specs.declared.topology.Topology.{Topology}
-use Rattle.sd_outside.specs.Pieces.{Pieces}
-use Rattle.sd_outside.specs.Rests.{RestIs}
-use Rattle.sd_cmd_files.specs.Answering.{After, InWrites, WritesAfter}
-use Rattle.sd_cmd_files.specs.Inputs.{topology_of}
-use Rattle.sd_cmd_files.specs.Loads.{Loads}
-use Rattle.sd_cmd_files.specs.Texts.{texts_of}
-use Rattle.sd_cmd_files.specs.Writes.{HasOutput, WritesOnce}
-use Rattle.sd_cmd_files.specs.declared.Status.{Status}
-use Rattle.sd_cmd_files.specs.declared.command_error.CommandError.{CommandError}
-use Rattle.sd_cmd_files.specs.declared.command_error.CommandError.TheVariants as ended
-use Rattle.sd_cmd_files.specs.declared.command_error.Refusal.{Refusal}
-use Rattle.sd_cmd_files.specs.declared.command_error.IoError.{IoError}
-use Rattle.sd_cmd_files.specs.declared.command_error.IoError.TheVariants as stop
-use Rattle.sd_cmd_files.specs.work.Ending.{LeavesAt}
-use Rattle.sd_cmd_files.specs.work.Works.{InSteps, IsOutcome, refused_part}
-use Rattle.sd_cmd_replay.proofs.Loading.{Held}
-use Rattle.sd_cmd_twoway.specs.Twoways.{twoway_work}
+use Rattle.sd_io.specs.stream.Reader.{IsNear}
+use Rattle.sd_plan.specs.topo.Network.{Network}
+use Rattle.sd_plan.specs.topo.Topologies.{network}
+use Rattle.sd_plan.specs.declared.topo.topology.Topology.{Topology}
+use Rattle.sd_io.specs.outside.Pieces.{Pieces}
+use Rattle.sd_io.specs.outside.Rests.{RestIs}
+use Rattle.sd_files.specs.Answering.{After, InWrites, WritesAfter}
+use Rattle.sd_files.specs.Inputs.{topology_of}
+use Rattle.sd_files.specs.Loads.{Loads}
+use Rattle.sd_files.specs.Texts.{texts_of}
+use Rattle.sd_files.specs.Writes.{HasOutput, WritesOnce}
+use Rattle.sd_files.specs.declared.Status.{Status}
+use Rattle.sd_files.specs.declared.command_error.CommandError.{CommandError}
+use Rattle.sd_files.specs.declared.command_error.CommandError.TheVariants as ended
+use Rattle.sd_files.specs.declared.command_error.Refusal.{Refusal}
+use Rattle.sd_files.specs.declared.command_error.IoError.{IoError}
+use Rattle.sd_files.specs.declared.command_error.IoError.TheVariants as stop
+use Rattle.sd_files.specs.work.Ending.{LeavesAt}
+use Rattle.sd_files.specs.work.Works.{InSteps, IsOutcome, refused_part}
+use Rattle.sd_commands.proofs.replay.Loading.{Held}
+use Rattle.sd_commands.specs.twoway.Twoways.{twoway_work}
 use Rattle.sd_top.specs.Twoways.{refused_over}
 use Rattle.sd_top.specs.TwowayWrites.{TwowayIn}
-use Rattle.sd_top.proofs.Drilling.{unloaded_leaves}
+use Rattle.sd_drill_text.proofs.Commands.{unloaded_leaves}
 
 module _ (topology exchanges : List ℕ) where
   -- a topology that was read

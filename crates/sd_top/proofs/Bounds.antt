@@ -3,15 +3,15 @@ use Rattle.std.specs.Prelude.{◌≡◌, ℕ, ◌<◌, List, length, slice_get, 
 use Rattle.std.proofs.Common.{subst}
 use Rattle.std.proofs.lemmas.Option.{slice_get_within}
 use Rattle.sd_num.specs.Lists.{map_or}
-use Rattle.sd_topo.specs.Network.{Network}
-use Rattle.sd_plan.specs.Domain.declared.DomainId.{DomainId}
+use Rattle.sd_plan.specs.topo.Network.{Network}
+use Rattle.sd_plan.specs.declared.domain.DomainId.{DomainId}
 use Rattle.sd_plan.specs.declared.Plan.{Plan}
-use Rattle.sd_proof_bound.specs.Drill.Bounds.{AreBounds, bound_at}
-use Rattle.sd_proof_bound.specs.Drill.Drill.{IsListed, IsWorst}
-use Rattle.sd_proof_bound.specs.Drill.declared.Budget.{Budget}
-use Rattle.sd_cmd_files.specs.Texts.{Texts, texts_of}
-use Rattle.sd_proof_headline.proofs.Runs.{text_is_network, plan_fits}
-use Rattle.sd_proof_bound.proofs.Bounded.{bound_holds}
+use Rattle.sd_drill.specs.Bounds.{AreBounds, bound_at}
+use Rattle.sd_drill.specs.Drill.{IsListed, IsWorst}
+use Rattle.sd_drill.specs.declared.Budget.{Budget}
+use Rattle.sd_files.specs.Texts.{Texts, texts_of}
+use Rattle.sd_headline.proofs.Runs.{text_is_network, plan_fits}
+use Rattle.sd_bound.proofs.Bounded.{bound_holds}
 use Rattle.sd_top.specs.Words.{Command, command_of}
 use Rattle.sd_top.specs.Words.Command.{Drill}
 use Rattle.sd_top.specs.Bounds.{DrillsTruly, KeepsBounds, MeetsBounds}

@@ -1,28 +1,28 @@
 -- The line of a case has no alarm where it has no broken line.
 use Rattle.std.specs.Prelude.{◌≡◌, ℕ, zero, suc, true, List, [], ◌∷◌}
 use Rattle.std.proofs.Common.{ap, ◌∙◌, arith, subst}
-use Rattle.sd_cmd_replay.specs.Replay.History.World.{setting_over}
-use Rattle.sd_topo.specs.Network.{Network, Each}
-use Rattle.sd_topo.specs.Limits.{IsNetwork}
+use Rattle.sd_history.specs.World.{setting_over}
+use Rattle.sd_plan.specs.topo.Network.{Network, Each}
+use Rattle.sd_plan.specs.topo.Limits.{IsNetwork}
 use Rattle.sd_plan.specs.Plans.{Fits, nothing_absent}
 use Rattle.sd_plan.specs.declared.Absent.{Absent}
 use Rattle.sd_plan.specs.declared.Plan.{Plan}
-use Rattle.sd_cmd_files.specs.Checker.Verdicts.{IsAccepted, IsVerdict}
-use Rattle.sd_cmd_files.specs.Checker.declared.Verdict.{Verdict}
-use Rattle.sd_cmd_files.specs.Checker.declared.Verdict.TheVariants.{Accepted, Refused}
-use Rattle.sd_proof_bound.specs.History.World.{Setting}
-use Rattle.sd_proof_bound.specs.ProofSafety.invariant.Coming.{IsFair}
-use Rattle.sd_cmd_case.specs.Gen.fabric.Fabrics.{fabric, second_absent}
-use Rattle.sd_cmd_case.specs.Gen.Drafts.{history_of}
-use Rattle.sd_cmd_files.specs.Answering.{Allowed}
-use Rattle.sd_cmd_files.specs.declared.Status.{Status}
-use Rattle.sd_cmd_files.specs.planfiles.PlanFiles.{AfterVerdict}
-use Rattle.sd_cmd_case.specs.Cases.{AfterGreedy, IsTallied, case_tally}
-use Rattle.sd_cmd_case.specs.declared.Fabric.{Fabric}
-use Rattle.sd_cmd_case.proofs.Histories.{case_is_history}
-use Rattle.sd_cmd_case.proofs.Sized.{fabric_is_network}
-use Rattle.sd_proof_headline.specs.Headlines.{no_case_alarm}
-use Rattle.sd_proof_headline.proofs.Cases.{breach_is_calm, tally_is_calm}
+use Rattle.sd_checker.specs.Verdicts.{IsAccepted, IsVerdict}
+use Rattle.sd_checker.specs.declared.Verdict.{Verdict}
+use Rattle.sd_checker.specs.declared.Verdict.TheVariants.{Accepted, Refused}
+use Rattle.sd_history.specs.World.{Setting}
+use Rattle.sd_safety.specs.invariant.Coming.{IsFair}
+use Rattle.sd_gen.specs.fabric.Fabrics.{fabric, second_absent}
+use Rattle.sd_gen.specs.Drafts.{history_of}
+use Rattle.sd_files.specs.Answering.{Allowed}
+use Rattle.sd_files.specs.declared.Status.{Status}
+use Rattle.sd_files.specs.planfiles.PlanFiles.{AfterVerdict}
+use Rattle.sd_gen.specs.command.Cases.{AfterGreedy, IsTallied, case_tally}
+use Rattle.sd_gen.specs.declared.command.Fabric.{Fabric}
+use Rattle.sd_gen.proofs.command.Histories.{case_is_history}
+use Rattle.sd_gen.proofs.command.Sized.{fabric_is_network}
+use Rattle.sd_headline.specs.Headlines.{no_case_alarm}
+use Rattle.sd_headline.proofs.Cases.{breach_is_calm, tally_is_calm}
 use Rattle.sd_top.specs.Promised.{CaseKeepsAlarms}
 
 -- what holds of two plans holds of each of both

@@ -3,17 +3,17 @@ use Rattle.std.proofs.Common.{◌≡◌, ℕ, ◌≤◌, true, List, length, map
 use Rattle.std.specs.Prelude.{◌&&◌}
 use Rattle.std.proofs.lemmas.Bool.{and_from, and_parts}
 use Rattle.std.proofs.lemmas.List.{length-map}
-use Rattle.sd_cmd_files.specs.Statuses.{stop_of}
-use Rattle.sd_cmd_files.specs.Texts.{Texts, texts_of}
-use Rattle.sd_cmd_files.specs.declared.Status.{Status}
-use Rattle.sd_proof_headline.specs.Headlines.{no_early_alarm, no_early_interval, no_early_disorder}
-use Rattle.sd_proof_headline.proofs.Left.{HoldsOfPrefixes, alarm_of_fronts, both_of_fronts, case_of_fronts, disorder_of_fronts, interval_of_fronts, leaves_adds}
+use Rattle.sd_files.specs.Statuses.{stop_of}
+use Rattle.sd_files.specs.Texts.{Texts, texts_of}
+use Rattle.sd_files.specs.declared.Status.{Status}
+use Rattle.sd_headline.specs.Headlines.{no_early_alarm, no_early_interval, no_early_disorder}
+use Rattle.sd_headline.proofs.Left.{HoldsOfPrefixes, alarm_of_fronts, both_of_fronts, case_of_fronts, disorder_of_fronts, interval_of_fronts, leaves_adds}
 use Rattle.sd_top.proofs.Cases.{case_keeps_alarms}
 use Rattle.sd_top.proofs.Kept.{order_keeps, order_keeps_alarms, replay_keeps_alarms, replay_keeps_intervals}
 use Rattle.sd_top.specs.Headlines.{MeetsHeadline, keeps_headline}
 use Rattle.sd_top.specs.Promise.{Answers, MeetsOutcome, WritesOf, task_of}
 use Rattle.std.specs.List.{concat}
-use Rattle.sd_outside.specs.Pieces.{Pieces}
+use Rattle.sd_io.specs.outside.Pieces.{Pieces}
 use Rattle.sd_top.specs.Words.{Command, command_of}
 use Rattle.sd_top.specs.Words.Command.{Replay, Case, Order}
 use Rattle.sd_top.proofs.Within.{IsWithin, words_are_within}

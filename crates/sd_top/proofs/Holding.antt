@@ -2,21 +2,21 @@
 -- inside; and the bounds of links hold of the exchanges over them.
 use Rattle.std.proofs.Common.{◌≡◌, ℕ, ◌+◌, Bool, true, false, cond, List, [], ◌∷◌, map, Option, Some, None, Result, Ok, Err, IfOk, refl, ◌∙◌, length}
 use Rattle.std.specs.Prelude.{IsTrue}
-use Rattle.sd_cmd_files.specs.Stream.Lines.{lines}
+use Rattle.sd_io.specs.stream.Lines.{lines}
 use Rattle.sd_sched.specs.Lines.{event_of_line, first_field}
 use Rattle.sd_sched.specs.declared.Event.{Event}
 use Rattle.sd_sched.specs.declared.LineFault.{LineFault}
 use Rattle.sd_sched.specs.declared.LineFault.TheVariants.{UnknownWord}
-use Rattle.sd_solo.specs.Histories.{IsHistory, is_known, refusal}
-use Rattle.sd_solo.specs.Lines.{knows, solo_event}
-use Rattle.sd_solo.specs.declared.SoloFault.{SoloFault}
-use Rattle.sd_solo.proofs.Contained.{reports_contain}
-use Rattle.sd_solo.proofs.Known.{known_as_word}
-use Rattle.sd_cmd_twoway.proofs.Bounding.{bounds_hold}
-use Rattle.sd_cmd_replay.proofs.Lawful.{order_reports_truly, reports_truly as replay_reports_truly}
-use Rattle.sd_cmd_files.specs.Texts.{texts_of}
+use Rattle.sd_commands.specs.solo.Histories.{IsHistory, is_known, refusal}
+use Rattle.sd_commands.specs.solo.Lines.{knows, solo_event}
+use Rattle.sd_commands.specs.declared.solo.SoloFault.{SoloFault}
+use Rattle.sd_commands.proofs.solo.Contained.{reports_contain}
+use Rattle.sd_commands.proofs.solo.Known.{known_as_word}
+use Rattle.sd_commands.proofs.twoway.Bounding.{bounds_hold}
+use Rattle.sd_commands.proofs.replay.Lawful.{order_reports_truly, reports_truly as replay_reports_truly}
+use Rattle.sd_files.specs.Texts.{texts_of}
 use Rattle.sd_top.specs.Promise.{KeepsPromise, task_of}
-use Rattle.sd_cmd_files.specs.work.Works.{Reading, judged, length_fault, read_on, reading, reading_from, unless_too_long}
+use Rattle.sd_files.specs.work.Works.{Reading, judged, length_fault, read_on, reading, reading_from, unless_too_long}
 use Rattle.sd_top.specs.Schedules.{ReportsTruly, accepted, solo_work, unless_refused}
 use Rattle.sd_top.specs.Words.{Command, command_of}
 use Rattle.sd_top.specs.Words.Command.{Solo, Replay, Order, Twoway}

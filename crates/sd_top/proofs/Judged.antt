@@ -1,15 +1,15 @@
 -- What is answered for a file that is not refused, and for an accepted plan.
 use Rattle.std.proofs.Common.{◌≡◌, ℕ, List, Result, Ok, subst}
-use Rattle.sd_topo.specs.Network.{Network}
+use Rattle.sd_plan.specs.topo.Network.{Network}
 use Rattle.sd_plan.specs.declared.Plan.{Plan}
-use Rattle.sd_cmd_files.specs.Checker.Verdicts.{IsAccepted, IsVerdict}
-use Rattle.sd_cmd_files.specs.Checker.declared.Verdict.{Verdict}
-use Rattle.sd_cmd_files.specs.Checker.declared.Verdict.TheVariants.{Accepted, Refused}
-use Rattle.sd_cmd_files.proofs.Checker.Exclusive.{accepted_unbroken}
-use Rattle.sd_cmd_files.specs.Answering.{Allowed, After}
-use Rattle.sd_cmd_files.specs.declared.Status.{Status}
-use Rattle.sd_cmd_files.specs.declared.Status.TheVariants.{Done}
-use Rattle.sd_cmd_files.specs.declared.command_error.Refusal.{Refusal}
+use Rattle.sd_checker.specs.Verdicts.{IsAccepted, IsVerdict}
+use Rattle.sd_checker.specs.declared.Verdict.{Verdict}
+use Rattle.sd_checker.specs.declared.Verdict.TheVariants.{Accepted, Refused}
+use Rattle.sd_checker.proofs.Exclusive.{accepted_unbroken}
+use Rattle.sd_files.specs.Answering.{Allowed, After}
+use Rattle.sd_files.specs.declared.Status.{Status}
+use Rattle.sd_files.specs.declared.Status.TheVariants.{Done}
+use Rattle.sd_files.specs.declared.command_error.Refusal.{Refusal}
 use Rattle.sd_top.specs.Checks.{verdict_status}
 
 -- a file that is not refused

@@ -7,19 +7,19 @@ use Rattle.sd_sched.specs.declared.Event.{Event}
 use Rattle.sd_sched.specs.declared.LineFault.{LineFault}
 use Rattle.sd_sched.specs.declared.LineFault.TheVariants.{UnknownWord, FieldCount, Number}
 use Rattle.sd_sched.specs.Lines.{event_of_line}
-use Rattle.sd_proof_bound.specs.History.World.{Setting}
-use Rattle.sd_proof_bound.specs.History.Chronicle.{chronicle}
-use Rattle.sd_proof_bound.specs.History.Refusals.{refusal}
-use Rattle.sd_proof_bound.specs.History.declared.ApplyFault.{ApplyFault}
-use Rattle.sd_proof_bound.specs.History.declared.ApplyFault.TheVariants as apply
-use Rattle.sd_cmd_replay.specs.Reasons.{line_reason, apply_name}
-use Rattle.sd_cmd_replay.specs.Replays.{accepted, unless_refused, replay_work, order_work}
-use Rattle.sd_proof_headline.specs.Words.{is_one_line}
-use Rattle.sd_proof_headline.specs.Works.{PrintsEvents, PrintsWaits}
-use Rattle.sd_proof_headline.specs.Headlines.{no_early_interval, no_early_disorder}
-use Rattle.sd_proof_headline.proofs.Numbers.{decimal_plain}
-use Rattle.sd_proof_headline.proofs.Texts.{plain_is_one_line}
-use Rattle.sd_proof_headline.proofs.Runs.{run_keeps_interval, run_keeps_alarm, order_keeps_interval, order_keeps_alarm, order_keeps_order}
+use Rattle.sd_history.specs.World.{Setting}
+use Rattle.sd_history.specs.Chronicle.{chronicle}
+use Rattle.sd_history.specs.Refusals.{refusal}
+use Rattle.sd_history.specs.declared.ApplyFault.{ApplyFault}
+use Rattle.sd_history.specs.declared.ApplyFault.TheVariants as apply
+use Rattle.sd_commands.specs.replay.Reasons.{line_reason, apply_name}
+use Rattle.sd_commands.specs.replay.Replays.{accepted, unless_refused, replay_work, order_work}
+use Rattle.sd_headline.specs.Words.{is_one_line}
+use Rattle.sd_headline.specs.Works.{PrintsEvents, PrintsWaits}
+use Rattle.sd_headline.specs.Headlines.{no_early_interval, no_early_disorder}
+use Rattle.sd_headline.proofs.Numbers.{decimal_plain}
+use Rattle.sd_headline.proofs.Texts.{plain_is_one_line}
+use Rattle.sd_headline.proofs.Runs.{run_keeps_interval, run_keeps_alarm, order_keeps_interval, order_keeps_alarm, order_keeps_order}
 use Rattle.sd_top.specs.Promised.{ReplayKeepsIntervals, OrderKeepsOrder, ReplayKeepsAlarms, OrderKeepsAlarms}
 
 apply_line : (why : ApplyFault) → is_one_line (apply_name why) ≡ true

@@ -1,34 +1,34 @@
 -- The laws of the answers.
 use Rattle.std.proofs.Common.{◌≡◌, ℕ, List, Result, Ok, ap, ◌∙◌, subst}
-use Rattle.sd_solo.proofs.Contained.{reports_contain}
-use Rattle.sd_topo.specs.Network.{Network}
+use Rattle.sd_commands.proofs.solo.Contained.{reports_contain}
+use Rattle.sd_plan.specs.topo.Network.{Network}
 use Rattle.sd_plan.specs.declared.Absent.{Absent}
 use Rattle.sd_plan.specs.declared.Plan.{Plan}
 use Rattle.sd_plan.specs.Plans.{nothing_absent}
-use Rattle.sd_cmd_files.specs.Checker.Verdicts.{IsAccepted, IsVerdict}
-use Rattle.sd_cmd_files.specs.Checker.declared.Verdict.{Verdict}
-use Rattle.sd_cmd_files.specs.Checker.declared.Verdict.TheVariants.{Accepted, Refused}
-use Rattle.sd_cmd_files.proofs.Checker.Exclusive.{accepted_unbroken}
-use Rattle.sd_proof_bound.specs.Drill.declared.Budget.{Budget}
-use Rattle.sd_cmd_files.specs.planfiles.PlanFiles.{AfterJudged, AfterPlan, AfterVerdict}
+use Rattle.sd_checker.specs.Verdicts.{IsAccepted, IsVerdict}
+use Rattle.sd_checker.specs.declared.Verdict.{Verdict}
+use Rattle.sd_checker.specs.declared.Verdict.TheVariants.{Accepted, Refused}
+use Rattle.sd_checker.proofs.Exclusive.{accepted_unbroken}
+use Rattle.sd_drill.specs.declared.Budget.{Budget}
+use Rattle.sd_files.specs.planfiles.PlanFiles.{AfterJudged, AfterPlan, AfterVerdict}
 use Rattle.sd_planner.proofs.Single.{same_greedy}
-use Rattle.sd_cmd_files.specs.Answering.{Allowed, After}
-use Rattle.sd_cmd_files.specs.Inputs.{topology_of, plan_in_file, absent_in_file}
-use Rattle.sd_cmd_files.specs.declared.Status.{Status}
-use Rattle.sd_cmd_files.specs.declared.Status.TheVariants.{Done}
-use Rattle.sd_cmd_files.specs.declared.command_error.Refusal.{Refusal}
+use Rattle.sd_files.specs.Answering.{Allowed, After}
+use Rattle.sd_files.specs.Inputs.{topology_of, plan_in_file, absent_in_file}
+use Rattle.sd_files.specs.declared.Status.{Status}
+use Rattle.sd_files.specs.declared.Status.TheVariants.{Done}
+use Rattle.sd_files.specs.declared.command_error.Refusal.{Refusal}
 use Rattle.sd_top.specs.Checks.{CheckCompletes, IsJudged, verdict_status}
 use Rattle.sd_top.specs.Drills.{DrillCompletes, IsDrilled}
 use Rattle.sd_top.specs.Laws.{Laws}
 use Rattle.sd_top.specs.Migration.{IsMigrated, MigrationCompletes}
 use Rattle.sd_top.specs.Plannings.{IsPlanning, IsPlannable, PlanCompletes, RenewalCompletes, first_root, renewed_root}
-use Rattle.sd_cmd_files.specs.work.Works.{IsOutcome, reading, status_for}
+use Rattle.sd_files.specs.work.Works.{IsOutcome, reading, status_for}
 use Rattle.sd_top.specs.Schedules.{SoloCompletes, solo_work}
 use Rattle.sd_top.specs.Twoways.{TwowayCompletes}
-use Rattle.sd_cmd_twoway.specs.Twoways.{twoway_work}
-use Rattle.sd_cmd_case.proofs.Lawful.{case_completes}
-use Rattle.sd_cmd_replay.proofs.Lawful.{order_completes, replay_completes}
-use Rattle.sd_cmd_twoway.proofs.Twoway.Covering.{none_is_honest}
+use Rattle.sd_commands.specs.twoway.Twoways.{twoway_work}
+use Rattle.sd_gen.proofs.command.Lawful.{case_completes}
+use Rattle.sd_commands.proofs.replay.Lawful.{order_completes, replay_completes}
+use Rattle.sd_commands.proofs.exchanges.Covering.{none_is_honest}
 use Rattle.sd_top.proofs.Judged.{after_file, verdict_done}
 use Rattle.sd_top.proofs.Migrating.{migration_law}
 use Rattle.sd_top.proofs.Slack.{slack_keeps_plans, slack_raises_no_bound}

@@ -17,4 +17,3 @@ mod Slack
 pub mod Lawful
 pub mod Alone
 pub mod Bounding
-pub mod Drilling

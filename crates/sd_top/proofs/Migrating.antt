@@ -2,32 +2,32 @@
 use Rattle.std.proofs.Common.{◌≡◌, ℕ, List, [], ◌∷◌, map, Option, Some, None, Result, Ok, Err, ap, sym, ◌∙◌, subst, arith}
 use Rattle.std.specs.Prelude.{◌≢◌, All}
 use Rattle.serde_json.specs.Data.{Data}
-use Rattle.sd_topo.specs.Network.{Network}
-use Rattle.sd_topo.proofs.Versions.{with_version}
+use Rattle.sd_plan.specs.topo.Network.{Network}
+use Rattle.sd_plan.proofs.topo.Versions.{with_version}
 use Rattle.sd_plan.specs.declared.Absent.{Absent}
 use Rattle.sd_plan.specs.declared.Plan.{Plan}
 use Rattle.sd_plan.specs.Plans.{nothing_absent}
 use Rattle.sd_plantext.specs.Reading.{tree_of}
 use Rattle.sd_plantext.specs.declared.fault.PlanFault.{PlanFault}
 use Rattle.sd_plantext.proofs.Versions.{plan_of-with_version, absent_of-with_version, plan_text-with_version}
-use Rattle.sd_cmd_files.specs.Checker.declared.Verdict.{Verdict}
-use Rattle.sd_cmd_files.specs.Checker.declared.Verdict.TheVariants.{Accepted, Refused}
-use Rattle.sd_cmd_files.proofs.Checker.Versions.{accepted_line-with_version, refused_line-with_version, IsVerdict-with_version}
-use Rattle.sd_proof_bound.specs.Drill.declared.Budget.{Budget}
-use Rattle.sd_proof_bound.proofs.Drill.Versions.{IsDrill-with_version}
-use Rattle.sd_cmd_files.specs.planfiles.PlanFiles.{AfterJudged, AfterPlan, AfterVerdict}
+use Rattle.sd_checker.specs.declared.Verdict.{Verdict}
+use Rattle.sd_checker.specs.declared.Verdict.TheVariants.{Accepted, Refused}
+use Rattle.sd_checker.proofs.Versions.{accepted_line-with_version, refused_line-with_version, IsVerdict-with_version}
+use Rattle.sd_drill.specs.declared.Budget.{Budget}
+use Rattle.sd_drill.proofs.Versions.{IsDrill-with_version}
+use Rattle.sd_files.specs.planfiles.PlanFiles.{AfterJudged, AfterPlan, AfterVerdict}
 use Rattle.sd_planner.proofs.Versions.{IsGreedy-with_version}
-use Rattle.sd_cmd_files.specs.Answering.{Allowed, After}
-use Rattle.sd_cmd_files.specs.Inputs.{topology_of, in_file, plan_in_file, absent_in_file}
-use Rattle.sd_cmd_files.specs.Texts.{Texts}
-use Rattle.sd_cmd_files.specs.declared.Status.{Status}
-use Rattle.sd_cmd_files.specs.declared.command_error.FileFault.TheVariants as fault
-use Rattle.sd_cmd_files.specs.declared.command_error.Input.TheVariants as input
-use Rattle.sd_cmd_files.specs.declared.command_error.Refusal.{Refusal}
-use Rattle.sd_cmd_files.specs.work.Works.{IsOutcome}
-use Rattle.sd_cmd_twoway.specs.Twoways.{twoway_work}
-use Rattle.sd_cmd_replay.specs.Replays.{IsOrder, IsReplay}
-use Rattle.sd_cmd_replay.proofs.Migrating.{order_with_version, replay_with_version}
+use Rattle.sd_files.specs.Answering.{Allowed, After}
+use Rattle.sd_files.specs.Inputs.{topology_of, in_file, plan_in_file, absent_in_file}
+use Rattle.sd_files.specs.Texts.{Texts}
+use Rattle.sd_files.specs.declared.Status.{Status}
+use Rattle.sd_files.specs.declared.command_error.FileFault.TheVariants as fault
+use Rattle.sd_files.specs.declared.command_error.Input.TheVariants as input
+use Rattle.sd_files.specs.declared.command_error.Refusal.{Refusal}
+use Rattle.sd_files.specs.work.Works.{IsOutcome}
+use Rattle.sd_commands.specs.twoway.Twoways.{twoway_work}
+use Rattle.sd_commands.specs.replay.Replays.{IsOrder, IsReplay}
+use Rattle.sd_commands.proofs.replay.Migrating.{order_with_version, replay_with_version}
 use Rattle.sd_top.specs.Checks.{IsCheck, IsJudged, verdict_text}
 use Rattle.sd_top.specs.Drills.{IsDrill, IsDrilled}
 use Rattle.sd_top.specs.Migration.{IsMigrated, IsMigration}
@@ -189,7 +189,7 @@ module _ (topology : List ℕ) (before after : Texts) (net : Network) (v w : ℕ
   rereads_at : (name : List ℕ) → name ≡ topology → topology_of (after name) ≡ Ok (with_version w net)
   rereads_at name same = subst (λ (t : List ℕ). topology_of (after t) ≡ Ok (with_version w net)) (sym same) rereads
 
-  -- a command over plans and a schedule, which are the files behind its topology
+  -- a command over plans and a schedule, which are the files after its topology
   schedule_stays_over : (Writes : (topology : List ℕ) (plans : List (List ℕ)) (schedule : List ℕ) → Allowed) (text other : List ℕ)
       → ((plans : List (List ℕ)) (schedule : List ℕ) → Writes text plans schedule bytes status → Writes other plans schedule bytes status)
       → (plans : List (List ℕ)) (schedule : List ℕ) (others : List File) → others ≡ plans_and_schedule plans schedule

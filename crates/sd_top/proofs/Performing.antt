@@ -1,39 +1,31 @@
 -- What a command leaves at the sink is what its task says, and then what the run answers.
 use Rattle.std.proofs.Common.{◌≡◌, ℕ, ◌∙◌, Bool, false, List, Option, Some, None, Result, Ok, Err, ap, arith, refl, sym, subst}
 use Rattle.std.specs.Prelude.{◌↔◌, IfSome, IsTrue}
-use Rattle.sd_cmd_files.specs.Stream.Reader.{IsNear}
-use Rattle.sd_outside.specs.Causes.{RisesFor}
-use Rattle.sd_outside.specs.Pieces.{Pieces, piece_of}
-use Rattle.sd_outside.specs.Shelves.{KeepsShelf}
-use Rattle.sd_outside.specs.declared.shelf.Shelf.{Ghosts}
-use Rattle.sd_cmd_files.proofs.Keeping.{keeps_for}
-use Rattle.sd_cmd_files.proofs.work.Leaving.{at_once, leaves_once}
-use Rattle.sd_cmd_files.specs.Answering.{AtOnce, InWrites, Allowed}
-use Rattle.sd_cmd_files.specs.Statuses.{is_among, stop_of}
-use Rattle.sd_cmd_files.specs.Stops.{status_of}
-use Rattle.sd_cmd_files.specs.Texts.{Texts, texts_of}
-use Rattle.sd_cmd_files.specs.Writes.{IsAllowed, HasOutput, WritesOnce}
-use Rattle.sd_cmd_files.specs.declared.Status.{Status}
-use Rattle.sd_cmd_files.specs.declared.Status.TheVariants.{ShelfFault, SinkFault, Memory}
-use Rattle.sd_cmd_files.specs.declared.command_error.Answer.{Answer}
-use Rattle.sd_cmd_files.specs.declared.command_error.CommandError.{CommandError}
-use Rattle.sd_cmd_files.specs.declared.command_error.CommandError.TheVariants as ended
-use Rattle.sd_cmd_files.specs.declared.command_error.IoError.{IoError}
-use Rattle.sd_cmd_files.specs.declared.command_error.IoError.TheVariants as stop
-use Rattle.sd_cmd_files.specs.work.Leaving.{Leaves}
-use Rattle.sd_cmd_files.specs.work.Ending.{LeavesAt}
+use Rattle.sd_io.specs.stream.Reader.{IsNear}
+use Rattle.sd_io.specs.outside.Causes.{RisesFor}
+use Rattle.sd_io.specs.outside.Pieces.{Pieces, piece_of}
+use Rattle.sd_io.specs.outside.Shelves.{KeepsShelf}
+use Rattle.sd_io.specs.declared.outside.shelf.Shelf.{Ghosts}
+use Rattle.sd_files.proofs.Keeping.{keeps_for}
+use Rattle.sd_files.proofs.work.Leaving.{at_once, leaves_once}
+use Rattle.sd_files.specs.Answering.{AtOnce, InWrites, Allowed}
+use Rattle.sd_files.specs.Statuses.{is_among, stop_of}
+use Rattle.sd_files.specs.Stops.{status_of}
+use Rattle.sd_files.specs.Texts.{Texts, texts_of}
+use Rattle.sd_files.specs.Writes.{IsAllowed, HasOutput, WritesOnce}
+use Rattle.sd_files.specs.declared.Status.{Status}
+use Rattle.sd_files.specs.declared.Status.TheVariants.{ShelfFault, SinkFault, Memory}
+use Rattle.sd_files.specs.declared.command_error.Answer.{Answer}
+use Rattle.sd_files.specs.declared.command_error.CommandError.{CommandError}
+use Rattle.sd_files.specs.declared.command_error.CommandError.TheVariants as ended
+use Rattle.sd_files.specs.declared.command_error.IoError.{IoError}
+use Rattle.sd_files.specs.declared.command_error.IoError.TheVariants as stop
+use Rattle.sd_files.specs.work.Leaving.{Leaves}
+use Rattle.sd_files.specs.work.Ending.{LeavesAt}
 use Rattle.sd_top.specs.Ends.{MeetsResult}
 use Rattle.sd_top.specs.Promise.{LeavesAfter, IsNearRefusal, MeetsOutcome, WritesOf, task_of}
 use Rattle.sd_top.specs.Words.{Command, command_of}
 use Rattle.sd_top.specs.Words.Command.{Solo, Replay, Order, Twoway, Drill}
-
--- what is written once is written by one write
-pub leaves_written : (Writes : Allowed) (old new : Option Pieces) (result : Result Status IoError) → WritesOnce Writes old new result
-    → LeavesAt false (InWrites AtOnce Writes) old new result
-leaves_written Writes old new (Ok status) (bytes, written, added) = (piece_of bytes, at_once Writes bytes status written, added)
-leaves_written Writes old new (Err stop.Shelf) kept = kept
-leaves_written Writes old new (Err stop.Sink) (bytes, status, written, front) = (piece_of bytes, status, at_once Writes bytes status written, front)
-leaves_written Writes old new (Err stop.Memory) kept = kept
 
 -- the command of the words meets its task
 pub meets_told : (held : Option (List ℕ → Option (List ℕ))) (words : List (List ℕ)) (command : Option Command) (old new : Option Pieces)
@@ -131,20 +123,6 @@ stopped_meets None words old new why status is meets = tt
 stopped_meets (Some h) words old new stop.Shelf status is meets = rw is meets
 stopped_meets (Some h) words old new stop.Sink status is meets = rw is meets
 stopped_meets (Some h) words old new stop.Memory status is meets = rw is meets
-
--- a file that could not be loaded stops the run where it stops the command
-abbrev Stops : (T : Type 0) → CommandError → Type 0
-Stops T why = (λ (r : Result T CommandError). r ≡ Err ended.Shelf) (Err why)
-
-stops_as : (T U : Type 0) (why : CommandError) → Stops T why → Stops U why
-stops_as T U (ended.Refused refusal) same = cc
-stops_as T U ended.Shelf same = refl
-stops_as T U ended.Memory same = cc
-
-pub ended_keeps : {S T : Type 0} (g : Ghosts S) (why : CommandError) (result : Result Status IoError) (old new : S)
-    → (result ≡ Err stop.Shelf) ↔ Stops Answer why → KeepsShelf g (Stops T why) old new → KeepsShelf g (result ≡ Err stop.Shelf) old new
-ended_keeps {T = T} g why result old new stops keeps =
-    keeps_for g (Stops T why) (result ≡ Err stop.Shelf) old new (λ a. stops.1 (stops_as T Answer why a)) (λ b. stops_as Answer T why (stops.0 b)) keeps
 
 -- the count of a run that ended stays
 pub ok_rises : (words : List (List ℕ)) (status blamed : Status) (why : IoError) (before now : ℕ)

@@ -1,24 +1,24 @@
 -- What the checker and the planner answer is what may be written.
 use Rattle.std.proofs.Common.{◌≡◌, ℕ, List, Result, Ok, Err}
 use Rattle.std.specs.Prelude.{IfErr, IfOk}
-use Rattle.sd_topo.specs.Network.{Network}
+use Rattle.sd_plan.specs.topo.Network.{Network}
 use Rattle.sd_plan.specs.Plans.{Fits}
 use Rattle.sd_plan.specs.declared.Absent.{Absent}
 use Rattle.sd_plan.specs.declared.Plan.{Plan}
-use Rattle.sd_cmd_files.specs.Checker.Verdicts.{IsVerdict}
-use Rattle.sd_cmd_files.specs.Checker.declared.Verdict.{Verdict}
-use Rattle.sd_cmd_files.specs.Checker.declared.Verdict.TheVariants.{Accepted, Refused}
+use Rattle.sd_checker.specs.Verdicts.{IsVerdict}
+use Rattle.sd_checker.specs.declared.Verdict.{Verdict}
+use Rattle.sd_checker.specs.declared.Verdict.TheVariants.{Accepted, Refused}
 use Rattle.sd_top.specs.Checks.{IsJudged, verdict_text, verdict_status}
 use Rattle.sd_planner.specs.Planning.{IsPlanned}
 use Rattle.sd_planner.specs.declared.Planned.{Planned}
 use Rattle.sd_planner.specs.declared.Planned.TheVariants as planned
 use Rattle.sd_top.specs.PlannedAnswers.{IfPlan, text_of_planned, status_of_planned}
 use Rattle.sd_top.specs.Plannings.{IsPlanning}
-use Rattle.sd_cmd_files.specs.Writes.{IsAllowed}
-use Rattle.sd_cmd_files.specs.declared.command_error.CommandError.{CommandError}
-use Rattle.sd_cmd_files.specs.declared.command_error.CommandError.TheVariants as ended
-use Rattle.sd_cmd_files.specs.declared.Status.{Status}
-use Rattle.sd_cmd_files.specs.declared.command_error.Answer.{Answer}
+use Rattle.sd_files.specs.Writes.{IsAllowed}
+use Rattle.sd_files.specs.declared.command_error.CommandError.{CommandError}
+use Rattle.sd_files.specs.declared.command_error.CommandError.TheVariants as ended
+use Rattle.sd_files.specs.declared.Status.{Status}
+use Rattle.sd_files.specs.declared.command_error.Answer.{Answer}
 
 -- the plan fits the network
 pub planned_fits : (net : Network) (root : ℕ) (absent : Absent) (what : Planned) → IsPlanned net root absent what → IfPlan (Fits net) what

@@ -5,14 +5,14 @@ use Rattle.std.proofs.Common.{refl, sym, ap, ◌∙◌}
 use Rattle.std.proofs.lemmas.List.{length-map}
 use mathlib.Core.Path.{fun_ext}
 use Rattle.serde_json.specs.Data.{Data, Items, no_items, item}
-use Rattle.sd_topo.specs.Network.{Network, device_names, link_names}
+use Rattle.sd_plan.specs.topo.Network.{Network, device_names, link_names}
 use Rattle.sd_plan.specs.declared.Plan.{Plan as PlanMeant}
 use Rattle.sd_plan.specs.declared.PlanRow.{PlanRow}
 use Rattle.sd_plantext.specs.Then.{◌>>=◌}
 use Rattle.sd_plantext.specs.Meaning.{hop_in, backup_in, row_in, device_in, one_more_row, rows_from, no_rows, rows_in, absent_in, plan_in, plan_of, array}
 use Rattle.sd_plantext.specs.declared.fault.PlanKey.TheVariants as keys
 use Rattle.sd_plantext.specs.declared.fault.PlanFault.{PlanFault}
-use Rattle.sd_proof_slack.specs.Tighter.{IsTighterDevice, IsTighterLink, IsTighter}
+use Rattle.sd_bound.specs.slack.Tighter.{IsTighterDevice, IsTighterLink, IsTighter}
 
 module _ (a b : Network) (devices : device_names a ≡ device_names b) (links : link_names a ≡ link_names b) where
   absent_same : absent_in a ≡ absent_in b

@@ -2,21 +2,21 @@
 use Rattle.std.specs.Prelude.{◌≡◌, ℕ, List, Ok, Err, Result, Option}
 use Rattle.std.proofs.Common.{refl, sym, ap, ◌∙◌}
 use Rattle.serde_json.specs.Data.{Data}
-use Rattle.sd_topo.specs.Network.{Network}
+use Rattle.sd_plan.specs.topo.Network.{Network}
 use Rattle.sd_plan.specs.declared.Plan.{Plan}
 use Rattle.sd_plantext.specs.Reading.{tree_of as json_of}
 use Rattle.sd_plantext.specs.declared.fault.PlanFault.{PlanFault}
-use Rattle.sd_proof_slack.proofs.Accepted.{stays_accepted}
-use Rattle.sd_proof_slack.proofs.Bounded.{no_bound_rises}
-use Rattle.sd_proof_slack.specs.Tighter.{IsTighter}
-use Rattle.sd_cmd_files.specs.Answering.{After}
-use Rattle.sd_cmd_files.specs.Checker.Verdicts.{IsAccepted}
-use Rattle.sd_cmd_files.specs.Checker.declared.Verdict.TheVariants.{Accepted, Refused}
-use Rattle.sd_cmd_files.specs.Inputs.{topology_of, plan_in_file, in_file}
-use Rattle.sd_cmd_files.specs.declared.Status.TheVariants.{Done}
-use Rattle.sd_cmd_files.specs.declared.command_error.FileFault.TheVariants as fault
-use Rattle.sd_cmd_files.specs.declared.command_error.Input.TheVariants as input
-use Rattle.sd_cmd_files.specs.declared.command_error.Refusal.{Refusal}
+use Rattle.sd_bound.proofs.slack.Accepted.{stays_accepted}
+use Rattle.sd_bound.proofs.slack.Bounded.{no_bound_rises}
+use Rattle.sd_bound.specs.slack.Tighter.{IsTighter}
+use Rattle.sd_files.specs.Answering.{After}
+use Rattle.sd_checker.specs.Verdicts.{IsAccepted}
+use Rattle.sd_checker.specs.declared.Verdict.TheVariants.{Accepted, Refused}
+use Rattle.sd_files.specs.Inputs.{topology_of, plan_in_file, in_file}
+use Rattle.sd_files.specs.declared.Status.TheVariants.{Done}
+use Rattle.sd_files.specs.declared.command_error.FileFault.TheVariants as fault
+use Rattle.sd_files.specs.declared.command_error.Input.TheVariants as input
+use Rattle.sd_files.specs.declared.command_error.Refusal.{Refusal}
 use Rattle.sd_top.specs.Checks.{IsJudged}
 use Rattle.sd_top.specs.Slack.{SlackKeepsPlans, SlackRaisesNoBound}
 use Rattle.sd_top.proofs.Judged.{after_file, verdict_done}

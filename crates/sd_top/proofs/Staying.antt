@@ -2,7 +2,7 @@
 use Rattle.std.proofs.Common.{◌≡◌, ℕ, List, [], ◌∷◌, map, refl}
 use Rattle.std.specs.Prelude.{◌≢◌, All}
 use Rattle.std.proofs.lemmas.List.Elements.{All-head, All-tail}
-use Rattle.sd_cmd_files.specs.Texts.{Texts}
+use Rattle.sd_files.specs.Texts.{Texts}
 use Rattle.sd_top.specs.Words.{File, OfPlan, OfSchedule, name_of, plans_and_schedule}
 
 module _ (topology : List ℕ) (before after : Texts) (elsewhere : (other : List ℕ) → other ≢ topology → after other ≡ before other) (schedule : List ℕ) where

@@ -1,27 +1,27 @@
 -- Over the same texts a command has one answer: a plan has one verdict, and there is one greedy plan.
 use Rattle.std.proofs.Common.{◌≡◌, ℕ, List, map, Some, None, Result, Ok, Err, ap, sym, ◌∙◌, subst}
-use Rattle.sd_topo.specs.Network.{Network}
+use Rattle.sd_plan.specs.topo.Network.{Network}
 use Rattle.sd_topotext.specs.Meaning.{network_of}
 use Rattle.sd_topotext.specs.Reading.{tree_of}
 use Rattle.sd_plan.specs.declared.Absent.{Absent}
 use Rattle.sd_plan.specs.declared.Plan.{Plan}
 use Rattle.sd_plan.specs.Plans.{nothing_absent}
-use Rattle.sd_cmd_files.specs.Checker.Verdicts.{IsVerdict}
-use Rattle.sd_cmd_files.specs.Checker.declared.Verdict.{Verdict}
-use Rattle.sd_cmd_files.specs.Checker.declared.Verdict.TheVariants.{Accepted, Refused}
-use Rattle.sd_proof_bound.specs.Drill.declared.Budget.{Budget}
-use Rattle.sd_proof_bound.proofs.Drill.Unique.{one_drill}
-use Rattle.sd_cmd_files.specs.planfiles.PlanFiles.{AfterJudged, AfterVerdict}
-use Rattle.sd_cmd_files.proofs.Checker.Unique.{one_verdict}
+use Rattle.sd_checker.specs.Verdicts.{IsVerdict}
+use Rattle.sd_checker.specs.declared.Verdict.{Verdict}
+use Rattle.sd_checker.specs.declared.Verdict.TheVariants.{Accepted, Refused}
+use Rattle.sd_drill.specs.declared.Budget.{Budget}
+use Rattle.sd_drill.proofs.Unique.{one_drill}
+use Rattle.sd_files.specs.planfiles.PlanFiles.{AfterJudged, AfterVerdict}
+use Rattle.sd_checker.proofs.Unique.{one_verdict}
 use Rattle.sd_planner.proofs.Single.{same_greedy}
-use Rattle.sd_cmd_files.specs.Answering.{Allowed, After}
-use Rattle.sd_cmd_files.specs.Inputs.{topology_of, plan_in_file, absent_in_file}
-use Rattle.sd_cmd_files.specs.declared.Status.{Status}
-use Rattle.sd_cmd_files.specs.declared.command_error.Refusal.{Refusal}
-use Rattle.sd_cmd_files.specs.work.Works.{IsOutcome}
-use Rattle.sd_cmd_twoway.specs.Twoways.{twoway_work}
-use Rattle.sd_cmd_case.proofs.Lawful.{one_case}
-use Rattle.sd_cmd_replay.proofs.Lawful.{one_order, one_replay}
+use Rattle.sd_files.specs.Answering.{Allowed, After}
+use Rattle.sd_files.specs.Inputs.{topology_of, plan_in_file, absent_in_file}
+use Rattle.sd_files.specs.declared.Status.{Status}
+use Rattle.sd_files.specs.declared.command_error.Refusal.{Refusal}
+use Rattle.sd_files.specs.work.Works.{IsOutcome}
+use Rattle.sd_commands.specs.twoway.Twoways.{twoway_work}
+use Rattle.sd_gen.proofs.command.Lawful.{one_case}
+use Rattle.sd_commands.proofs.replay.Lawful.{one_order, one_replay}
 use Rattle.sd_top.specs.Checks.{IsJudged, verdict_status, verdict_text}
 use Rattle.sd_top.specs.Drills.{IsDrilled}
 use Rattle.sd_top.specs.Migration.{IsMigrated}

@@ -6,8 +6,8 @@ use Rattle.std.proofs.lemmas.Bool.{and_parts, leb-true}
 use Rattle.sd_num.specs.Decimals.{number}
 use Rattle.sd_num.specs.Lists.{map_or}
 use Rattle.sd_num.specs.declared.NumFault.{NumFault}
-use Rattle.sd_cmd_case.specs.Sizes as sizes
-use Rattle.sd_cmd_case.specs.declared.Fabric.{Fabric}
+use Rattle.sd_gen.specs.command.Sizes as sizes
+use Rattle.sd_gen.specs.declared.command.Fabric.{Fabric}
 use Rattle.sd_top.specs.Words.{Command, but_last, budget_of, case_of, command_of, fabric_of, if_within, number_from, of_plans, over_plans, takes_plans, with_fixed, with_plans}
 use Rattle.sd_top.specs.Words.Command.{Solo, Plan as PlanOf, Check, Renew, Replay, Case, Migrate, Order, Twoway, Drill}
 

@@ -1,4 +1,4 @@
--- The files of a command with plans, cut behind the first and before the last.
+-- The files of a command with plans, cut after the first and before the last.
 use Rattle.std.proofs.Common.{◌≡◌, ℕ, ◌-◌, ◌≤◌, List, [], ◌∷◌, length, map, take, drop, refl, ap, ◌∙◌, arith}
 use Rattle.std.proofs.Math.ListN.{get_or}
 use Rattle.sd_top.specs.Words.{but_last, over_plans, with_plans}

@@ -1,14 +1,14 @@
 -- What the numbers of a drill are worth: no report of a device is above the number that is printed for it.
 use Rattle.std.specs.Prelude.{◌≡◌, ℕ, List, Option, Some, Ok, IfSome}
-use Rattle.sd_topo.specs.Network.{Network}
-use Rattle.sd_plan.specs.Domain.declared.DomainId.{DomainId}
+use Rattle.sd_plan.specs.topo.Network.{Network}
+use Rattle.sd_plan.specs.declared.domain.DomainId.{DomainId}
 use Rattle.sd_plan.specs.declared.Plan.{Plan}
-use Rattle.sd_cmd_files.specs.Checker.Verdicts.{IsAccepted}
-use Rattle.sd_proof_bound.specs.Drill.Bounds.{AreBounds, bound_at}
-use Rattle.sd_proof_bound.specs.Drill.declared.Budget.{Budget}
-use Rattle.sd_proof_bound.specs.Bound.{StaysBelow}
-use Rattle.sd_cmd_files.specs.Inputs.{topology_of, plan_in_file}
-use Rattle.sd_cmd_files.specs.Texts.{Texts, texts_of}
+use Rattle.sd_checker.specs.Verdicts.{IsAccepted}
+use Rattle.sd_drill.specs.Bounds.{AreBounds, bound_at}
+use Rattle.sd_drill.specs.declared.Budget.{Budget}
+use Rattle.sd_bound.specs.Bound.{StaysBelow}
+use Rattle.sd_files.specs.Inputs.{topology_of, plan_in_file}
+use Rattle.sd_files.specs.Texts.{Texts, texts_of}
 use Rattle.sd_top.specs.Words.{Command, command_of}
 use Rattle.sd_top.specs.Words.Command.{Drill}
 

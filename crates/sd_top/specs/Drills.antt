@@ -1,17 +1,16 @@
 -- What `drill` writes and answers for the texts of a topology and a plan, and a budget.
 use Rattle.std.specs.Prelude.{◌≡◌, ℕ, List}
-use Rattle.sd_topo.specs.Network.{Network}
+use Rattle.sd_plan.specs.topo.Network.{Network}
 use Rattle.sd_plan.specs.declared.Plan.{Plan}
-use Rattle.sd_proof_bound.specs.Drill.Printed.{IsDrill as IsDrillOf}
-use Rattle.sd_proof_bound.specs.Drill.declared.Budget.{Budget}
-use Rattle.sd_outside.specs.Pieces.{Pieces}
-use Rattle.sd_cmd_files.specs.Checker.Verdicts.{IsAccepted}
-use Rattle.sd_cmd_drill.specs.Writes.{IsDrillIn}
-use Rattle.sd_cmd_files.specs.Answering.{After, AtOnce, Allowed, WritesAfter}
-use Rattle.sd_cmd_files.specs.Inputs.{plan_in_file, topology_of}
-use Rattle.sd_cmd_files.specs.declared.Status.{Status}
-use Rattle.sd_cmd_files.specs.declared.Status.TheVariants.{Done}
-use Rattle.sd_cmd_files.specs.planfiles.PlanFiles.{AfterPlan}
+use Rattle.sd_drill.specs.Printed.{IsDrill as IsDrillOf, IsLinesOf}
+use Rattle.sd_drill.specs.declared.Budget.{Budget}
+use Rattle.sd_io.specs.outside.Pieces.{Pieces}
+use Rattle.sd_drill_text.specs.Steps.{TextsInSteps}
+use Rattle.sd_files.specs.Answering.{After, Allowed}
+use Rattle.sd_files.specs.Inputs.{topology_of}
+use Rattle.sd_files.specs.declared.Status.{Status}
+use Rattle.sd_files.specs.declared.Status.TheVariants.{Done}
+use Rattle.sd_files.specs.planfiles.PlanFiles.{AfterPlan}
 use Rattle.sd_top.specs.Checks.{IsRightPlan}
 
 -- the drill of an accepted plan
@@ -22,18 +21,9 @@ IsDrilled net budget plan bytes status = IsDrillOf net plan budget bytes × (sta
 abbrev pub IsDrill : List ℕ → List ℕ → Budget → Allowed
 IsDrill topology plan budget bytes status = After (topology_of topology) (λ net. AfterPlan net 1 plan (IsDrilled net budget)) bytes status
 
--- of a plan that is accepted each domain by one write, and the last line by one; of another all by one
-pub record DrilledInSteps (net : Network) (budget : Budget) (plan : Plan) (pieces : Pieces) : Type 0 where
-  pub accepted : IsAccepted net plan → IsDrillIn net plan budget pieces
-  pub refused : (IsAccepted net plan → ⊥) → AtOnce pieces
-
--- by which writes the drill of a plan's text is written
-abbrev pub PlanDrilledInSteps : Network → Budget → List ℕ → Pieces → Type 0
-PlanDrilledInSteps net budget plan pieces = WritesAfter (plan_in_file net 1 plan) (DrilledInSteps net budget) pieces
-
 -- by which writes the drill of the texts is written
 abbrev pub DrillInSteps : List ℕ → List ℕ → Budget → Pieces → Type 0
-DrillInSteps topology plan budget pieces = WritesAfter (topology_of topology) (λ net. PlanDrilledInSteps net budget plan) pieces
+DrillInSteps = TextsInSteps IsLinesOf
 
 -- an accepted plan is drilled to the end
 abbrev pub DrillCompletes : Type 0

@@ -1,10 +1,10 @@
 -- What a command leaves at the sink, before its end is a status.
 use Rattle.std.specs.Prelude.{ℕ, List, Option, IfSome, Result}
-use Rattle.sd_outside.specs.Pieces.{Pieces}
-use Rattle.sd_cmd_files.specs.Texts.{texts_of}
-use Rattle.sd_cmd_files.specs.declared.Status.{Status}
-use Rattle.sd_cmd_files.specs.declared.command_error.IoError.{IoError}
-use Rattle.sd_cmd_files.specs.work.Ending.{LeavesAt}
+use Rattle.sd_io.specs.outside.Pieces.{Pieces}
+use Rattle.sd_files.specs.Texts.{texts_of}
+use Rattle.sd_files.specs.declared.Status.{Status}
+use Rattle.sd_files.specs.declared.command_error.IoError.{IoError}
+use Rattle.sd_files.specs.work.Ending.{LeavesAt}
 use Rattle.sd_top.specs.Promise.{WritesOf, task_of}
 use Rattle.sd_top.specs.Words.{command_of}
 

@@ -1,7 +1,7 @@
 -- The headline on bytes: what holds of whatever a run has added to its sink, whether it ended or was stopped.
 use Rattle.std.specs.Prelude.{ℕ, Bool, true, ◌&&◌, List, Option, Some, IfSome}
-use Rattle.sd_outside.specs.Pieces.{Pieces}
-use Rattle.sd_proof_headline.specs.Headlines.{Adds, no_case_alarm, no_early_alarm, no_early_disorder, no_early_interval}
+use Rattle.sd_io.specs.outside.Pieces.{Pieces}
+use Rattle.sd_headline.specs.Headlines.{Adds, no_case_alarm, no_early_alarm, no_early_disorder, no_early_interval}
 use Rattle.sd_top.specs.Words.{Command, command_of}
 use Rattle.sd_top.specs.Words.Command.{Replay, Case, Order}
 

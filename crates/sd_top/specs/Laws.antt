@@ -1,9 +1,9 @@
 -- What holds of the answers themselves, whatever a run does.
-use Rattle.sd_cmd_case.specs.Laws.{CaseCompletes}
-use Rattle.sd_cmd_replay.specs.Promises.{Completes}
-use Rattle.sd_cmd_replay.specs.Replays.{IsOrder, IsReplay}
-use Rattle.sd_solo.specs.Promises.{ReportsContain}
-use Rattle.sd_cmd_twoway.specs.Twoway.Spans.{NoneIsHonest}
+use Rattle.sd_gen.specs.command.Laws.{CaseCompletes}
+use Rattle.sd_commands.specs.replay.Promises.{Completes}
+use Rattle.sd_commands.specs.replay.Replays.{IsOrder, IsReplay}
+use Rattle.sd_commands.specs.solo.Promises.{ReportsContain}
+use Rattle.sd_commands.specs.exchanges.Spans.{NoneIsHonest}
 use Rattle.sd_top.specs.Checks.{CheckCompletes}
 use Rattle.sd_top.specs.Drills.{DrillCompletes}
 use Rattle.sd_top.specs.Migration.{MigrationCompletes}

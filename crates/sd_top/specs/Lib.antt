@@ -6,7 +6,6 @@ pub mod SoloWrites
 pub mod Migration
 pub mod Checks
 pub mod Drills
-pub mod DrillWrites
 pub mod Plannings
 pub mod Twoways
 pub mod TwowayWrites
@@ -22,5 +21,3 @@ pub mod Gives
 pub mod PlannedAnswers
 pub mod Parsed
 pub mod Alone
--- Handed on: what crates above name of those below.
-pub use Rattle.sd_cmd_files.specs as CmdFiles

@@ -1,13 +1,13 @@
 -- What `migrate` writes and answers for the text of a topology.
 use Rattle.std.specs.Prelude.{◌≡◌, ℕ, List, Ok}
-use Rattle.sd_topo.specs.Network.{Network}
+use Rattle.sd_plan.specs.topo.Network.{Network}
 use Rattle.sd_topotext.specs.Meaning.{network_of}
 use Rattle.sd_topotext.specs.Versions.{with_version_two}
 use Rattle.sd_topotext.specs.Reading.{tree_of}
-use Rattle.sd_cmd_files.specs.Answering.{Allowed, After}
-use Rattle.sd_cmd_files.specs.Inputs.{topology_of}
-use Rattle.sd_cmd_files.specs.declared.Status.{Status}
-use Rattle.sd_cmd_files.specs.declared.Status.TheVariants.{Done}
+use Rattle.sd_files.specs.Answering.{Allowed, After}
+use Rattle.sd_files.specs.Inputs.{topology_of}
+use Rattle.sd_files.specs.declared.Status.{Status}
+use Rattle.sd_files.specs.declared.Status.TheVariants.{Done}
 
 -- one text that says the same with version 2
 abbrev pub IsMigrated : Network → Allowed

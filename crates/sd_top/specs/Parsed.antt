@@ -1,7 +1,7 @@
 -- The command that was read from the words.
 use Rattle.std.specs.Prelude.{◌≤◌, length, map, string_bytes}
-use Rattle.sd_proof_bound.specs.Drill.Budgets.{IsBudget}
-use Rattle.sd_cmd_case.specs.Sizes.{IsWithin}
+use Rattle.sd_drill.specs.Budgets.{IsBudget}
+use Rattle.sd_gen.specs.command.Sizes.{IsWithin}
 use Rattle.sd_top.specs.Words.{Command}
 use Rattle.sd_top.specs.Words.Command.{Solo, Plan, Check, Renew, Replay, Case, Migrate, Order, Twoway, Drill}
 use Rattle.sd_top.specs.declared.words.Command.{Command as Parsed}

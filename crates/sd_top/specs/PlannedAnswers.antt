@@ -1,12 +1,12 @@
 -- What is written of what the planner answers.
 use Rattle.std.specs.Prelude.{ℕ, List}
-use Rattle.sd_topo.specs.Network.{Network}
+use Rattle.sd_plan.specs.topo.Network.{Network}
 use Rattle.sd_plan.specs.declared.Plan.{Plan}
-use Rattle.sd_cmd_files.specs.Checker.declared.Verdict.TheVariants.{Accepted, Refused}
+use Rattle.sd_checker.specs.declared.Verdict.TheVariants.{Accepted, Refused}
 use Rattle.sd_planner.specs.declared.Planned.{Planned}
 use Rattle.sd_planner.specs.declared.Planned.TheVariants as planned
-use Rattle.sd_cmd_files.specs.declared.Status.{Status}
-use Rattle.sd_cmd_files.specs.declared.Status.TheVariants.{Done, PlanRefused}
+use Rattle.sd_files.specs.declared.Status.{Status}
+use Rattle.sd_files.specs.declared.Status.TheVariants.{Done, PlanRefused}
 use Rattle.sd_top.specs.Plannings.{planned_text}
 
 -- the text of what the planner answers

@@ -1,20 +1,20 @@
 -- What `plan` and `renew` write and answer for the texts of a topology, a plan and what is absent.
 use Rattle.std.specs.Prelude.{◌≡◌, ℕ, List, [], Ok, if◌then◌else◌}
 use Rattle.sd_num.specs.Lists.{has, at_place}
-use Rattle.sd_topo.specs.Network.{Network}
+use Rattle.sd_plan.specs.topo.Network.{Network}
 use Rattle.sd_plan.specs.declared.Absent.{Absent}
 use Rattle.sd_plan.specs.declared.Plan.{Plan}
 use Rattle.sd_plan.specs.Plans.{nothing_absent}
 use Rattle.sd_plantext.specs.Printed.{plan_text as text_of_plan}
-use Rattle.sd_cmd_files.specs.Checker.Text.{refused_line}
-use Rattle.sd_cmd_files.specs.Checker.Verdicts.{IsAccepted, IsVerdict}
-use Rattle.sd_cmd_files.specs.Checker.declared.Verdict.{Verdict}
-use Rattle.sd_cmd_files.specs.Checker.declared.Verdict.TheVariants.{Accepted, Refused}
+use Rattle.sd_checker.specs.Text.{refused_line}
+use Rattle.sd_checker.specs.Verdicts.{IsAccepted, IsVerdict}
+use Rattle.sd_checker.specs.declared.Verdict.{Verdict}
+use Rattle.sd_checker.specs.declared.Verdict.TheVariants.{Accepted, Refused}
 use Rattle.sd_planner.specs.Greedy.{IsGreedy}
-use Rattle.sd_cmd_files.specs.Answering.{Allowed, After}
-use Rattle.sd_cmd_files.specs.Inputs.{topology_of, plan_in_file, absent_in_file}
-use Rattle.sd_cmd_files.specs.declared.Status.{Status}
-use Rattle.sd_cmd_files.specs.declared.Status.TheVariants.{Done}
+use Rattle.sd_files.specs.Answering.{Allowed, After}
+use Rattle.sd_files.specs.Inputs.{topology_of, plan_in_file, absent_in_file}
+use Rattle.sd_files.specs.declared.Status.{Status}
+use Rattle.sd_files.specs.declared.Status.TheVariants.{Done}
 use Rattle.sd_top.specs.Checks.{verdict_status}
 
 -- the text of a plan that is accepted, and the line of its breach where it is refused

@@ -1,23 +1,23 @@
 -- What `run` promises: what each command writes and answers over the texts of its files, and what it leaves where it is stopped.
 use Rattle.std.specs.Prelude.{◌≡◌, ◌+◌, ◌≤◌, ℕ, Bool, true, false, List, [], ◌∷◌, length, map, Option, None, Some, IfSome, codes}
 use Rattle.sd_sched.specs.declared.Event.{Event}
-use Rattle.sd_proof_bound.specs.History.World.{Setting}
-use Rattle.sd_outside.specs.Pieces.{Pieces}
-use Rattle.sd_cmd_files.specs.Answering.{AtOnce, InWrites, Allowed, MayWrite}
-use Rattle.sd_cmd_files.specs.Inputs.{topology_of}
-use Rattle.sd_cmd_files.specs.Statuses.{stop_of}
-use Rattle.sd_cmd_files.specs.Texts.{Texts, texts_of}
-use Rattle.sd_cmd_files.specs.declared.Status.{Status}
-use Rattle.sd_cmd_files.specs.declared.Status.TheVariants.{Done, PlanRefused, Usage, InputRefused, Broken}
-use Rattle.sd_cmd_case.specs.Cases.{IsCase}
+use Rattle.sd_history.specs.World.{Setting}
+use Rattle.sd_io.specs.outside.Pieces.{Pieces}
+use Rattle.sd_files.specs.Answering.{AtOnce, InWrites, Allowed, MayWrite}
+use Rattle.sd_files.specs.Inputs.{topology_of}
+use Rattle.sd_files.specs.Statuses.{stop_of}
+use Rattle.sd_files.specs.Texts.{Texts, texts_of}
+use Rattle.sd_files.specs.declared.Status.{Status}
+use Rattle.sd_files.specs.declared.Status.TheVariants.{Done, PlanRefused, Usage, InputRefused, Broken}
+use Rattle.sd_gen.specs.command.Cases.{IsCase}
 use Rattle.sd_top.specs.Checks.{IsCheck}
 use Rattle.sd_top.specs.Drills.{DrillInSteps, IsDrill}
 use Rattle.sd_top.specs.Migration.{IsMigration}
 use Rattle.sd_top.specs.Plannings.{IsPlanOf, IsRenewal}
-use Rattle.sd_cmd_replay.specs.Loaded.{RunsInSteps}
-use Rattle.sd_cmd_replay.specs.Replays.{IsRun, order_work, replay_work, refused_over as refused_behind}
-use Rattle.sd_cmd_files.specs.work.Leaving.{Leaves}
-use Rattle.sd_cmd_files.specs.work.Works.{InSteps, Work, reading, refused_part}
+use Rattle.sd_commands.specs.replay.Loaded.{RunsInSteps}
+use Rattle.sd_commands.specs.replay.Replays.{IsRun, order_work, replay_work, refused_over as refused_behind}
+use Rattle.sd_files.specs.work.Leaving.{Leaves}
+use Rattle.sd_files.specs.work.Works.{InSteps, Work, reading, refused_part}
 use Rattle.sd_top.specs.Replays.{RunsTruly}
 use Rattle.sd_top.specs.Schedules.{IsSolo, ReportsTruly, solo_work}
 use Rattle.sd_top.specs.Twoways.{BoundsTruly, IsTwoway, TwowayInSteps, refused_over}

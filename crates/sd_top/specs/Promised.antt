@@ -1,11 +1,11 @@
 -- What is promised of the bytes of `replay` and `order`, whatever their files say, and of `case`.
 use Rattle.std.specs.Prelude.{◌≤◌, ◌&&◌, ℕ, List, length, IsTrue}
-use Rattle.sd_cmd_files.specs.declared.Status.{Status}
-use Rattle.sd_cmd_replay.specs.Replays.{IsReplay, IsOrder}
-use Rattle.sd_cmd_case.specs.Cases.{IsCase}
-use Rattle.sd_cmd_case.specs.Sizes.{IsWithin}
-use Rattle.sd_cmd_case.specs.declared.Fabric.{Fabric}
-use Rattle.sd_proof_headline.specs.Headlines.{no_case_alarm, no_early_alarm, no_early_interval, no_early_disorder}
+use Rattle.sd_files.specs.declared.Status.{Status}
+use Rattle.sd_commands.specs.replay.Replays.{IsReplay, IsOrder}
+use Rattle.sd_gen.specs.command.Cases.{IsCase}
+use Rattle.sd_gen.specs.command.Sizes.{IsWithin}
+use Rattle.sd_gen.specs.declared.command.Fabric.{Fabric}
+use Rattle.sd_headline.specs.Headlines.{no_case_alarm, no_early_alarm, no_early_interval, no_early_disorder}
 
 module _ (topology : List ℕ) (plans : List (List ℕ)) (schedule : List ℕ) where
   -- no alarm of an interval comes before the first line that names starts, drifts or delays as broken

@@ -3,17 +3,17 @@ use Rattle.std.specs.Prelude.{◌≡◌, ℕ, List, [], ◌∷◌, Option, None,
 use Rattle.sd_sched.specs.declared.Event.{Event}
 use Rattle.sd_sched.specs.declared.LineFault.{LineFault}
 use Rattle.sd_sched.specs.Events.{is_end_event}
-use Rattle.sd_solo.specs.declared.SoloFault.{SoloFault}
-use Rattle.sd_solo.specs.Faults.{fault_name}
-use Rattle.sd_solo.specs.Histories.{refusal, bytes_of, done_text}
-use Rattle.sd_solo.specs.Lines.{solo_event}
-use Rattle.sd_solo.specs.Promises.{start_holds, drift_holds, reports_truly}
-use Rattle.sd_outside.specs.Pieces.{piece_of}
-use Rattle.sd_cmd_files.specs.Answering.{Allowed}
-use Rattle.sd_cmd_files.specs.declared.Status.{Status}
-use Rattle.sd_cmd_files.specs.declared.Status.TheVariants.{Done}
-use Rattle.sd_cmd_files.specs.work.Works.{IsOutcome, Work, reading}
-use Rattle.sd_cmd_replay.specs.Reasons.{line_reason}
+use Rattle.sd_commands.specs.declared.solo.SoloFault.{SoloFault}
+use Rattle.sd_commands.specs.solo.Faults.{fault_name}
+use Rattle.sd_commands.specs.solo.Histories.{refusal, bytes_of, done_text}
+use Rattle.sd_commands.specs.solo.Lines.{solo_event}
+use Rattle.sd_commands.specs.solo.Promises.{start_holds, drift_holds, reports_truly}
+use Rattle.sd_io.specs.outside.Pieces.{piece_of}
+use Rattle.sd_files.specs.Answering.{Allowed}
+use Rattle.sd_files.specs.declared.Status.{Status}
+use Rattle.sd_files.specs.declared.Status.TheVariants.{Done}
+use Rattle.sd_files.specs.work.Works.{IsOutcome, Work, reading}
+use Rattle.sd_commands.specs.replay.Reasons.{line_reason}
 
 -- the event, unless there is a fault
 abbrev pub unless_refused : Option SoloFault → Event → Result Event (List ℕ)

@@ -1,14 +1,14 @@
 -- What less slack keeps: better oscillators, narrower delays, less loss or fewer listed domains take no plan away, and raise no number of a drill.
 use Rattle.std.specs.Prelude.{◌≡◌, ◌≤◌, ℕ, List, Option, Some, Ok}
-use Rattle.sd_topo.specs.Network.{Network}
-use Rattle.sd_plan.specs.Domain.declared.DomainId.{DomainId}
+use Rattle.sd_plan.specs.topo.Network.{Network}
+use Rattle.sd_plan.specs.declared.domain.DomainId.{DomainId}
 use Rattle.sd_plan.specs.declared.Plan.{Plan}
-use Rattle.sd_proof_bound.specs.Drill.Drill.{IsListed}
-use Rattle.sd_proof_bound.specs.Drill.declared.Budget.{Budget}
-use Rattle.sd_proof_slack.specs.Tighter.{IsTighter, IsSameDomain}
-use Rattle.sd_cmd_files.specs.Inputs.{topology_of, plan_in_file}
-use Rattle.sd_cmd_files.specs.declared.Status.{Status}
-use Rattle.sd_cmd_files.specs.declared.Status.TheVariants.{Done}
+use Rattle.sd_drill.specs.Drill.{IsListed}
+use Rattle.sd_drill.specs.declared.Budget.{Budget}
+use Rattle.sd_bound.specs.slack.Tighter.{IsTighter, IsSameDomain}
+use Rattle.sd_files.specs.Inputs.{topology_of, plan_in_file}
+use Rattle.sd_files.specs.declared.Status.{Status}
+use Rattle.sd_files.specs.declared.Status.TheVariants.{Done}
 use Rattle.sd_top.specs.Checks.{IsCheck}
 
 -- the texts of two topologies, the second with less slack

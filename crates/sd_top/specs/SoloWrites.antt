@@ -1,7 +1,7 @@
 -- What `solo` may write, write by write.
 use Rattle.std.specs.Prelude.{ℕ, List}
-use Rattle.sd_cmd_files.specs.Answering.{InWrites, MayWrite}
-use Rattle.sd_cmd_files.specs.work.Works.{InSteps}
+use Rattle.sd_files.specs.Answering.{InWrites, MayWrite}
+use Rattle.sd_files.specs.work.Works.{InSteps}
 use Rattle.sd_top.specs.Schedules.{solo_work, IsSolo}
 
 -- each step by one write

@@ -1,15 +1,15 @@
 -- What `twoway` writes and answers for the texts of a topology and of exchanges.
 use Rattle.std.specs.Prelude.{◌≡◌, ℕ, List, Option, None, Some, Result, Ok, Err}
-use Rattle.sd_topo.specs.Network.{Network}
-use Rattle.sd_outside.specs.Pieces.{Pieces}
-use Rattle.sd_cmd_files.specs.Answering.{After, Allowed, WritesAfter}
-use Rattle.sd_cmd_files.specs.Inputs.{topology_of}
-use Rattle.sd_cmd_files.specs.declared.Status.{Status}
-use Rattle.sd_cmd_files.specs.declared.Status.TheVariants.{Done}
-use Rattle.sd_cmd_files.specs.declared.command_error.Refusal.{Refusal}
-use Rattle.sd_cmd_files.specs.work.Works.{InSteps, IsOutcome, reading, refused_part}
-use Rattle.sd_cmd_twoway.specs.Promises.{BoundsHold}
-use Rattle.sd_cmd_twoway.specs.Twoways.{twoway_work}
+use Rattle.sd_plan.specs.topo.Network.{Network}
+use Rattle.sd_io.specs.outside.Pieces.{Pieces}
+use Rattle.sd_files.specs.Answering.{After, Allowed, WritesAfter}
+use Rattle.sd_files.specs.Inputs.{topology_of}
+use Rattle.sd_files.specs.declared.Status.{Status}
+use Rattle.sd_files.specs.declared.Status.TheVariants.{Done}
+use Rattle.sd_files.specs.declared.command_error.Refusal.{Refusal}
+use Rattle.sd_files.specs.work.Works.{InSteps, IsOutcome, reading, refused_part}
+use Rattle.sd_commands.specs.twoway.Promises.{BoundsHold}
+use Rattle.sd_commands.specs.twoway.Twoways.{twoway_work}
 
 -- what `twoway` may write
 abbrev pub IsTwoway : List ℕ → List ℕ → Allowed

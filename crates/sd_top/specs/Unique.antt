@@ -2,8 +2,8 @@
 use Rattle.std.specs.Prelude.{◌≡◌, ℕ, List, Option, Some}
 use Rattle.sd_topotext.specs.Meaning.{network_of}
 use Rattle.sd_topotext.specs.Reading.{tree_of}
-use Rattle.sd_cmd_files.specs.Texts.{Texts}
-use Rattle.sd_cmd_files.specs.declared.Status.{Status}
+use Rattle.sd_files.specs.Texts.{Texts}
+use Rattle.sd_files.specs.declared.Status.{Status}
 use Rattle.sd_top.specs.Promise.{Answers}
 use Rattle.sd_top.specs.Words.{Command}
 use Rattle.sd_top.specs.Words.Command.{Migrate}

@@ -1,10 +1,10 @@
 -- The migration law: a topology that is written again with version 2 changes no answer.
 use Rattle.std.specs.Prelude.{◌≡◌, ◌≢◌, ◌↔◌, ℕ, All, List, ◌∷◌, Option, Ok}
-use Rattle.sd_topo.specs.Network.{Network}
+use Rattle.sd_plan.specs.topo.Network.{Network}
 use Rattle.sd_topotext.specs.Versions.{with_version_two}
-use Rattle.sd_cmd_files.specs.Inputs.{topology_of}
-use Rattle.sd_cmd_files.specs.Texts.{Texts}
-use Rattle.sd_cmd_files.specs.declared.Status.{Status}
+use Rattle.sd_files.specs.Inputs.{topology_of}
+use Rattle.sd_files.specs.Texts.{Texts}
+use Rattle.sd_files.specs.declared.Status.{Status}
 use Rattle.sd_top.specs.Promise.{Answers}
 use Rattle.sd_top.specs.Words.{Command, File, OfTopology, files_of, name_of}
 

@@ -4,8 +4,8 @@ use Rattle.std.specs.Str.{bytes_eq}
 use Rattle.sd_num.specs.Decimals.{number}
 use Rattle.sd_num.specs.Lists.{map_or}
 use Rattle.sd_num.specs.declared.NumFault.{NumFault}
-use Rattle.sd_proof_bound.specs.Drill.declared.Budget.{Budget}
-use Rattle.sd_cmd_case.specs.declared.Fabric.{Fabric}
+use Rattle.sd_drill.specs.declared.Budget.{Budget}
+use Rattle.sd_gen.specs.declared.command.Fabric.{Fabric}
 
 -- a command, with the names of its files and its numbers
 pub data Command : Type 0 where
@@ -52,7 +52,7 @@ fabric_of leaves spines = map_or (number_from 2 256 leaves) None (λ l. map_or (
 abbrev pub case_of : List ℕ → List ℕ → List ℕ → Option Command
 case_of number leaves spines = map_or (number_from 0 (2 ^ 64 - 1) number) None (λ n. map_or (fabric_of leaves spines) None (λ fabric. Some (Case n fabric)))
 
--- the command of a word with three words behind it
+-- the command of a word with three words after it
 abbrev pub with_three : List ℕ → List ℕ → List ℕ → List ℕ → Option Command
 with_three word first second third =
     if bytes_eq word (codes "renew") then Some (Renew first second third)
@@ -69,7 +69,7 @@ with_budget word first second base hold =
     if bytes_eq word (codes "drill") then map_or (budget_of base hold) None (λ budget. Some (Drill first second budget))
     else None
 
--- the command of a word with a fixed count of words behind it
+-- the command of a word with a fixed count of words after it
 abbrev pub with_fixed : List ℕ → List (List ℕ) → Option Command
 with_fixed word [] = None
 with_fixed word (file ∷ []) = with_one_file word file

@@ -1,20 +1,20 @@
 //! `check`: the verdict of the checker on a plan.
 ghost use Rattle.std.specs.Prelude.{◌≡◌, ◌≤◌, [], ◌∷◌, Err, IsTrue, IfErr, IfOk, IfSome};
-ghost use Rattle.sd_outside.specs.Shelves.{KeepsShelf};
+ghost use Rattle.sd_io.specs.outside.Shelves.{KeepsShelf};
 ghost use Rattle.sd_plan.specs.Plans.{Fits};
-ghost use Rattle.sd_topo.specs.Topologies.{network};
-ghost use Rattle.sd_cmd_files.specs.Answering.{After};
-ghost use Rattle.sd_cmd_files.specs.Inputs.{plan_in_file};
-ghost use Rattle.sd_cmd_files.specs.Texts.{texts_of};
-ghost use Rattle.sd_cmd_files.specs.Writes.{IsAllowed};
+ghost use Rattle.sd_plan.specs.topo.Topologies.{network};
+ghost use Rattle.sd_files.specs.Answering.{After};
+ghost use Rattle.sd_files.specs.Inputs.{plan_in_file};
+ghost use Rattle.sd_files.specs.Texts.{texts_of};
+ghost use Rattle.sd_files.specs.Writes.{IsAllowed};
 ghost use Rattle.sd_top.specs.Checks.{IsCheck, IsJudged, verdict_status, verdict_text};
 ghost use Rattle.sd_top.specs.Gives.{GivesAmong};
 
-use sd_cmd_files::{Answer, CommandError, Status, load_plan, load_topology, refused_plan};
-use sd_outside::Shelf;
+use sd_checker::{Verdict, accepted_line, check as check_plan};
+use sd_files::{Answer, CommandError, Status, load_plan, load_topology, refused_plan};
+use sd_io::outside::Shelf;
 use sd_plan::Plan;
-use sd_planner::checker::{Verdict, accepted_line, check as check_plan};
-use sd_topo::Topology;
+use sd_plan::topo::Topology;
 use std::alloc::Global;
 
 /// Makes the line of the verdict on a plan.

@@ -5,7 +5,6 @@
 #![tactic(auto)]
 
 mod check;
-mod drill;
 mod lines;
 mod migrate;
 mod plan;
@@ -17,5 +16,5 @@ mod top;
 mod twoway;
 mod words;
 
-pub use sd_cmd_files::Status;
+pub use sd_files::Status;
 pub use top::run;

@@ -1,11 +1,11 @@
 //! The lines that are printed for a schedule.
 ghost use Rattle.std.specs.Prelude.{◌≡◌, [], ◌∷◌, codes, decimal};
 ghost use Rattle.sd_num.specs.Texts.{text_of};
-ghost use Rattle.sd_outside.specs.Printed.{printed};
-ghost use Rattle.sd_solo.specs.Histories.{report_text};
+ghost use Rattle.sd_io.specs.outside.Printed.{printed};
+ghost use Rattle.sd_commands.specs.solo.Histories.{report_text};
 
-use sd_clock::Report;
-use sd_outside::LineBuffer;
+use sd_io::outside::LineBuffer;
+use sd_num::clock::Report;
 
 /// Prints the line of a report that is due at a line of the schedule.
 pub fn print_report(out: &mut LineBuffer, line: u32, report: Report)

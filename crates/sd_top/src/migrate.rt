@@ -1,15 +1,15 @@
 //! `migrate`: the same topology with version 2.
 ghost use Rattle.std.specs.Prelude.{◌≡◌, [], ◌∷◌, Err, IsTrue, IfErr, IfSome};
-ghost use Rattle.sd_outside.specs.Shelves.{KeepsShelf};
-ghost use Rattle.sd_topo.specs.Topologies.{network};
-ghost use Rattle.sd_cmd_files.specs.Texts.{texts_of};
-ghost use Rattle.sd_cmd_files.specs.Writes.{IsAllowed};
+ghost use Rattle.sd_io.specs.outside.Shelves.{KeepsShelf};
+ghost use Rattle.sd_plan.specs.topo.Topologies.{network};
+ghost use Rattle.sd_files.specs.Texts.{texts_of};
+ghost use Rattle.sd_files.specs.Writes.{IsAllowed};
 ghost use Rattle.sd_top.specs.Gives.{GivesAmong};
 ghost use Rattle.sd_top.specs.Migration.{IsMigrated, IsMigration};
 
-use sd_cmd_files::{Answer, CommandError, Status, load_topology};
-use sd_outside::Shelf;
-use sd_topo::Topology;
+use sd_files::{Answer, CommandError, Status, load_topology};
+use sd_io::outside::Shelf;
+use sd_plan::topo::Topology;
 use sd_topotext::topology_text;
 use std::alloc::Global;
 

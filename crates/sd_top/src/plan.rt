@@ -1,18 +1,18 @@
 //! `plan`: the greedy plan of a topology.
 ghost use Rattle.std.specs.Prelude.{◌≡◌, [], ◌∷◌, Err, IsTrue, IfErr, IfSome};
 ghost use Rattle.sd_plan.specs.Plans.{nothing_absent};
-ghost use Rattle.sd_outside.specs.Shelves.{KeepsShelf};
-ghost use Rattle.sd_topo.specs.Topologies.{network};
-ghost use Rattle.sd_cmd_files.specs.Texts.{texts_of};
-ghost use Rattle.sd_cmd_files.specs.Writes.{IsAllowed};
+ghost use Rattle.sd_io.specs.outside.Shelves.{KeepsShelf};
+ghost use Rattle.sd_plan.specs.topo.Topologies.{network};
+ghost use Rattle.sd_files.specs.Texts.{texts_of};
+ghost use Rattle.sd_files.specs.Writes.{IsAllowed};
 ghost use Rattle.sd_top.specs.Gives.{GivesAmong};
 ghost use Rattle.sd_top.specs.Plannings.{IsPlanOf, IsPlanning, first_root};
 
 use crate::planning::planning;
-use sd_cmd_files::{Answer, CommandError, Status, load_topology};
-use sd_outside::Shelf;
+use sd_files::{Answer, CommandError, Status, load_topology};
+use sd_io::outside::Shelf;
+use sd_plan::topo::Topology;
 use sd_plan::{Absent, DeviceList};
-use sd_topo::Topology;
 use std::alloc::Global;
 
 /// Makes the plan of a topology.

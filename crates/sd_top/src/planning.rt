@@ -1,18 +1,18 @@
 //! Making a plan, and what is written of it.
 ghost use Rattle.std.specs.Prelude.{◌≡◌, ◌<◌, [], ◌∷◌, length, IsTrue, IfErr, IfOk};
 ghost use Rattle.sd_plan.specs.Plans.{Fits};
-ghost use Rattle.sd_topo.specs.Topologies.{network};
-ghost use Rattle.sd_cmd_files.specs.Writes.{IsAllowed};
+ghost use Rattle.sd_plan.specs.topo.Topologies.{network};
+ghost use Rattle.sd_files.specs.Writes.{IsAllowed};
 ghost use Rattle.sd_top.specs.Gives.{GivesAmong};
 ghost use Rattle.sd_top.specs.Plannings.{IsPlanning};
 ghost use Rattle.sd_top.specs.PlannedAnswers.{IfPlan, text_of_planned, status_of_planned};
 ghost use Rattle.sd_planner.specs.Absences.{IsAbsentOf};
 
-use sd_cmd_files::{Answer, CommandError, Status, refused_plan};
+use sd_files::{Answer, CommandError, Status, refused_plan};
 use sd_plan::Absent;
+use sd_plan::topo::Topology;
 use sd_planner::{Planned, plan_for};
 use sd_plantext::plan_text;
-use sd_topo::Topology;
 use std::alloc::Global;
 
 /// The text of a plan that was made, or the line of its breach.

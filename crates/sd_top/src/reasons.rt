@@ -1,10 +1,10 @@
 //! Why an event of a device alone is refused, as it is printed.
 ghost use Rattle.std.specs.Prelude.{◌≡◌, ◌≤◌, [], length};
-ghost use Rattle.sd_outside.specs.Printed.{printed};
-ghost use Rattle.sd_solo.specs.Faults.{fault_name};
+ghost use Rattle.sd_io.specs.outside.Printed.{printed};
+ghost use Rattle.sd_commands.specs.solo.Faults.{fault_name};
 
-use sd_outside::LineBuffer;
-use sd_solo::SoloFault;
+use sd_commands::solo::SoloFault;
+use sd_io::outside::LineBuffer;
 
 /// Prints why an event of a device alone is refused.
 pub fn print_solo_fault(out: &mut LineBuffer, fault: SoloFault)

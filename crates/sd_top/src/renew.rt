@@ -1,22 +1,22 @@
 //! `renew`: the greedy plan without what is absent.
 ghost use Rattle.std.specs.Prelude.{◌≡◌, ◌≤◌, [], ◌∷◌, Err, IsTrue, IfSome};
 ghost use Rattle.sd_num.specs.Lists.{ascends};
-ghost use Rattle.sd_outside.specs.Shelves.{KeepsShelf};
-ghost use Rattle.sd_topo.specs.Topologies.{network};
-ghost use Rattle.sd_cmd_files.specs.Answering.{After};
-ghost use Rattle.sd_cmd_files.specs.Inputs.{absent_in_file, plan_in_file};
-ghost use Rattle.sd_cmd_files.specs.Texts.{texts_of};
-ghost use Rattle.sd_cmd_files.specs.Writes.{IsAllowed};
+ghost use Rattle.sd_io.specs.outside.Shelves.{KeepsShelf};
+ghost use Rattle.sd_plan.specs.topo.Topologies.{network};
+ghost use Rattle.sd_files.specs.Answering.{After};
+ghost use Rattle.sd_files.specs.Inputs.{absent_in_file, plan_in_file};
+ghost use Rattle.sd_files.specs.Texts.{texts_of};
+ghost use Rattle.sd_files.specs.Writes.{IsAllowed};
 ghost use Rattle.sd_top.specs.Gives.{GivesAmong};
 ghost use Rattle.sd_top.specs.Plannings as plannings;
 ghost use Rattle.sd_top.specs.Plannings.{IsPlanning, IsRenewal};
 
 use crate::planning::planning;
-use sd_cmd_files::{Answer, CommandError, Status, load_absent, load_plan, load_topology};
+use sd_files::{Answer, CommandError, Status, load_absent, load_plan, load_topology};
+use sd_io::outside::Shelf;
 use sd_num::contains;
-use sd_outside::Shelf;
+use sd_plan::topo::Topology;
 use sd_plan::{Absent, Plan};
-use sd_topo::Topology;
 use std::alloc::Global;
 
 /// Makes the plan of a topology that goes on from an old plan without what is absent.

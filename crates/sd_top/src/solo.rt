@@ -1,23 +1,23 @@
 //! `solo`: the schedule of one device, line by line, and what is written for it.
 ghost use Rattle.std.specs.Prelude.{◌≡◌, ◌≤◌, ℕ, [], ◌∷◌, true, Ok, Err, Some, IsTrue, IfOk, IfErr, IfSome, OnOk, OnErr};
-ghost use Rattle.sd_outside.specs.Causes.{RisesFor};
-ghost use Rattle.sd_outside.specs.Shelves.{KeepsShelf};
-ghost use Rattle.sd_cmd_files.specs.Stream.Reader.{IsNear};
-ghost use Rattle.sd_cmd_files.specs.Statuses.{is_among};
-ghost use Rattle.sd_cmd_files.specs.work.Ending.{LeavesAt};
-ghost use Rattle.sd_cmd_files.specs.work.Works.{refused_part};
+ghost use Rattle.sd_io.specs.outside.Causes.{RisesFor};
+ghost use Rattle.sd_io.specs.outside.Shelves.{KeepsShelf};
+ghost use Rattle.sd_io.specs.stream.Reader.{IsNear};
+ghost use Rattle.sd_files.specs.Statuses.{is_among};
+ghost use Rattle.sd_files.specs.work.Ending.{LeavesAt};
+ghost use Rattle.sd_files.specs.work.Works.{refused_part};
 ghost use Rattle.sd_top.specs.Schedules.{solo_work};
 ghost use Rattle.sd_top.specs.SoloWrites.{SoloIn};
 
 use crate::lines::{print_done, print_report};
 use crate::reasons::print_solo_fault;
-use sd_cmd_files::work::{LineWork, Taken, work_through};
-use sd_cmd_files::{IoError, Status, send};
-use sd_cmd_replay::print_line_fault;
+use sd_commands::replay::print_line_fault;
+use sd_commands::solo::{Solo, SoloFault, read_solo_front, read_solo_line};
+use sd_files::work::{LineWork, Taken, work_through};
+use sd_files::{IoError, Status, send};
+use sd_io::outside::{LineBuffer, Shelf, Sink};
 use sd_num::NoMemory;
-use sd_outside::{LineBuffer, Shelf, Sink};
 use sd_sched::Event;
-use sd_solo::{Solo, SoloFault, read_solo_front, read_solo_line};
 use std::alloc::Global;
 
 /// A device alone, and the line that was printed for its latest event. It takes no memory.
@@ -29,14 +29,14 @@ struct Alone {
 
 impl Alone {
     ghost use Rattle.std.specs.Prelude.{List};
-    ghost use Rattle.sd_outside.specs.Printed.{printed as bytes_in};
+    ghost use Rattle.sd_io.specs.outside.Printed.{printed as bytes_in};
     ghost use Rattle.sd_sched.specs.declared.Event.{Event as AnyEvent};
-    ghost use Rattle.sd_solo.specs.Histories.{is_known, refusal};
-    ghost use Rattle.sd_solo.specs.Lines.{solo_event};
-    ghost use Rattle.sd_solo.specs.Registers.{StandsFor};
-    ghost use Rattle.sd_cmd_files.specs.declared.work.Taken.TheVariants.{Accepted};
-    ghost use Rattle.sd_cmd_files.specs.work.Taking.{Takes};
-    ghost use Rattle.sd_cmd_files.specs.work.Works.{Work};
+    ghost use Rattle.sd_commands.specs.solo.Histories.{is_known, refusal};
+    ghost use Rattle.sd_commands.specs.solo.Lines.{solo_event};
+    ghost use Rattle.sd_commands.specs.solo.Registers.{StandsFor};
+    ghost use Rattle.sd_files.specs.declared.work.Taken.TheVariants.{Accepted};
+    ghost use Rattle.sd_files.specs.work.Taking.{Takes};
+    ghost use Rattle.sd_files.specs.work.Works.{Work};
     ghost use Rattle.sd_top.specs.Alone.{IsAlone};
 
     /// The device takes the event of a line, and what it reports is printed.
@@ -61,8 +61,8 @@ impl Alone {
 impl LineWork for Alone {
     ghost use Rattle.std.specs.Prelude.{[], ◌∷◌};
     ghost use Rattle.sd_top.specs.Alone.{IsAlone};
-    ghost use Rattle.sd_outside.specs.Printed.{printed as bytes_in};
-    ghost use Rattle.sd_cmd_files.specs.declared.Status.TheVariants.{Done};
+    ghost use Rattle.sd_io.specs.outside.Printed.{printed as bytes_in};
+    ghost use Rattle.sd_files.specs.declared.Status.TheVariants.{Done};
 
     type Item = Event;
 

@@ -1,13 +1,13 @@
 //! `run`: the command of the words.
 ghost use Rattle.std.specs.Prelude.{◌≡◌, ◌⊎◌, [], ◌∷◌, false, true, All, Err, IfOk, IfSome, IsTrue, None, Ok, Some, map, string_bytes};
-ghost use Rattle.sd_outside.specs.Causes.{RisesFor, Rose};
-ghost use Rattle.sd_outside.specs.Shelves.{KeepsShelf};
-ghost use Rattle.sd_cmd_files.specs.Stream.Reader.{IsNear};
-ghost use Rattle.sd_cmd_files.specs.Statuses.{is_among, stop_of};
-ghost use Rattle.sd_cmd_files.specs.Texts.{texts_of};
-ghost use Rattle.sd_cmd_files.specs.Writes.{WritesOnce};
-ghost use Rattle.sd_cmd_files.specs.work.Ending.{LeavesAt};
-ghost use Rattle.sd_cmd_files.specs.work.Works.{refused_part};
+ghost use Rattle.sd_io.specs.outside.Causes.{RisesFor, Rose};
+ghost use Rattle.sd_io.specs.outside.Shelves.{KeepsShelf};
+ghost use Rattle.sd_io.specs.stream.Reader.{IsNear};
+ghost use Rattle.sd_files.specs.Statuses.{is_among, stop_of};
+ghost use Rattle.sd_files.specs.Texts.{texts_of};
+ghost use Rattle.sd_files.specs.Writes.{WritesOnce};
+ghost use Rattle.sd_files.specs.work.Ending.{LeavesAt};
+ghost use Rattle.sd_files.specs.work.Works.{refused_part};
 ghost use Rattle.sd_top.specs.Bounds.{MeetsBounds};
 ghost use Rattle.sd_top.specs.Ends.{MeetsResult};
 ghost use Rattle.sd_top.specs.Headlines.{MeetsHeadline};
@@ -19,17 +19,17 @@ ghost use Rattle.sd_top.specs.Words as meaning;
 ghost use Rattle.sd_top.specs.Words.{files_of, name_of};
 
 use crate::check::check;
-use crate::drill::drill;
 use crate::migrate::migrate;
 use crate::plan::plan;
 use crate::renew::renew;
 use crate::solo::replay_solo;
 use crate::twoway::twoway;
 use crate::words::{Command, command_of};
-use sd_cmd_case::case;
-use sd_cmd_files::{IoError, Status, write_answer};
-use sd_cmd_replay::{order, replay};
-use sd_outside::{Shelf, Sink};
+use sd_commands::replay::{order, replay};
+use sd_drill_text::{DrillLines, print_texts};
+use sd_files::{IoError, Status, write_answer};
+use sd_gen::command::case;
+use sd_io::outside::{Shelf, Sink};
 use std::alloc::Global;
 
 /// Does the work of the words that follow the program's name, and answers how it ended.
@@ -148,7 +148,7 @@ fn perform<S: Shelf, O: Sink>(
                 plan,
                 budget,
             },
-        ) => drill(alloc, shelf, topology, plan, budget, out),
+        ) => print_texts::<DrillLines, S, O>(alloc, shelf, topology, plan, budget, out),
         None => usage(out),
     }
 }

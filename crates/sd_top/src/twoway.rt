@@ -1,24 +1,24 @@
 //! `twoway`: bounds on the delays of links, from recorded exchanges.
 ghost use Rattle.std.specs.Prelude.{◌≡◌, ◌≤◌, [], ◌∷◌, true, Err, Ok, IsTrue, IfOk, IfSome, Some};
-ghost use Rattle.sd_outside.specs.Causes.{RisesFor};
-ghost use Rattle.sd_outside.specs.Shelves.{KeepsShelf};
-ghost use Rattle.sd_cmd_files.specs.Stream.Reader.{IsNear};
-ghost use Rattle.sd_topo.specs.Topologies.{network};
-ghost use Rattle.sd_cmd_files.specs.Answering.{InWrites};
-ghost use Rattle.sd_cmd_files.specs.Inputs.{topology_of};
-ghost use Rattle.sd_cmd_files.specs.Statuses.{is_among};
-ghost use Rattle.sd_cmd_files.specs.Texts.{texts_of};
-ghost use Rattle.sd_cmd_files.specs.work.Ending.{LeavesAt};
-ghost use Rattle.sd_cmd_files.specs.work.Works.{InSteps, IsOutcome, refused_part};
-ghost use Rattle.sd_cmd_twoway.specs.Twoways.{twoway_work};
+ghost use Rattle.sd_io.specs.outside.Causes.{RisesFor};
+ghost use Rattle.sd_io.specs.outside.Shelves.{KeepsShelf};
+ghost use Rattle.sd_io.specs.stream.Reader.{IsNear};
+ghost use Rattle.sd_plan.specs.topo.Topologies.{network};
+ghost use Rattle.sd_files.specs.Answering.{InWrites};
+ghost use Rattle.sd_files.specs.Inputs.{topology_of};
+ghost use Rattle.sd_files.specs.Statuses.{is_among};
+ghost use Rattle.sd_files.specs.Texts.{texts_of};
+ghost use Rattle.sd_files.specs.work.Ending.{LeavesAt};
+ghost use Rattle.sd_files.specs.work.Works.{InSteps, IsOutcome, refused_part};
+ghost use Rattle.sd_commands.specs.twoway.Twoways.{twoway_work};
 ghost use Rattle.sd_top.specs.Twoways.{refused_over};
 ghost use Rattle.sd_top.specs.TwowayWrites.{TwowayIn};
 
-use sd_cmd_files::work::work_through;
-use sd_cmd_files::{IoError, Status, load_topology, write_answer};
-use sd_cmd_twoway::Exchanges;
-use sd_outside::{Shelf, Sink};
-use sd_topo::Topology;
+use sd_commands::twoway::Exchanges;
+use sd_files::work::work_through;
+use sd_files::{IoError, Status, load_topology, write_answer};
+use sd_io::outside::{Shelf, Sink};
+use sd_plan::topo::Topology;
 use std::alloc::Global;
 
 /// Reads a topology and then a text of exchanges line by line, and writes the bounds of the links.

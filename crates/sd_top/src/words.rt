@@ -1,13 +1,13 @@
 //! What the words of the command mean.
 ghost use Rattle.std.specs.Prelude.{◌≡◌, ◌≤◌, ◌&&◌, ◌^◌, map, option_map, string_bytes, IfSome};
-ghost use Rattle.sd_cmd_case.specs.Sizes.{IsWithin};
-ghost use Rattle.sd_proof_bound.specs.Drill.Budgets.{IsBudget};
+ghost use Rattle.sd_gen.specs.command.Sizes.{IsWithin};
+ghost use Rattle.sd_drill.specs.Budgets.{IsBudget};
 ghost use Rattle.sd_top.specs.Parsed.{IsGranted, named};
 ghost use Rattle.sd_top.specs.Words as meaning;
 
-use sd_cmd_case::Fabric;
-use sd_cmd_drill::drill::Budget;
-use sd_cmd_replay::Files;
+use sd_commands::replay::Files;
+use sd_drill::Budget;
+use sd_gen::command::Fabric;
 use sd_num::read_u64;
 
 /// A command, with the names of its files and its numbers.
@@ -127,7 +127,7 @@ fn case_of<'w>(number: &str, leaves: &str, spines: &str) -> Option<Command<'w>>
     Some(Command::Case { number, fabric })
 }
 
-/// The command of a word with three words behind it.
+/// The command of a word with three words after it.
 fn with_three<'w>(
     word: &str,
     first: &'w str,
@@ -184,7 +184,7 @@ fn with_budget<'w>(
     })
 }
 
-/// The command of a word with a fixed count of words behind it.
+/// The command of a word with a fixed count of words after it.
 fn with_fixed<'w>(word: &str, others: &'w [String]) -> Option<Command<'w>>
     ensures is { option_map named result
         ≡ meaning.with_fixed word.now (map string_bytes others.now) }
@@ -242,7 +242,7 @@ fn over_plans<'w>(
     }
 }
 
-/// The command of a word with the files behind it, whatever the count of its plans.
+/// The command of a word with the files after it, whatever the count of its plans.
 fn with_plans<'w>(word: &str, files: &'w [String]) -> Option<Command<'w>>
     ensures is { option_map named result
         ≡ meaning.with_plans word.now (map string_bytes files.now) }

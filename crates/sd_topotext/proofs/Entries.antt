@@ -5,20 +5,20 @@ use Rattle.std.specs.Map.{keys_of}
 use Rattle.indexmap.specs.IndexMap.{IndexMap, index_map_len}
 use Rattle.toml.specs.Data.{Data}
 use Rattle.sd_num.specs.declared.Rates.{Rates}
-use Rattle.sd_topo.specs.declared.parts.Station.{Station}
-use Rattle.sd_topo.specs.declared.parts.Group.{Group}
-use Rattle.sd_topo.specs.Network.{Device, Link, Domain}
-use Rattle.sd_topo.specs.Seen.{names_seen, device_seen, devices_seen, link_seen, links_seen, domain_seen, domains_seen, Adds}
+use Rattle.sd_plan.specs.declared.topo.parts.Station.{Station}
+use Rattle.sd_plan.specs.declared.topo.parts.Group.{Group}
+use Rattle.sd_plan.specs.topo.Network.{Device, Link, Domain}
+use Rattle.sd_plan.specs.topo.Seen.{names_seen, device_seen, devices_seen, link_seen, links_seen, domain_seen, domains_seen, Adds}
 use Rattle.sd_topotext.specs.Then.{◌>>=◌}
 use Rattle.sd_topotext.specs.Meaning.{count_of, two, allowed, things_listed, device_in, one_more_device, link_in, one_more_link, domain_in, one_more_domain}
-use Rattle.sd_topo.specs.declared.LinkEntry.{LinkEntry}
+use Rattle.sd_plan.specs.declared.topo.LinkEntry.{LinkEntry}
 use Rattle.sd_topotext.specs.declared.fault.Kind.TheVariants.{Item}
 use Rattle.sd_topotext.specs.declared.fault.TopoFault.TheVariants.{Limit, Range}
 use Rattle.sd_topotext.specs.declared.fault.Place.{Place}
 use Rattle.std.proofs.lemmas.List.Sums.{sum_by-append}
 use Rattle.toml.specs.View.{view, items_view}
 use Rattle.toml.specs.declared.value.Value.{Value}
-use Rattle.sd_topo.proofs.Lists.{length-map}
+use Rattle.sd_plan.proofs.topo.Lists.{length-map}
 
 -- the names of the things that entries stand for are the entries' names
 names_of_entries : {V B : Type 0} (see : String Global × V → B) (name : B → List ℕ) → ((e : String Global × V) → name (see e) ≡ string_bytes e.0)
@@ -78,7 +78,7 @@ domains_added old new name v adds =
     ap (map domain_seen) adds.last ∙ map-append domain_seen old.entries ((adds.key, v) ∷ [])
     ∙ ap (λ (n : List ℕ). domains_seen old ++ (record { name = n; devices = v.devices.items; links = v.links.items }) ∷ []) adds.named
 
--- one more domain lists so many things more
+-- one more domain lists this many things more
 pub things_listed_more : (domains : List Domain) (name devices links : List ℕ)
     → things_listed (domains ++ (record { name = name; devices = devices; links = links }) ∷ []) ≡ things_listed domains + (length devices + length links)
 things_listed_more domains name devices links =

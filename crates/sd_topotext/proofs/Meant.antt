@@ -7,9 +7,9 @@ use Rattle.std.proofs.lemmas.List.Elements.{All-push, All-nil}
 use Rattle.toml.specs.Data.{Data, Items, Members, as_table}
 use Rattle.sd_num.specs.declared.Rates.{Rates}
 use Rattle.sd_num.specs.Lists.{ascends, all_below, ascending}
-use Rattle.sd_topo.specs.declared.Side.{Side}
-use Rattle.sd_topo.specs.declared.Params.{Params}
-use Rattle.sd_topo.specs.declared.Delay.{Delay}
+use Rattle.sd_plan.specs.declared.topo.Side.{Side}
+use Rattle.sd_plan.specs.declared.topo.Params.{Params}
+use Rattle.sd_plan.specs.declared.topo.Delay.{Delay}
 use Rattle.sd_topotext.specs.declared.fault.TopoFault.{TopoFault}
 use Rattle.sd_topotext.specs.declared.fault.TopoFault.TheVariants.{Range, Limit, SelfLink}
 use Rattle.sd_topotext.specs.declared.fault.Kind.TheVariants as kinds
@@ -17,11 +17,11 @@ use Rattle.sd_topotext.specs.declared.fault.Place.{Place}
 use Rattle.sd_topotext.specs.declared.fault.Key.{Key}
 use Rattle.sd_topotext.specs.declared.fault.Key.TheVariants as keys
 use Rattle.sd_topotext.specs.Then.{◌>>=◌}
-use Rattle.sd_topo.specs.Network.{Network, Device, Link, Domain, is_name}
-use Rattle.sd_topo.specs.Limits.{IsNetwork, IsLink, IsRates, AreNumbers}
+use Rattle.sd_plan.specs.topo.Network.{Network, Device, Link, Domain, is_name}
+use Rattle.sd_plan.specs.topo.Limits.{IsNetwork, IsLink, IsRates, AreNumbers}
 use Rattle.sd_topotext.specs.Meaning.{place, value, allowed, of_kind, count_of, each_from, number, number_or, array, array_or_none, own_name, referred, one_more, two, params_in, top_rates, side_in, rates_in, device_in, one_more_device, devices_in, ends_in, delay_in, back_in, link_in, one_more_link, links_in, members_in, domain_in, things_listed, one_more_domain, domains_in, roots_in, network_in, network_of}
 use Rattle.sd_topotext.proofs.Sound.{bind_ok, allowed_ok, one_of, ok_inside, number_ok, number_or_ok, own_name_ok, referred_ok, one_more_ok, each_ok, each_len, listed_ok}
-use Rattle.sd_topo.proofs.Lists.{each_of, names_differ, numbers_differ, AreNames, no_names, names_more, names_count, ascending_ok}
+use Rattle.sd_plan.proofs.topo.Lists.{each_of, names_differ, numbers_differ, AreNames, no_names, names_more, names_count, ascending_ok}
 
 -- a device's own rates are in range
 rates_ok : (version : ℕ) (top : Rates) (entry : ℕ) (ms : Members) (rates : Rates) → IsRates top → rates_in version top entry ms ≡ Ok rates → IsRates rates

@@ -5,9 +5,9 @@ use Rattle.std.specs.Str.{bytes_eq}
 use Rattle.std.specs.Map.{keys_of, lookup}
 use Rattle.indexmap.specs.IndexMap.{IndexMap, get_by, index_of_by, insert_entry}
 use Rattle.std.specs.Cmp.Lexicographic.{pointwise}
-use Rattle.sd_topo.specs.Seen.{names_seen, Adds}
-use Rattle.sd_topo.specs.Network.{number_in}
-use Rattle.sd_topo.proofs.Tables.{position-map}
+use Rattle.sd_plan.specs.topo.Seen.{names_seen, Adds}
+use Rattle.sd_plan.specs.topo.Network.{number_in}
+use Rattle.sd_plan.proofs.topo.Tables.{position-map}
 
 -- some key passes where a look-up finds something
 found : {V : Type 0} (test : List ℕ → Bool) (es : List (String Global × V))

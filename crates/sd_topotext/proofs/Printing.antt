@@ -10,14 +10,14 @@ use Rattle.toml.proofs.Views.{items_view-push}
 use Rattle.std.proofs.lemmas.Option.{slice_get-map, slice_get-get_or}
 use Rattle.sd_num.specs.declared.Rates.{Rates}
 use Rattle.sd_num.specs.Lists.{map_or}
-use Rattle.sd_topo.specs.declared.Side.{Side}
-use Rattle.sd_topo.specs.declared.Side.TheVariants.{Root}
-use Rattle.sd_topo.specs.declared.Params.{Params}
-use Rattle.sd_topo.specs.declared.LinkEntry.{LinkEntry}
+use Rattle.sd_plan.specs.declared.topo.Side.{Side}
+use Rattle.sd_plan.specs.declared.topo.Side.TheVariants.{Root}
+use Rattle.sd_plan.specs.declared.topo.Params.{Params}
+use Rattle.sd_plan.specs.declared.topo.LinkEntry.{LinkEntry}
 use Rattle.sd_topotext.specs.declared.fault.Key.TheVariants as keys
-use Rattle.sd_topo.specs.Network.{Network, Device, Link, Domain, no_rates, no_link, device_names, link_names, name_at, rates_of, link_of}
-use Rattle.sd_topo.specs.Places.{no_device, no_named_link, no_domain, domain_names, side_of, domain_of}
-use Rattle.sd_topo.proofs.Laws.{found_at}
+use Rattle.sd_plan.specs.topo.Network.{Network, Device, Link, Domain, no_rates, no_link, device_names, link_names, name_at, rates_of, link_of}
+use Rattle.sd_plan.specs.topo.Places.{no_device, no_named_link, no_domain, domain_names, side_of, domain_of}
+use Rattle.sd_plan.proofs.topo.Laws.{found_at}
 use Rattle.sd_topotext.specs.Printed.{put_word, put, whole, side_word, names_data, device_tree, link_tree, domain_tree, params_tree, network_tree}
 
 -- an entry goes to the place of its key

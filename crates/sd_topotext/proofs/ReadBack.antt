@@ -9,27 +9,27 @@ use Rattle.toml.specs.Data.{Data, Items, Members, string, array, table, depth, i
 use Rattle.toml.specs.View.{items_of}
 use Rattle.sd_num.specs.declared.Rates.{Rates}
 use Rattle.sd_num.specs.Lists.{has, ascends}
-use Rattle.sd_topo.specs.declared.Side.{Side}
-use Rattle.sd_topo.specs.declared.Side.TheVariants as sides
-use Rattle.sd_topo.specs.declared.Delay.{Delay}
+use Rattle.sd_plan.specs.declared.topo.Side.{Side}
+use Rattle.sd_plan.specs.declared.topo.Side.TheVariants as sides
+use Rattle.sd_plan.specs.declared.topo.Delay.{Delay}
 use Rattle.sd_topotext.specs.declared.fault.TopoFault.{TopoFault}
 use Rattle.sd_topotext.specs.declared.fault.Place.{Place}
 use Rattle.sd_topotext.specs.declared.fault.Key.{Key}
 use Rattle.sd_topotext.specs.declared.fault.Key.TheVariants as keys
-use Rattle.sd_topo.specs.Network.{Network, Device, Link, Domain, Each, is_name, name_at, device_names, link_names}
-use Rattle.sd_topo.specs.Limits.{IsNetwork, IsRates, IsLink, AreDistinct}
+use Rattle.sd_plan.specs.topo.Network.{Network, Device, Link, Domain, Each, is_name, name_at, device_names, link_names}
+use Rattle.sd_plan.specs.topo.Limits.{IsNetwork, IsRates, IsLink, AreDistinct}
 use Rattle.sd_topotext.specs.Printed.{whole, side_word, names_data, device_tree, link_tree, domain_tree, params_tree, network_tree}
 use Rattle.sd_topotext.specs.Meaning.{place, value, count_of, each_from, number, number_or, text, array as array_at, array_or_none, own_name, referred, one_more, params_in, top_rates, side_in, rates_in, device_in, one_more_device, devices_in, ends_in, delay_in, back_in, link_in, one_more_link, links_in, members_in, domain_in, things_listed, one_more_domain, domains_in, roots_in, network_in}
-use Rattle.sd_topo.proofs.Ascending.{ascending-itself}
+use Rattle.sd_plan.proofs.topo.Ascending.{ascending-itself}
 use Rattle.std.specs.Str.{IsUtf8}
 use Rattle.toml.specs.Parse.{parse_document}
 use Rattle.sd_topotext.specs.Reading.{tree_of}
 use Rattle.sd_topotext.specs.Versions.{with_version_two}
 use Rattle.sd_topotext.specs.Meaning.{network_of}
 use Rattle.sd_topotext.proofs.Trees.{tree_known}
-use Rattle.sd_topo.proofs.Laws.{group_of, IsGroup}
-use Rattle.sd_topo.proofs.Lists.{names_count, each_of}
-use Rattle.sd_topo.proofs.Places.{stands, none_before, same_bytes, number_back, rises-ascending, rising_none}
+use Rattle.sd_plan.proofs.topo.Laws.{group_of, IsGroup}
+use Rattle.sd_plan.proofs.topo.Lists.{names_count, each_of}
+use Rattle.sd_plan.proofs.topo.Places.{stands, none_before, same_bytes, number_back, rises-ascending, rising_none}
 
 -- a number that is there and in range is read
 number_read : (key : Key) (entry least most : ℕ) (ms : Members) (n : ℕ) → value key ms ≡ Some (whole n) → least ≤ n → n ≤ most

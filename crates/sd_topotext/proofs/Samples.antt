@@ -3,7 +3,7 @@ use Rattle.std.proofs.Common.{◌≡◌, [], ◌∷◌, Ok, Err, codes, refl}
 use Rattle.std.specs.Str.Lossy.{utf8_valid_len}
 use Rattle.std.specs.Str.{is_utf8, chars}
 use Rattle.toml.proofs.OnLiterals.{toml_on_literals}
-use Rattle.sd_topo.specs.declared.Side.TheVariants as sides
+use Rattle.sd_plan.specs.declared.topo.Side.TheVariants as sides
 use Rattle.sd_topotext.specs.declared.fault.Key.TheVariants.{Version, Ppm, DeviceName, LinkEnds, LinkBackMin, DomainDevices, Roots}
 use Rattle.sd_topotext.specs.declared.fault.TopoFault.TheVariants.{NotToml, Missing, Range, TwiceNamed, SelfLink, UnknownName}
 use Rattle.sd_topotext.specs.Meaning.{place, number, number_or, text, array, array_or_none, own_name, referred, one_more, params_in, side_in, rates_in, device_in, one_more_device, devices_in, ends_in, delay_in, back_in, link_in, one_more_link, links_in, members_in, domain_in, one_more_domain, domains_in, roots_in, network_in, network_of}

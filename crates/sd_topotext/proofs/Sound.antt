@@ -14,7 +14,7 @@ use Rattle.sd_topotext.specs.declared.fault.TopoFault.TheVariants.{Range, TwiceN
 use Rattle.sd_topotext.specs.declared.fault.Place.{Place}
 use Rattle.sd_topotext.specs.declared.fault.Key.{Key}
 use Rattle.sd_topotext.specs.Then.{◌>>=◌}
-use Rattle.sd_topo.specs.Network.{number_in, is_name}
+use Rattle.sd_plan.specs.topo.Network.{number_in, is_name}
 use Rattle.sd_topotext.specs.Meaning.{place, value, allowed, there, of_kind, in_range, known, count_of, each_from, number, number_or, text, array_or_none, own_name, referred, one_more, members_in}
 
 -- what goes on without a fault had none before

@@ -7,9 +7,9 @@ use Rattle.std.proofs.lemmas.Str.{utf8_valid_len-IsUtf8}
 use Rattle.toml.specs.Data.{Members}
 use Rattle.toml.specs.Parse.{parse_document}
 use Rattle.sd_num.specs.Lists.{greatest}
-use Rattle.sd_topo.specs.declared.LinkEntry.{LinkEntry}
-use Rattle.sd_topo.specs.Network.{Link}
-use Rattle.sd_topo.specs.Seen.{link_seen}
+use Rattle.sd_plan.specs.declared.topo.LinkEntry.{LinkEntry}
+use Rattle.sd_plan.specs.topo.Network.{Link}
+use Rattle.sd_plan.specs.topo.Seen.{link_seen}
 use Rattle.sd_topotext.specs.Reading.{tree_of}
 
 -- bytes that are text have the tree that was parsed

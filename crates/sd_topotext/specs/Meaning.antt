@@ -7,11 +7,11 @@ use Rattle.sd_num.specs.declared.Rates.{Rates}
 use Rattle.sd_num.specs.Lists.{has, ascending}
 use Rattle.sd_topotext.specs.Then.{◌>>=◌}
 use Rattle.sd_topotext.specs.Keys.{word_of}
-use Rattle.sd_topo.specs.Network.{Network, Device as DeviceMeant, Link as LinkMeant, Domain as DomainMeant, is_name, number_in}
-use Rattle.sd_topo.specs.declared.Side.{Side}
-use Rattle.sd_topo.specs.declared.Side.TheVariants as sides
-use Rattle.sd_topo.specs.declared.Params.{Params}
-use Rattle.sd_topo.specs.declared.Delay.{Delay}
+use Rattle.sd_plan.specs.topo.Network.{Network, Device as DeviceMeant, Link as LinkMeant, Domain as DomainMeant, is_name, number_in}
+use Rattle.sd_plan.specs.declared.topo.Side.{Side}
+use Rattle.sd_plan.specs.declared.topo.Side.TheVariants as sides
+use Rattle.sd_plan.specs.declared.topo.Params.{Params}
+use Rattle.sd_plan.specs.declared.topo.Delay.{Delay}
 use Rattle.sd_topotext.specs.declared.fault.Place.{Place}
 use Rattle.sd_topotext.specs.declared.fault.Key.{Key}
 use Rattle.sd_topotext.specs.declared.fault.Key.TheVariants.{Version, Ppm, Grain, Period, Tick, Loss, Depth, Device, DeviceName, DeviceSide, Link, LinkName, LinkEnds, LinkMin, LinkMax, Domain, DomainName, DomainDevices, DomainLinks, Roots, DevicePpm, DeviceGrain, LinkBackMin, LinkBackMax}

@@ -4,12 +4,12 @@ use Rattle.std.specs.Ordering.{nat_cmp, match_ordering}
 use Rattle.std.specs.Cmp.Lexicographic.{slice_cmp}
 use Rattle.toml.specs.Data.{Data, string, integer, array, table, Members, no_members, member}
 use Rattle.toml.specs.View.{items_of}
-use Rattle.sd_topo.specs.declared.Side.{Side}
-use Rattle.sd_topo.specs.declared.Side.TheVariants as sides
+use Rattle.sd_plan.specs.declared.topo.Side.{Side}
+use Rattle.sd_plan.specs.declared.topo.Side.TheVariants as sides
 use Rattle.sd_topotext.specs.declared.fault.Key.{Key}
 use Rattle.sd_topotext.specs.declared.fault.Key.TheVariants as keys
 use Rattle.sd_topotext.specs.Keys.{word_of}
-use Rattle.sd_topo.specs.Network.{Network, Device, Link, Domain, device_names, link_names, name_at}
+use Rattle.sd_plan.specs.topo.Network.{Network, Device, Link, Domain, device_names, link_names, name_at}
 
 -- the members with a value at a key, in the order of the keys
 abbrev pub put_word : List ℕ → Data → Members → Members

@@ -1,5 +1,5 @@
 -- A network that is written again with version 2.
-use Rattle.sd_topo.specs.Network.{Network}
+use Rattle.sd_plan.specs.topo.Network.{Network}
 
 -- the same network, with version 2
 abbrev pub with_version_two : Network → Network

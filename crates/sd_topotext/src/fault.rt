@@ -35,7 +35,7 @@ pub enum Key {
 }
 
 impl Key {
-    /// The key as it is printed, behind the array that it belongs to.
+    /// The key as it is printed, after the array that it belongs to.
     pub fn word(self) -> &'static str
         ensures { result.now ≡ printed self }
     {

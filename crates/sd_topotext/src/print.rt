@@ -2,9 +2,9 @@
 ghost use Rattle.std.specs.Prelude.{◌≡◌, ◌<◌, length, map, slice_index_or, IfOk, OnOk, Ok, ◌∷◌, []};
 ghost use Rattle.toml.specs.Data.{array, table, string};
 ghost use Rattle.toml.specs.View.{view, table_view, items_of};
-ghost use Rattle.sd_topo.specs.Network.{device_names, link_names, name_at};
-ghost use Rattle.sd_topo.specs.Places.{no_device, no_named_link, no_domain};
-ghost use Rattle.sd_topo.specs.Topologies.{network};
+ghost use Rattle.sd_plan.specs.topo.Network.{device_names, link_names, name_at};
+ghost use Rattle.sd_plan.specs.topo.Places.{no_device, no_named_link, no_domain};
+ghost use Rattle.sd_plan.specs.topo.Topologies.{network};
 ghost use Rattle.sd_topotext.specs.Printed.{put, names_data, device_tree, link_tree, domain_tree, params_tree, network_tree};
 ghost use Rattle.sd_topotext.specs.Versions.{with_version_two};
 ghost use Rattle.sd_topotext.specs.Meaning.{network_of};
@@ -14,7 +14,7 @@ mod values;
 
 use crate::fault::Key;
 use sd_num::NoMemory;
-use sd_topo::Topology;
+use sd_plan::topo::Topology;
 use std::alloc::Global;
 use toml::Value;
 use toml::value::{Array, Table};

@@ -2,10 +2,11 @@
 ghost use Rattle.std.specs.Prelude.{◌≡◌, ◌≢◌, ◌≤◌, ◌^◌, Some, None, IfOk, IfErr};
 ghost use Rattle.toml.specs.View.{table_view};
 ghost use Rattle.sd_topotext.specs.Gives.{Gives};
-ghost use Rattle.sd_topo.specs.Limits.{IsRates};
-ghost use Rattle.sd_topo.specs.Seen.{network_seen};
+ghost use Rattle.sd_plan.specs.topo.Limits.{IsRates};
+ghost use Rattle.sd_plan.specs.topo.Seeds.{seed_of, AreHashed};
+ghost use Rattle.sd_plan.specs.topo.Seen.{network_seen};
 ghost use Rattle.sd_topotext.specs.Meaning.{params_in, top_rates, network_in, network_of};
-ghost use Rattle.sd_topo.specs.Topologies.{network};
+ghost use Rattle.sd_plan.specs.topo.Topologies.{network};
 ghost use Rattle.sd_topotext.specs.Reading.{tree_of};
 
 mod devices;
@@ -19,7 +20,7 @@ use devices::devices_at;
 use domains::{domains_at, roots_at};
 use links::links_at;
 use sd_num::Rates;
-use sd_topo::{Params, Parts, Topology};
+use sd_plan::topo::{Params, Parts, TextSeed, Topology};
 use std::alloc::Global;
 use toml::Table;
 use values::{SECOND, number_at};
@@ -48,8 +49,9 @@ fn params_at(table: &Table) -> Result<Params, TopoFault>
 
 /// What a topology is made of, from the tree of its text.
 #[tactic(auto, unfolding(crate::specs::Meaning::network_in), using(crate::proofs::Entries::device_names_seen, crate::proofs::Entries::link_names_seen))]
-fn parts_at(alloc: Global, table: &Table) -> Result<Parts, TopoFault>
-    ensures { Gives network_seen result (network_in (table_view table.now)) }
+fn parts_at(alloc: Global, seed: TextSeed, table: &Table) -> Result<Parts, TopoFault>
+    ensures given { Gives network_seen result (network_in (table_view table.now)) }
+    ensures hashed { IfOk result (λ p. AreHashed seed p) }
 {
     let version = number_at(table, Key::Version, 0, 1, 2)? as u32;
     let params = params_at(table)?;
@@ -57,9 +59,9 @@ fn parts_at(alloc: Global, table: &Table) -> Result<Parts, TopoFault>
         ppm: params.ppm,
         grain: params.grain,
     };
-    let devices = devices_at(alloc, table, version, top)?;
-    let links = links_at(alloc, &devices, table, version)?;
-    let domains = domains_at(alloc, &devices, &links, table)?;
+    let devices = devices_at(alloc, seed, table, version, top)?;
+    let links = links_at(alloc, seed, &devices, table, version)?;
+    let domains = domains_at(alloc, seed, &devices, &links, table)?;
     let roots = roots_at(alloc, &devices, table)?;
     Ok(Parts {
         version,
@@ -92,20 +94,28 @@ fn tree_in(alloc: Global, bytes: &[u8]) -> Result<Table, TopoFault>
     }
 }
 
-/// The topology that a text means, or the text's first fault.
-///
-/// A text of version 1 or 2 is TOML; unknown keys are ignored, and the keys of version 2 are
-/// unknown in a text of version 1.
+/// What the topology of a text is made of, its names hashed by the seed of the text.
 #[tactic(auto, unfolding(crate::specs::Meaning::network_of))]
-pub fn read_topology(alloc: Global, bytes: &[u8]) -> Result<Topology, TopoFault>
-    ensures { Gives network result (network_of (tree_of bytes.now)) }
+fn parts_in(alloc: Global, bytes: &[u8]) -> Result<Parts, TopoFault>
+    ensures given { Gives network_seen result (network_of (tree_of bytes.now)) }
+    ensures hashed { IfOk result (λ p. AreHashed (seed_of bytes.now) p) }
 {
     let table = match tree_in(alloc, bytes) {
         Ok(table) => table,
         Err(TopoFault::Memory) => return Err(TopoFault::Memory),
         Err(_) => return Err(TopoFault::NotToml),
     };
-    match parts_at(alloc, &table) {
+    parts_at(alloc, TextSeed::of(bytes), &table)
+}
+
+/// The topology that a text means, or the text's first fault.
+///
+/// A text of version 1 or 2 is TOML; unknown keys are ignored, and the keys of version 2 are
+/// unknown in a text of version 1.
+pub fn read_topology(alloc: Global, bytes: &[u8]) -> Result<Topology, TopoFault>
+    ensures { Gives network result (network_of (tree_of bytes.now)) }
+{
+    match parts_in(alloc, bytes) {
         Ok(parts) => return Ok(Topology::new(parts)),
         Err(fault) => return Err(fault),
     }

@@ -3,11 +3,11 @@
 #![tactic(auto)]
 
 ghost use Rattle.std.specs.Prelude.{map, string_bytes};
-ghost use Rattle.sd_edge.specs.Endings.{EndsRun};
+ghost use Rattle.sd_files.specs.edge.Endings.{EndsRun};
 
-use sd_edge::{ErrorLines, ErrorOutput, end_without_words, exit_of, say_why, words_of};
+use sd_files::edge::{ErrorLines, ErrorOutput, end_without_words, exit_of, say_why, words_of};
+use sd_io::outside::{FileShelf, StdSink, SystemFiles, SystemWriter};
 use sd_num::NoMemory;
-use sd_outside::{FileShelf, StdSink, SystemFiles, SystemWriter};
 use sd_top::run;
 use std::alloc::Global;
 use std::process::ExitCode;

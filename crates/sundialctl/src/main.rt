@@ -8,9 +8,9 @@ ghost use Rattle.sundialctl.specs.Naming as meaning;
 ghost use Rattle.sundialctl.specs.Naming.{EndsCtlRun};
 
 use sd_ctl_top::run;
-use sd_edge::{ErrorLines, ErrorOutput, end_without_words, exit_of, say_why, words_of};
+use sd_files::edge::{ErrorLines, ErrorOutput, end_without_words, exit_of, say_why, words_of};
+use sd_io::outside::{FileShelf, LastFault, StdSink, SystemFiles, SystemWriter};
 use sd_num::NoMemory;
-use sd_outside::{FileShelf, LastFault, StdSink, SystemFiles, SystemWriter};
 use std::alloc::Global;
 use std::process::ExitCode;
 use std::{env, io};
@@ -26,7 +26,7 @@ fn is_word(words: &[String], place: usize, text: &str) -> bool
     }
 }
 
-/// The words behind the first ones.
+/// The words after the first ones.
 fn words_behind(words: &[String], place: usize) -> &[String]
     requires { place ≤ length words.now }
     ensures { result.now ≡ drop place words.now }
@@ -48,12 +48,28 @@ fn words_for(words: &[String], file: u64) -> &[String]
     }
 }
 
+/// The words by which a file of a command is named: the feed of a merge is after the number of the
+/// logs.
+fn words_by_command(words: &[String], file: u64) -> &[String]
+    ensures { map string_bytes result.now
+        ≡ meaning.words_by_command (map string_bytes words.now) file }
+{
+    let [command, others @ ..] = words else {
+        return words;
+    };
+    if command.as_str() == "merge" {
+        others
+    } else {
+        words_for(words, file)
+    }
+}
+
 /// The words by which the file is named that could not be read, if there is one.
 fn naming(words: &[String], fault: Option<LastFault>) -> &[String]
     ensures { map string_bytes result.now ≡ meaning.naming (map string_bytes words.now) fault }
 {
     match fault {
-        Some(LastFault { file, .. }) => words_for(words, file),
+        Some(LastFault { file, .. }) => words_by_command(words, file),
         None => words,
     }
 }

@@ -4,7 +4,7 @@ use Rattle.std.proofs.Common.{arith, ap, sym, ◌∙◌}
 use Rattle.std.proofs.Math.Nat.{mul_comm, mul-add, mul-div-le, mul-le-mul_right}
 use Rattle.std.proofs.lemmas.Nat.{le-div}
 use Rattle.sd_num.specs.declared.Rates.{Rates}
-use Rattle.sd_topo.specs.Limits.{IsRates}
+use Rattle.sd_plan.specs.topo.Limits.{IsRates}
 use Rattle.sd_drill.specs.ages.Ages.{IsOldest, ageing}
 
 -- a million times x is ppm times x and what is left

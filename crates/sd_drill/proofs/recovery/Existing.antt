@@ -7,17 +7,17 @@ use Rattle.std.proofs.lemmas.Bool.{and_parts, and_from, or_cases, or_parts, eqb-
 use Rattle.std.proofs.lemmas.List.Folds.{list_any-append}
 use Rattle.std.proofs.lemmas.Map.Steps.{length-le_from_distinct_below}
 use Rattle.sd_num.specs.Lists.{has}
-use Rattle.sd_topo.specs.Network.{Network, bounds_of}
-use Rattle.sd_topo.specs.Limits.{IsNetwork}
-use Rattle.sd_domain.specs.Domains.{holds_device, holds_link}
-use Rattle.sd_domain.specs.declared.DomainId.{DomainId}
+use Rattle.sd_plan.specs.topo.Network.{Network, bounds_of}
+use Rattle.sd_plan.specs.topo.Limits.{IsNetwork}
+use Rattle.sd_plan.specs.domain.Domains.{holds_device, holds_link}
+use Rattle.sd_plan.specs.declared.domain.DomainId.{DomainId}
 use Rattle.sd_plan.specs.declared.Hop.{Hop}
 use Rattle.sd_plan.specs.declared.Plan.{Plan}
 use Rattle.sd_plan.specs.Plans.{Fits}
 use Rattle.sd_plan.specs.Walks.{devices_of, ends_walks, is_hit}
 use Rattle.sd_plan.proofs.Rules.{KeepsRules}
-use Rattle.sd_checker.specs.CheckLoop.Loops.{hops_of, same_hop, is_walk, HasNoCycle}
-use Rattle.sd_checker.specs.CheckReach.Reach.{Fed, is_sound}
+use Rattle.sd_checker.specs.check_loop.Loops.{hops_of, same_hop, is_walk, HasNoCycle}
+use Rattle.sd_checker.specs.check_reach.Reach.{Fed, is_sound}
 use Rattle.sd_drill.specs.recovery.Feeding.{IsFedOver}
 use Rattle.sd_drill.specs.recovery.Hops.{listed, hops_at, next_of, IsRightHop, BothAre}
 use Rattle.sd_drill.specs.recovery.Reaches.{ReachesOf, ReachesFrom, BeginsWith, farther}

@@ -2,14 +2,14 @@
 use Rattle.std.specs.Prelude.{◌≡◌, ℕ, Bool, true, false, not, Decides, Option, Some, None, if◌then◌else◌}
 use Rattle.std.proofs.Common.{refl, sym, ◌∙◌, subst, inl, inr}
 use Rattle.std.proofs.lemmas.Bool.{and_parts, or_cases, or_left, or_right, eqb-true, eq-eqb, both_ways, cond-false, not-true, not_from_false}
-use Rattle.sd_topo.specs.Network.{Network}
-use Rattle.sd_domain.specs.Domains.{holds_device}
-use Rattle.sd_domain.specs.declared.DomainId.{DomainId}
+use Rattle.sd_plan.specs.topo.Network.{Network}
+use Rattle.sd_plan.specs.domain.Domains.{holds_device}
+use Rattle.sd_plan.specs.declared.domain.DomainId.{DomainId}
 use Rattle.sd_plan.specs.declared.Hop.{Hop}
 use Rattle.sd_plan.specs.declared.Plan.{Plan}
 use Rattle.sd_plan.specs.Plans.{is_member, is_root, is_backup_root}
 use Rattle.sd_plan.specs.Walks.{ends_walks, is_hit}
-use Rattle.sd_checker.specs.CheckReach.Reach.{Fed, acts, stands_by, spared, turns, is_sound, acting_end, next_hop}
+use Rattle.sd_checker.specs.check_reach.Reach.{Fed, acts, stands_by, spared, turns, is_sound, acting_end, next_hop}
 use Rattle.sd_checker.proofs.Shared.{backup_root_ends}
 use Rattle.sd_drill.specs.recovery.Feeding.{IsFedOver}
 use Rattle.sd_drill.specs.recovery.Hops.{hops_at, next_of}

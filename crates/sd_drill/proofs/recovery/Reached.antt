@@ -4,15 +4,15 @@ use Rattle.std.specs.List.{list_any}
 use Rattle.std.proofs.Common.{arith, refl, sym, ap, ◌∙◌, subst, ◌⊎◌, inl, inr}
 use Rattle.std.proofs.lemmas.Bool.{and_parts, and_from, or_cases, or_left, or_right, cases_lt}
 use Rattle.std.proofs.lemmas.List.Folds.{list_any-append}
-use Rattle.sd_topo.specs.Network.{Network, bounds_of, link_of, delay_towards}
-use Rattle.sd_topo.specs.Limits.{IsNetwork, IsLink}
-use Rattle.sd_topo.specs.declared.Delay.{Delay}
-use Rattle.sd_topo.specs.declared.LinkEntry.{LinkEntry}
-use Rattle.sd_topo.proofs.Laws.{link_law}
-use Rattle.sd_domain.specs.declared.DomainId.{DomainId}
+use Rattle.sd_plan.specs.topo.Network.{Network, bounds_of, link_of, delay_towards}
+use Rattle.sd_plan.specs.topo.Limits.{IsNetwork, IsLink}
+use Rattle.sd_plan.specs.declared.topo.Delay.{Delay}
+use Rattle.sd_plan.specs.declared.topo.LinkEntry.{LinkEntry}
+use Rattle.sd_plan.proofs.topo.Laws.{link_law}
+use Rattle.sd_plan.specs.declared.domain.DomainId.{DomainId}
 use Rattle.sd_plan.specs.declared.Hop.{Hop}
 use Rattle.sd_plan.specs.declared.Plan.{Plan}
-use Rattle.sd_checker.specs.CheckLoop.Loops.{hops_of, same_hop, is_walk}
+use Rattle.sd_checker.specs.check_loop.Loops.{hops_of, same_hop, is_walk}
 use Rattle.sd_checker.proofs.Exclusive.{same_self}
 use Rattle.sd_drill.specs.recovery.Walks.{halves, IsWalk, IsGreatestOf}
 use Rattle.sd_drill.specs.recovery.Reaches.{IsReachOf, IsOverlong, ReachesOf, ReachesFrom, BeginsWith, farther}

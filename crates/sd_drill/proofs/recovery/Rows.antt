@@ -3,8 +3,8 @@ use Rattle.std.specs.Prelude.{◌≡◌, ℕ, ◌<◌, Bool, true, false, ◌&&�
 use Rattle.std.proofs.Common.{refl, ◌∙◌}
 use Rattle.std.proofs.lemmas.Bool.{or_parts, cond-true, cond-false}
 use Rattle.sd_num.specs.Lists.{map_or}
-use Rattle.sd_topo.specs.Network.{Network}
-use Rattle.sd_domain.specs.declared.DomainId.{DomainId}
+use Rattle.sd_plan.specs.topo.Network.{Network}
+use Rattle.sd_plan.specs.declared.domain.DomainId.{DomainId}
 use Rattle.sd_plan.specs.declared.Hop.{Hop}
 use Rattle.sd_plan.specs.declared.PlanRow.{PlanRow}
 use Rattle.sd_plan.specs.declared.Plan.{Plan}
@@ -12,7 +12,7 @@ use Rattle.sd_plan.specs.Plans.{Fits, IsHop, is_member, is_root, has_row, row_of
 use Rattle.sd_plan.specs.Tables.{EndsAt}
 use Rattle.sd_plan.specs.Walks.{ends_walks, is_hit}
 use Rattle.sd_plan.proofs.Rules.{KeepsRules, member_is, hops_within, both_end}
-use Rattle.sd_checker.specs.CheckLoop.Loops.{hops_of}
+use Rattle.sd_checker.specs.check_loop.Loops.{hops_of}
 use Rattle.sd_drill.specs.recovery.Hops.{listed, no_hops, hops_at, backup_under, IsRightHop, BothAre}
 
 -- without a row there is none

@@ -4,12 +4,12 @@ use Rattle.std.specs.Prelude.{IfSome, if◌then◌else◌}
 use Rattle.std.specs.Option.{option_or}
 use Rattle.std.proofs.lemmas.Bool.{cases_eq, cases_lt}
 use Rattle.std.proofs.lemmas.List.{get_or_append_left, get_or_push, length_push, get_or-take, length-take-le}
-use Rattle.sd_topo.specs.Network.{Network}
-use Rattle.sd_domain.specs.declared.DomainId.{DomainId}
+use Rattle.sd_plan.specs.topo.Network.{Network}
+use Rattle.sd_plan.specs.declared.domain.DomainId.{DomainId}
 use Rattle.sd_plan.specs.declared.Hop.{Hop}
 use Rattle.sd_plan.specs.declared.Plan.{Plan}
 use Rattle.sd_plan.proofs.Numbered.{both_none}
-use Rattle.sd_checker.specs.CheckLoop.Loops.{hops_of, HasNoCycle}
+use Rattle.sd_checker.specs.check_loop.Loops.{hops_of, HasNoCycle}
 use Rattle.sd_drill.specs.recovery.Recoveries.{IsRecovery}
 use Rattle.sd_drill.specs.recovery.Hops.{listed, BothAre}
 use Rattle.sd_drill.specs.recovery.Searches.{IsSearch, IsReadyFor, IsSettled, Leads, first_new, new_parent, is_new, mark_at}

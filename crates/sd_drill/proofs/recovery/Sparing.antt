@@ -3,17 +3,17 @@ use Rattle.std.specs.Prelude.{◌≡◌, ℕ, ◌<◌, Bool, true, false, ◌&&�
 use Rattle.std.specs.List.{list_any}
 use Rattle.std.proofs.Common.{arith, refl, sym, ap, ◌∙◌, subst, inl, inr, get_or, set as put, length-set, get_or-set_other, get_or-set_same}
 use Rattle.std.proofs.lemmas.Bool.{and_parts, and_from, or_parts, not-true, cases_eq}
-use Rattle.sd_topo.specs.Network.{Network}
-use Rattle.sd_domain.specs.Domains.{holds_device, holds_link, hits}
-use Rattle.sd_domain.specs.declared.DomainId.{DomainId}
+use Rattle.sd_plan.specs.topo.Network.{Network}
+use Rattle.sd_plan.specs.domain.Domains.{holds_device, holds_link, hits}
+use Rattle.sd_plan.specs.declared.domain.DomainId.{DomainId}
 use Rattle.sd_plan.specs.declared.Hop.{Hop}
 use Rattle.sd_plan.specs.declared.Plan.{Plan}
 use Rattle.sd_plan.specs.Plans.{is_member, primary_of, backup_of}
 use Rattle.sd_plan.specs.Walks.{walk, things_of, ends_walks, is_hit}
 use Rattle.sd_plan.proofs.CutOff.{cut_off, epath_is}
 use Rattle.sd_plan.proofs.Forest.{IsStep, IsForest}
-use Rattle.sd_checker.specs.CheckLoop.Loops.{hops_of, same_hop, is_walk}
-use Rattle.sd_checker.specs.CheckReach.Reach.{Fed, spared}
+use Rattle.sd_checker.specs.check_loop.Loops.{hops_of, same_hop, is_walk}
+use Rattle.sd_checker.specs.check_reach.Reach.{Fed, spared}
 use Rattle.sd_drill.specs.recovery.Walks.{halves, IsWalk, IsGreatestOfWalks}
 use Rattle.sd_drill.specs.Drill.{IsWorst, IsListed}
 use Rattle.sd_drill.specs.Spared.{is_spared, IsSparedBound, AreSparedBounds}

@@ -1,4 +1,4 @@
-use Rattle.sd_topo.specs.Topologies.{network}
+use Rattle.sd_plan.specs.topo.Topologies.{network}
 use Rattle.sd_drill.proofs.Circles.{no_circle}
 use Rattle.sd_drill.proofs.worst.Goals as goal
 

@@ -1,8 +1,8 @@
 -- The hops that a device may be on, by its row.
 use Rattle.std.specs.Prelude.{ℕ, ◌<◌, List, ◌++◌, length, option_to_list, Option, None, IfSome, if◌then◌else◌}
 use Rattle.std.specs.Option.{option_or}
-use Rattle.sd_topo.specs.Network.{Network}
-use Rattle.sd_domain.specs.declared.DomainId.{DomainId}
+use Rattle.sd_plan.specs.topo.Network.{Network}
+use Rattle.sd_plan.specs.declared.domain.DomainId.{DomainId}
 use Rattle.sd_plan.specs.declared.Hop.{Hop}
 use Rattle.sd_plan.specs.declared.Plan.{Plan}
 use Rattle.sd_plan.specs.Plans.{primary_of, backup_of}

@@ -1,11 +1,11 @@
 -- How far lists of hops from a device reach, or that one of them is longer than a walk may be.
 use Rattle.std.specs.Prelude.{ℕ, ◌+◌, ◌*◌, ◌^◌, ◌<◌, ◌≤◌, List, [], ◌∷◌, length, max, IsTrue, option_to_list, Option, Some, None}
 use Rattle.std.specs.List.{list_any}
-use Rattle.sd_topo.specs.Network.{Network}
-use Rattle.sd_domain.specs.declared.DomainId.{DomainId}
+use Rattle.sd_plan.specs.topo.Network.{Network}
+use Rattle.sd_plan.specs.declared.domain.DomainId.{DomainId}
 use Rattle.sd_plan.specs.declared.Hop.{Hop}
 use Rattle.sd_plan.specs.declared.Plan.{Plan}
-use Rattle.sd_checker.specs.CheckLoop.Loops.{same_hop}
+use Rattle.sd_checker.specs.check_loop.Loops.{same_hop}
 use Rattle.sd_drill.specs.recovery.Walks.{halves, IsGreatestOf, IsWalk}
 use Rattle.sd_drill.specs.declared.recovery.reach.Reach.{Reach}
 

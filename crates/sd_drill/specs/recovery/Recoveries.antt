@@ -1,9 +1,9 @@
 -- How a device recovers from a domain: whether it comes to hear the acting end, and what its walks reach.
 use Rattle.std.specs.Prelude.{ℕ, Decides}
-use Rattle.sd_topo.specs.Network.{Network}
-use Rattle.sd_domain.specs.declared.DomainId.{DomainId}
+use Rattle.sd_plan.specs.topo.Network.{Network}
+use Rattle.sd_plan.specs.declared.domain.DomainId.{DomainId}
 use Rattle.sd_plan.specs.declared.Plan.{Plan}
-use Rattle.sd_checker.specs.CheckReach.Reach.{Fed}
+use Rattle.sd_checker.specs.check_reach.Reach.{Fed}
 use Rattle.sd_drill.specs.recovery.Reaches.{ReachesFrom}
 use Rattle.sd_drill.specs.declared.recovery.Recovery.{Recovery}
 

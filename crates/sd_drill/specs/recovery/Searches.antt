@@ -1,8 +1,8 @@
 -- A search that settles devices, each after those to which its hops lead.
 use Rattle.std.specs.Prelude.{◌≡◌, ◌≢◌, ℕ, ◌+◌, ◌*◌, ◌<◌, Bool, true, false, List, [], ◌∷◌, length, slice_index_or, count_by, Option, Some, None, if◌then◌else◌}
 use Rattle.std.specs.Option.{option_or}
-use Rattle.sd_topo.specs.Network.{Network}
-use Rattle.sd_domain.specs.declared.DomainId.{DomainId}
+use Rattle.sd_plan.specs.topo.Network.{Network}
+use Rattle.sd_plan.specs.declared.domain.DomainId.{DomainId}
 use Rattle.sd_plan.specs.declared.Hop.{Hop}
 use Rattle.sd_plan.specs.declared.Plan.{Plan}
 use Rattle.sd_plan.specs.Walks.{end_of}

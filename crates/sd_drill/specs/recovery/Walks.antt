@@ -1,10 +1,10 @@
 -- What the walks of a device reach while things of a domain fail: the greatest sum of halves, and the greatest number of hops.
 use Rattle.std.specs.Prelude.{◌≡◌, ℕ, ◌+◌, ◌≤◌, List, [], ◌∷◌, IsTrue}
-use Rattle.sd_topo.specs.Network.{Network, bounds_of}
-use Rattle.sd_domain.specs.declared.DomainId.{DomainId}
+use Rattle.sd_plan.specs.topo.Network.{Network, bounds_of}
+use Rattle.sd_plan.specs.declared.domain.DomainId.{DomainId}
 use Rattle.sd_plan.specs.declared.Hop.{Hop}
 use Rattle.sd_plan.specs.declared.Plan.{Plan}
-use Rattle.sd_checker.specs.CheckLoop.Loops.{is_walk}
+use Rattle.sd_checker.specs.check_loop.Loops.{is_walk}
 
 -- the sum of the halves along hops from d: each in the direction towards the device that has the hop
 abbrev pub halves : Network → ℕ → List Hop → ℕ

@@ -1,8 +1,8 @@
 //! Which devices come to hear the acting end again.
 ghost use Rattle.std.specs.Prelude.{◌≡◌, ◌<◌, length, IfSome, Decides};
-ghost use Rattle.sd_checker.specs.CheckReach.Reach as feeding;
-ghost use Rattle.sd_checker.specs.CheckReach.Reach.{Fed};
-ghost use Rattle.sd_checker.specs.CheckHit.Outages.{net_of, plan_of};
+ghost use Rattle.sd_checker.specs.check_reach.Reach as feeding;
+ghost use Rattle.sd_checker.specs.check_reach.Reach.{Fed};
+ghost use Rattle.sd_checker.specs.check_hit.Outages.{net_of, plan_of};
 ghost use Rattle.sd_plan.specs.Plans as plans;
 ghost use Rattle.sd_drill.specs.recovery.Feeding.{IsFedOver};
 ghost use Rattle.sd_drill.specs.recovery.Hops as words;

@@ -1,6 +1,6 @@
 //! The hops that a device may be on while things of a domain fail.
 ghost use Rattle.std.specs.Prelude.{◌≡◌, ◌<◌, length};
-ghost use Rattle.sd_checker.specs.CheckHit.Outages.{net_of, plan_of};
+ghost use Rattle.sd_checker.specs.check_hit.Outages.{net_of, plan_of};
 ghost use Rattle.sd_plan.specs.Walks as walks;
 ghost use Rattle.sd_drill.specs.recovery.Hops as words;
 ghost use Rattle.sd_drill.specs.recovery.Hops.{BothAre, IsRightHop};

@@ -1,6 +1,6 @@
 //! What a search knows of devices.
 ghost use Rattle.std.specs.Prelude.{◌≡◌, ◌<◌, length, IfSome};
-ghost use Rattle.sd_checker.specs.CheckHit.Outages.{net_of, plan_of};
+ghost use Rattle.sd_checker.specs.check_hit.Outages.{net_of, plan_of};
 ghost use Rattle.sd_drill.specs.recovery.Recoveries.{IsRecovery};
 ghost use Rattle.sd_drill.specs.recovery.Searches as searches;
 ghost use Rattle.sd_drill.specs.recovery.Searches.{IsSettled, mark_at};

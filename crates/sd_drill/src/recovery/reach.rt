@@ -1,6 +1,6 @@
 //! What the walks of a device reach.
 ghost use Rattle.std.specs.Prelude.{◌≡◌, Some};
-ghost use Rattle.sd_checker.specs.CheckHit.Outages.{net_of, plan_of};
+ghost use Rattle.sd_checker.specs.check_hit.Outages.{net_of, plan_of};
 ghost use Rattle.sd_drill.specs.recovery.Hops.{IsRightHop};
 ghost use Rattle.sd_drill.specs.recovery.Reaches as reaches;
 ghost use Rattle.sd_drill.specs.recovery.Reaches.{BeginsWith, ReachesFrom, ReachesOf};

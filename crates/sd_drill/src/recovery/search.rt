@@ -6,7 +6,7 @@ use crate::recovery::marks::{Mark, first_new, settled_at};
 use crate::recovery::{Recovery, settle};
 use sd_checker::check_hit::Outage;
 use sd_num::NoMemory;
-use sd_topo::Topology;
+use sd_plan::topo::Topology;
 use std::alloc::Global;
 
 /// How devices recover, as far as it was asked, in room that serves one domain after another.
@@ -30,9 +30,9 @@ fn new_marks(alloc: Global, count: u32) -> Result<Vec<Mark>, NoMemory>
 
 impl Recoveries {
     ghost use Rattle.std.specs.Prelude.{◌≢◌, ℕ, ◌+◌, ◌<◌, [], OnOk};
-    ghost use Rattle.sd_checker.specs.CheckLoop.Loops.{HasNoCycle};
-    ghost use Rattle.sd_checker.specs.CheckHit.Outages.{net_of, plan_of};
-    ghost use Rattle.sd_topo.specs.Topologies.{network};
+    ghost use Rattle.sd_checker.specs.check_loop.Loops.{HasNoCycle};
+    ghost use Rattle.sd_checker.specs.check_hit.Outages.{net_of, plan_of};
+    ghost use Rattle.sd_plan.specs.topo.Topologies.{network};
     ghost use Rattle.sd_drill.specs.recovery.Recoveries.{IsRecovery};
     ghost use Rattle.sd_drill.specs.recovery.Searches as searches;
     ghost use Rattle.sd_drill.specs.recovery.Searches.{HasRoom, HasStepped, IsReadyFor, IsSearch, Leads, NoneNewer, mark_at, stacked_at};

@@ -1,6 +1,6 @@
 use Rattle.std.proofs.Common.{[]}
-use Rattle.sd_topo.specs.Limits.{IsNetwork}
-use Rattle.sd_fleet.specs.History.World.{Setting}
+use Rattle.sd_plan.specs.topo.Limits.{IsNetwork}
+use Rattle.sd_history.specs.World.{Setting}
 use Rattle.sd_gen.specs.Drafts.{draft_after}
 use Rattle.sd_gen.specs.Standing.{StandsFor}
 use Rattle.sd_gen.proofs.drive_schedule.Given as goal

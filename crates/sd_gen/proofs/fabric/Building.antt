@@ -25,10 +25,6 @@ items_more tree n new vs v before one is =
     ∙ ap items_of (sym (one_more tree n))
     ∙ ap (λ k. items_of (numbered tree k)) (sym (add-one n))
 
--- the one item of an array
-pub one_item : (new : List Value) (v : Value) (d : Data) → view v ≡ d → new ≡ [] ++ v ∷ [] → items_view new ≡ items_of (d ∷ [])
-one_item new v d same is = ap items_view is ∙ ap (λ e. items_of (e ∷ [])) same
-
 pub map_twice : {A B C : Type 0} (g : B → C) (f : A → B) (xs : List A) → map g (map f xs) ≡ map (λ x. g (f x)) xs
 map_twice g f [] = refl
 map_twice g f (x ∷ xs) = ap (λ ys. g (f x) ∷ ys) (map_twice g f xs)

@@ -9,8 +9,8 @@ use Rattle.std.proofs.lemmas.Nat.{mod_below}
 use Rattle.std.proofs.lemmas.List.{length-append}
 use Rattle.std.proofs.lemmas.List.Folds.{list_all-append}
 use Rattle.sd_num.specs.Decimals.{is_digit}
-use Rattle.sd_topo.specs.Network.{is_name, is_name_byte}
-use Rattle.sd_topo.proofs.Places.{same_bytes}
+use Rattle.sd_plan.specs.topo.Network.{is_name, is_name_byte}
+use Rattle.sd_plan.proofs.topo.Places.{same_bytes}
 use Rattle.sd_gen.specs.fabric.Fabrics.{spine_name, leaf_name, link_name}
 use Rattle.sd_gen.specs.fabric.Numbered.{numbered_device_name}
 
@@ -46,7 +46,7 @@ decimal_bytes n small = name_bytes (decimal n) (all_digits n small)
 is_name_by : (bs : List ℕ) → 1 ≤ length bs → length bs ≤ 64 → list_all is_name_byte bs ≡ true → is_name bs ≡ true
 is_name_by bs some few all = rw (le-leb 1 (length bs) some, le-leb (length bs) 64 few, all) refl
 
--- a few letters with a number behind them
+-- a few letters with a number after them
 lettered : (front : List ℕ) (n : ℕ) → n < 10 ^ 3 → 1 ≤ length front → length front ≤ 60 → list_all is_name_byte front ≡ true
     → is_name (front ++ decimal n) ≡ true
 lettered front n small some few all =
@@ -93,7 +93,7 @@ link_is_name i j small narrow =
 pub told_apart : (x y : List ℕ) → x ≢ y → bytes_eq x y ≡ false
 told_apart x y differ = false_from_ne_true (bytes_eq x y) (λ same. differ (same_bytes x y same))
 
--- what stands behind equal fronts is equal
+-- what stands after equal fronts is equal
 behind : (front xs ys : List ℕ) → front ++ xs ≡ front ++ ys → xs ≡ ys
 behind [] xs ys same = same
 behind (b ∷ front) xs ys same = behind front xs ys (tails same)

@@ -34,7 +34,7 @@ plus f m (suc n) =
     ∙ append_assoc (numbered f m) (numbered (λ k. f (m + k)) n) (f (m + n) ∷ [])
     ∙ ap (λ xs. numbered f m ++ xs) (sym (one_more (λ k. f (m + k)) n))
 
--- two lists, one behind the other
+-- two lists, one after the other
 pub numbered_append : {A : Type 0} (f g : ℕ → A) (m n : ℕ) → numbered f m ++ numbered g n ≡ numbered (λ k. if nat_lt k m then f k else g (k - m)) (m + n)
 numbered_append {A} f g m n =
     let h : ℕ → A = λ k. if nat_lt k m then f k else g (k - m) in
@@ -43,7 +43,7 @@ numbered_append {A} f g m n =
     (alike g (λ k. h (m + k)) n (λ k less. let back : m + k - m ≡ k = omega arith in rw (le-ltb (m + k) m (omega arith), back) refl))
     ∙ sym (plus h m n)
 
--- the rows of a grid, one behind the other
+-- the rows of a grid, one after the other
 pub grid : {A : Type 0} (h : ℕ → ℕ → A) (rows columns : ℕ)
     → flat_map (λ i. numbered (h i) columns) (below rows) ≡ numbered (λ l. h (l / columns) (l % columns)) (rows * columns)
 grid {A} h zero columns = let none : 0 * columns ≡ 0 = omega arith in let f : ℕ → A = λ l. h (l / columns) (l % columns) in sym (ap (numbered f) none)

@@ -18,7 +18,7 @@ use Rattle.sd_gen.specs.fabric.Trees.{tables, strings, device_tree, link_tree, r
 use Rattle.sd_gen.proofs.fabric.Building.{map_twice}
 use Rattle.sd_gen.proofs.fabric.Numbering.{numbered, numbered_append, grid}
 
--- Lines, and more behind them
+-- Lines, and more after them
 
 lines_after : (es fs : List Expression) (t u : List ℕ) → IsLinesText false true es t → IsLinesText false true fs u → IsLinesText false true (es ++ fs) (t ++ u)
 lines_after [] fs t u none more = subst (IsLinesText false true fs) (sym (ap (λ x. x ++ u) none)) more
@@ -51,7 +51,7 @@ section_more key (m ∷ xs) ys =
     ap (λ (r : List Expression). (([], key), array_table) ∷ (here ++ r)) (section_more key xs ys)
     ∙ ap (λ (r : List Expression). (([], key), array_table) ∷ r) (sym (append_assoc here (section_of key xs) (section_of key ys)))
 
--- a document of an array of tables alone comes behind the lines before it
+-- a document of an array of tables alone comes after the lines before it
 pub added : (key : List ℕ) (lines : List Expression) (all : List Members) (old gapped part new : List ℕ) (ms : Members)
     → ms ≡ put_word key (tables all) no_members → IsDocumentText false ms part
     → gapped ≡ old ++ 10 ∷ [] → new ≡ gapped ++ part → 0 < length all → HasLines lines old → HasLines (lines ++ section_of key all) new

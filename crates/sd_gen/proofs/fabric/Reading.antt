@@ -15,10 +15,10 @@ use Rattle.toml.specs.Text.{IsDocumentText}
 use Rattle.toml.proofs.ReadBack.{parse_document-printed}
 use Rattle.sd_num.specs.Lists.{below, has, ascending}
 use Rattle.sd_num.specs.declared.Rates.{Rates}
-use Rattle.sd_topo.specs.Network.{Network, Device, Link, Domain, is_name, number_in, name_at}
-use Rattle.sd_topo.specs.Limits.{AreDistinct, IsNetwork}
-use Rattle.sd_topo.proofs.Ascending.{Rises, ascending-itself}
-use Rattle.sd_topo.proofs.Places.{number_back}
+use Rattle.sd_plan.specs.topo.Network.{Network, Device, Link, Domain, is_name, number_in, name_at}
+use Rattle.sd_plan.specs.topo.Limits.{AreDistinct, IsNetwork}
+use Rattle.sd_plan.proofs.topo.Ascending.{Rises, ascending-itself}
+use Rattle.sd_plan.proofs.topo.Places.{number_back}
 use Rattle.sd_plan.proofs.Numbered.{length-numbered, at-numbered, get_or-numbered, length-below}
 use Rattle.sd_topotext.specs.declared.fault.TopoFault.{TopoFault}
 use Rattle.sd_topotext.specs.declared.fault.Place.{Place}

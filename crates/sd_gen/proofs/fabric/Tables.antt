@@ -4,11 +4,11 @@ use Rattle.std.specs.List.{list_any}
 use Rattle.std.specs.Str.{bytes_eq}
 use Rattle.std.proofs.Common.{ap, sym, ◌∙◌, String, Global, string_bytes}
 use Rattle.indexmap.specs.IndexMap.{IndexMap}
-use Rattle.sd_topo.specs.declared.LinkEntry.{LinkEntry}
-use Rattle.sd_topo.specs.declared.parts.Group.{Group}
-use Rattle.sd_topo.specs.declared.parts.Station.{Station}
-use Rattle.sd_topo.specs.Network.{Device, Domain, Link}
-use Rattle.sd_topo.specs.Seen.{devices_seen, domain_seen, domains_seen, links_seen, names_seen}
+use Rattle.sd_plan.specs.declared.topo.LinkEntry.{LinkEntry}
+use Rattle.sd_plan.specs.declared.topo.parts.Group.{Group}
+use Rattle.sd_plan.specs.declared.topo.parts.Station.{Station}
+use Rattle.sd_plan.specs.topo.Network.{Device, Domain, Link}
+use Rattle.sd_plan.specs.topo.Seen.{devices_seen, domain_seen, domains_seen, links_seen, names_seen}
 use Rattle.sd_topotext.proofs.Entries.{device_names_seen, link_names_seen}
 use Rattle.sd_plan.proofs.Numbered.{numbered_more}
 use Rattle.sd_gen.specs.fabric.Fabrics.{link_name, rack}

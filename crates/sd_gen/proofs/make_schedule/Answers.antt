@@ -1,6 +1,6 @@
 use Rattle.std.proofs.Common.{refl}
-use Rattle.sd_topo.specs.Topologies.{network}
-use Rattle.sd_fleet.specs.History.World.{Setting}
+use Rattle.sd_plan.specs.topo.Topologies.{network}
+use Rattle.sd_history.specs.World.{Setting}
 use Rattle.sd_gen.proofs.Making.{are_scheduled, are_history}
 use Rattle.sd_gen.proofs.make_schedule.Goals as goal
 

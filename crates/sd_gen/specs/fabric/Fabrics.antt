@@ -1,9 +1,9 @@
 -- The network of leaves and spines of `case`.
 use Rattle.std.specs.Prelude.{ℕ, ◌+◌, ◌*◌, List, ◌∷◌, ◌++◌, map, flat_map, codes, decimal, []}
 use Rattle.sd_num.specs.Lists.{below}
-use Rattle.sd_topo.specs.Network.{Network, Device, Link, Domain}
-use Rattle.sd_topo.specs.declared.Params.{Params}
-use Rattle.sd_topo.specs.declared.Side.TheVariants as side
+use Rattle.sd_plan.specs.topo.Network.{Network, Device, Link, Domain}
+use Rattle.sd_plan.specs.declared.topo.Params.{Params}
+use Rattle.sd_plan.specs.declared.topo.Side.TheVariants as side
 use Rattle.sd_plan.specs.declared.Absent.{Absent}
 
 -- the parameters of the network

@@ -1,6 +1,6 @@
 -- The devices and links of a fabric by their numbers.
 use Rattle.std.specs.Prelude.{ℕ, ◌-◌, ◌/◌, ◌%◌, List, nat_lt, if◌then◌else◌}
-use Rattle.sd_topo.specs.Network.{Device, Link}
+use Rattle.sd_plan.specs.topo.Network.{Device, Link}
 use Rattle.sd_gen.specs.fabric.Fabrics.{spine_name, leaf_name, device_named, link_between}
 
 -- the name of a device: the spines come first, then the leaves

@@ -38,7 +38,7 @@ fn push_number(name: &mut String, number: u32) -> Result<(), NoMemory>
     push_text(name, digits.format(number))
 }
 
-/// A word with a number behind it.
+/// A word with a number after it.
 fn numbered(alloc: Global, word: &str, number: u32) -> Result<String, NoMemory>
     ensures { IfOk result (λ name. string_bytes name ≡ word.now ++ decimal number) }
 {

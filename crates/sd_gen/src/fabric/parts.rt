@@ -1,14 +1,13 @@
 //! The parts of a fabric's topology: its tables, and lists of numbers.
 ghost use Rattle.std.specs.Prelude.{◌≡◌, ◌+◌, ◌<◌, ◌≤◌, ◌^◌, map, IfOk};
 ghost use Rattle.sd_num.specs.Lists.{below};
-ghost use Rattle.sd_topo.specs.Seen.{devices_seen, domains_seen, links_seen};
+ghost use Rattle.sd_plan.specs.topo.Seen.{devices_seen, domains_seen, links_seen};
 ghost use Rattle.sd_gen.specs.fabric.Fabrics as fabrics;
 
 use crate::fabric::arrays::{MAX, MIN};
 use crate::fabric::names::{device_name, link_name, rack_name};
-use indexmap::IndexMap;
 use sd_num::{NoMemory, Rates};
-use sd_topo::{Group, LinkEntry, Side, Station, add_named};
+use sd_plan::topo::{Group, LinkEntry, Names, Side, Station, TextSeed, add_named};
 use std::alloc::Global;
 
 /// What each device has beside its name.
@@ -21,18 +20,14 @@ const STATION: Station = Station {
 };
 
 /// All devices.
-pub(crate) fn devices(
-    alloc: Global,
-    leaves: u32,
-    spines: u32,
-) -> Result<IndexMap<String, Station>, NoMemory>
+pub(crate) fn devices(alloc: Global, leaves: u32, spines: u32) -> Result<Names<Station>, NoMemory>
     requires some { 1 ≤ spines }
     requires few_leaves { leaves ≤ 256 }
     requires few_spines { spines ≤ 32 }
     ensures { IfOk result
         (λ devices. devices_seen devices ≡ (fabrics.fabric leaves spines).devices) }
 {
-    let mut devices = IndexMap::new(alloc);
+    let mut devices = Names::with_hasher(alloc, TextSeed::of(&[]));
     'devices: for d in 0..spines + leaves {
         let name = device_name(alloc, spines, d)?;
         add_named(alloc, &mut devices, name.as_str(), STATION)?;
@@ -57,17 +52,13 @@ fn link_between(spines: u32, leaf: u32, spine: u32) -> LinkEntry
 }
 
 /// All links: those of the first leaf, then those of the second, and so on.
-pub(crate) fn links(
-    alloc: Global,
-    leaves: u32,
-    spines: u32,
-) -> Result<IndexMap<String, LinkEntry>, NoMemory>
+pub(crate) fn links(alloc: Global, leaves: u32, spines: u32) -> Result<Names<LinkEntry>, NoMemory>
     requires some { 1 ≤ spines }
     requires few_leaves { leaves ≤ 256 }
     requires few_spines { spines ≤ 32 }
     ensures { IfOk result (λ links. links_seen links ≡ (fabrics.fabric leaves spines).links) }
 {
-    let mut links = IndexMap::new(alloc);
+    let mut links = Names::with_hasher(alloc, TextSeed::of(&[]));
     'links: for number in 0..leaves * spines {
         let leaf = number / spines;
         let spine = number % spines;
@@ -78,7 +69,7 @@ pub(crate) fn links(
     Ok(links)
 }
 
-/// So many numbers, from the first on.
+/// This many numbers, from the first on.
 pub(crate) fn numbers_from(alloc: Global, first: u32, count: u32) -> Result<Vec<u32>, NoMemory>
     requires { first + count < 2 ^ 32 }
     ensures { IfOk result (λ numbers. numbers.items ≡ map (λ k. first + k) (below count)) }
@@ -105,18 +96,14 @@ fn rack(alloc: Global, spines: u32, leaf: u32) -> Result<Group, NoMemory>
 }
 
 /// The racks of all leaves.
-pub(crate) fn racks(
-    alloc: Global,
-    leaves: u32,
-    spines: u32,
-) -> Result<IndexMap<String, Group>, NoMemory>
+pub(crate) fn racks(alloc: Global, leaves: u32, spines: u32) -> Result<Names<Group>, NoMemory>
     requires some { 1 ≤ spines }
     requires few_leaves { leaves ≤ 256 }
     requires few_spines { spines ≤ 32 }
     ensures { IfOk result
         (λ racks. domains_seen racks ≡ (fabrics.fabric leaves spines).domains) }
 {
-    let mut racks = IndexMap::new(alloc);
+    let mut racks = Names::with_hasher(alloc, TextSeed::of(&[]));
     'racks: for leaf in 0..leaves {
         let name = rack_name(alloc, leaf)?;
         let group = rack(alloc, spines, leaf)?;

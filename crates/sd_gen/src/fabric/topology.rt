@@ -1,11 +1,11 @@
 //! The topology of leaves and spines, made of its parts.
 ghost use Rattle.std.specs.Prelude.{◌≡◌, ◌≤◌, IfOk};
-ghost use Rattle.sd_topo.specs.Topologies.{network};
+ghost use Rattle.sd_plan.specs.topo.Topologies.{network};
 ghost use Rattle.sd_gen.specs.fabric.Fabrics.{fabric};
 
 use crate::fabric::parts::{devices, links, numbers_from, racks};
 use sd_num::NoMemory;
-use sd_topo::{Params, Parts, Topology};
+use sd_plan::topo::{Params, Parts, Topology};
 use std::alloc::Global;
 
 /// The numbers at the top.

@@ -5,12 +5,12 @@ use Rattle.std.proofs.Common.{sym, ◌∙◌, ap, append_assoc}
 use Rattle.std.proofs.lemmas.Bool.{eqb-true, le-leb, ltb-false, or_parts, not-false}
 use Rattle.std.proofs.lemmas.List.{append-nil}
 use Rattle.std.proofs.lemmas.List.Elements.{filter-append}
-use Rattle.sd_sched.specs.Num.Lists.{map_or, same_number}
-use Rattle.sd_core.specs.Topo.declared.Thing.{Thing}
-use Rattle.sd_core.specs.Msg.declared.Flight.{Flight}
-use Rattle.sd_core.specs.Msg.declared.TakeFault.{TakeFault}
-use Rattle.sd_core.specs.Msg.declared.TakeFault.TheVariants as fault
-use Rattle.sd_core.specs.Msg.Books.{has_number, is_given, found, with_sent, is_current, AreNumbered}
+use Rattle.sd_num.specs.Lists.{map_or, same_number}
+use Rattle.sd_plan.specs.declared.topo.Thing.{Thing}
+use Rattle.sd_device.specs.declared.msg.Flight.{Flight}
+use Rattle.sd_device.specs.declared.msg.TakeFault.{TakeFault}
+use Rattle.sd_device.specs.declared.msg.TakeFault.TheVariants as fault
+use Rattle.sd_device.specs.msg.Books.{has_number, is_given, found, with_sent, is_current, AreNumbered}
 use Rattle.sd_sched.specs.declared.Event.{Event}
 use Rattle.sd_sched.specs.declared.Event.TheVariants as event
 use Rattle.sd_sched.specs.Events.{reference_of, device_of, message_of, received}

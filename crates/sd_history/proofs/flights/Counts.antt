@@ -5,15 +5,15 @@ use Rattle.std.proofs.Common.{arith, sym, ap, subst}
 use Rattle.std.proofs.Math.Nat.{mul-le-mul_left, mul-le-mul_right}
 use Rattle.std.proofs.lemmas.Bool.{leb-false}
 use Rattle.std.proofs.lemmas.List.{length-map}
-use Rattle.sd_sched.specs.Num.Lists.{map_or}
-use Rattle.sd_core.specs.Topo.Network.{Network, device_numbers, link_numbers}
-use Rattle.sd_core.specs.Plan.declared.Plan.{Plan}
-use Rattle.sd_core.specs.Plan.declared.End.{End}
-use Rattle.sd_core.specs.Plan.Duties.{ends_of, follows_over}
-use Rattle.sd_core.proofs.Plan.Numbered.{length-below}
-use Rattle.sd_core.specs.Msg.declared.Message.{Message}
-use Rattle.sd_core.specs.declared.Effect.{Effect}
-use Rattle.sd_core.specs.declared.Effect.TheVariants.{Quiet, Send}
+use Rattle.sd_num.specs.Lists.{map_or}
+use Rattle.sd_plan.specs.topo.Network.{Network, device_numbers, link_numbers}
+use Rattle.sd_plan.specs.declared.Plan.{Plan}
+use Rattle.sd_plan.specs.declared.End.{End}
+use Rattle.sd_plan.specs.Duties.{ends_of, follows_over}
+use Rattle.sd_plan.proofs.Numbered.{length-below}
+use Rattle.sd_device.specs.declared.msg.Message.{Message}
+use Rattle.sd_device.specs.declared.Effect.{Effect}
+use Rattle.sd_device.specs.declared.Effect.TheVariants.{Quiet, Send}
 use Rattle.sd_sched.specs.Events.{reference_of}
 use Rattle.sd_history.specs.World.{Setting, Seen}
 use Rattle.sd_history.specs.Steps.{Answers, Step, seen_of, changed, act_by, flight_count, flights_to, flights_by, ends_at}

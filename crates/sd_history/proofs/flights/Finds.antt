@@ -4,11 +4,11 @@ use Rattle.std.specs.List.{list_any}
 use Rattle.std.specs.Option.{option_or}
 use Rattle.std.proofs.Common.{arith, sym, subst, inl, inr}
 use Rattle.std.proofs.lemmas.Bool.{eq-eqb, eqb-true, ne_eqb, cases_eq, cases_Bool}
-use Rattle.sd_core.specs.Msg.declared.Flight.{Flight}
-use Rattle.sd_core.specs.Msg.Books.{has_number, AreNumbered}
-use Rattle.sd_sched.proofs.Num.Firsts.{find_passes}
-use Rattle.sd_core.proofs.Msg.Numbered.{numbered_filter}
-use Rattle.sd_core.proofs.Msg.Finding.{beyond}
+use Rattle.sd_device.specs.declared.msg.Flight.{Flight}
+use Rattle.sd_device.specs.msg.Books.{has_number, AreNumbered}
+use Rattle.sd_num.proofs.Firsts.{find_passes}
+use Rattle.sd_device.proofs.msg.Numbered.{numbered_filter}
+use Rattle.sd_device.proofs.msg.Finding.{beyond}
 use Rattle.sd_history.proofs.Among.{Among, first, later}
 use Rattle.sd_history.specs.flights.Flights.{AreNumberedOn}
 

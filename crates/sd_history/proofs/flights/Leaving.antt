@@ -4,15 +4,15 @@ use Rattle.std.specs.List.{list_any}
 use Rattle.std.proofs.Common.{arith, sym, ◌∙◌, ap, inl, inr}
 use Rattle.std.proofs.lemmas.Bool.{ne_eqb, lt-ltb, le-ltb, le-leb, lt-leb, cases_lt, or_parts, ltb-false, ltb-true}
 use Rattle.std.proofs.lemmas.List.Elements.{filter-append}
-use Rattle.sd_sched.specs.Num.Lists.{map_or, same_number}
-use Rattle.sd_core.specs.Topo.declared.Thing.{Thing}
-use Rattle.sd_core.specs.Topo.declared.Thing.TheVariants as thing
-use Rattle.sd_core.specs.Msg.declared.Flight.{Flight}
-use Rattle.sd_core.specs.Msg.Books.{has_number, is_current}
-use Rattle.sd_core.proofs.Msg.Finding.{beyond}
+use Rattle.sd_num.specs.Lists.{map_or, same_number}
+use Rattle.sd_plan.specs.declared.topo.Thing.{Thing}
+use Rattle.sd_plan.specs.declared.topo.Thing.TheVariants as thing
+use Rattle.sd_device.specs.declared.msg.Flight.{Flight}
+use Rattle.sd_device.specs.msg.Books.{has_number, is_current}
+use Rattle.sd_device.proofs.msg.Finding.{beyond}
 use Rattle.sd_sched.specs.declared.Event.{Event}
 use Rattle.sd_sched.specs.Events.{reference_of, message_of}
-use Rattle.sd_sched.proofs.Num.Shared.{equal_swap}
+use Rattle.sd_num.proofs.Shared.{equal_swap}
 use Rattle.sd_history.specs.Things.{failure_of}
 use Rattle.sd_history.specs.World.{Setting, is_thing, fails, latest_reference}
 use Rattle.sd_history.specs.Steps.{Step, seen_of, flight_count}

@@ -2,11 +2,11 @@
 use Rattle.std.specs.Prelude.{◌≡◌, ℕ, max, Bool, true, false, ◌||◌, not, List, find, nat_eq, nat_lt, ok_or, Option, Some, None, option_and_then, Result, Ok, Err, refl, if◌then◌else◌}
 use Rattle.std.proofs.Common.{arith, sym, ◌∙◌, ap, inl, inr}
 use Rattle.std.proofs.lemmas.Bool.{eq-eqb, ne_eqb, lt-ltb, le-ltb, le-leb, lt-leb, cases_eq, cases_lt}
-use Rattle.sd_sched.specs.Num.Lists.{map_or, same_number}
-use Rattle.sd_core.specs.Msg.declared.Flight.{Flight}
-use Rattle.sd_core.specs.Msg.declared.TakeFault.{TakeFault}
-use Rattle.sd_core.specs.Msg.declared.TakeFault.TheVariants as fault
-use Rattle.sd_core.specs.Msg.Books.{has_number, is_given, found}
+use Rattle.sd_num.specs.Lists.{map_or, same_number}
+use Rattle.sd_device.specs.declared.msg.Flight.{Flight}
+use Rattle.sd_device.specs.declared.msg.TakeFault.{TakeFault}
+use Rattle.sd_device.specs.declared.msg.TakeFault.TheVariants as fault
+use Rattle.sd_device.specs.msg.Books.{has_number, is_given, found}
 use Rattle.sd_sched.specs.declared.Event.{Event}
 use Rattle.sd_sched.specs.Events.{reference_of, device_of, message_of, received}
 use Rattle.sd_history.specs.World.{Setting, latest_reference}
@@ -135,7 +135,3 @@ pub wrong_is : (setting : Setting) (steps : List Step) (e : Event) (n : ℕ) (f 
 wrong_is setting steps e n f is names looks =
     ap (λ o. map_or o false (λ m. map_or (flight_numbered steps m) false (λ g. not (same_number (device_of e) g.receiver)))) names
     ∙ ap (λ o. map_or o false (λ g. not (same_number (device_of e) g.receiver))) (found_is setting steps n f is looks).0
-
--- and an event that receives nothing names none
-pub wrong_none : (steps : List Step) (e : Event) → received e ≡ None → wrong_device steps e ≡ false
-wrong_none steps e names = ap (λ o. map_or o false (λ m. map_or (flight_numbered steps m) false (λ g. not (same_number (device_of e) g.receiver)))) names

@@ -6,10 +6,10 @@ use Rattle.std.proofs.Common.{arith, sym, ◌∙◌, ap, subst, inl, inr}
 use Rattle.std.proofs.lemmas.Bool.{and_parts, and_cases, leb-true, leb-false, cases_lt, cases_Bool}
 use Rattle.std.proofs.lemmas.List.{reverse-append, reverse-reverse, length-append}
 use Rattle.std.proofs.lemmas.List.Folds.{find-append}
-use Rattle.sd_core.specs.Msg.declared.Flight.{Flight}
-use Rattle.sd_core.specs.Msg.Books.{has_number, is_given, AreNumbered}
-use Rattle.sd_core.proofs.Msg.Numbered.{numbered_filter}
-use Rattle.sd_core.proofs.Msg.Finding.{beyond}
+use Rattle.sd_device.specs.declared.msg.Flight.{Flight}
+use Rattle.sd_device.specs.msg.Books.{has_number, is_given, AreNumbered}
+use Rattle.sd_device.proofs.msg.Numbered.{numbered_filter}
+use Rattle.sd_device.proofs.msg.Finding.{beyond}
 use Rattle.sd_history.specs.World.{Setting}
 use Rattle.sd_history.specs.Steps.{Step, flights, flight_count, flight_numbered}
 use Rattle.sd_history.specs.Refusals.{is_spent}

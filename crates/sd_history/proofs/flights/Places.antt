@@ -4,19 +4,19 @@ use Rattle.std.specs.Prelude.{◌≡◌, ℕ, zero, suc, ◌-◌, ◌<◌, ◌�
 use Rattle.std.specs.List.{cons_option}
 use Rattle.std.proofs.Common.{arith, sym, ap, subst, inl, inr}
 use Rattle.std.proofs.lemmas.Bool.{or_cases}
-use Rattle.sd_sched.specs.Num.Lists.{map_or, below}
-use Rattle.sd_core.specs.Topo.Network.{Network, Each, device_numbers, link_numbers, link_of, joins}
-use Rattle.sd_core.specs.Topo.Places.{is_end_of}
-use Rattle.sd_core.proofs.Topo.Laws.{joined_end}
-use Rattle.sd_core.specs.Plan.declared.Plan.{Plan}
-use Rattle.sd_core.specs.Plan.declared.End.{End}
-use Rattle.sd_core.specs.Plan.Plans.{primary_of, backup_of}
-use Rattle.sd_core.specs.Plan.Structure.{structure_breach}
-use Rattle.sd_core.specs.Plan.Duties.{duty_of, ends_of, leads_to, follows_over}
-use Rattle.sd_core.specs.Calls.{Receive, Give}
-use Rattle.sd_core.proofs.Plan.Numbered.{found_passes}
-use Rattle.sd_core.proofs.Plan.Rules.{keeps_rules, both_led}
-use Rattle.sd_core.specs.Msg.declared.Flight.{Flight}
+use Rattle.sd_num.specs.Lists.{map_or, below}
+use Rattle.sd_plan.specs.topo.Network.{Network, Each, device_numbers, link_numbers, link_of, joins}
+use Rattle.sd_plan.specs.topo.Places.{is_end_of}
+use Rattle.sd_plan.proofs.topo.Laws.{joined_end}
+use Rattle.sd_plan.specs.declared.Plan.{Plan}
+use Rattle.sd_plan.specs.declared.End.{End}
+use Rattle.sd_plan.specs.Plans.{primary_of, backup_of}
+use Rattle.sd_plan.specs.Structure.{structure_breach}
+use Rattle.sd_plan.specs.Duties.{duty_of, ends_of, leads_to, follows_over}
+use Rattle.sd_device.specs.Calls.{Receive, Give}
+use Rattle.sd_plan.proofs.Numbered.{found_passes}
+use Rattle.sd_plan.proofs.Rules.{keeps_rules, both_led}
+use Rattle.sd_device.specs.declared.msg.Flight.{Flight}
 use Rattle.sd_sched.specs.declared.Event.{Event}
 use Rattle.sd_sched.specs.declared.Event.TheVariants as event
 use Rattle.sd_sched.specs.Events.{reference_of, device_of}
@@ -161,18 +161,6 @@ sent_of_network setting s earlier f is a =
 pub flights_of_network : (setting : Setting) (steps : List Step) (f : Flight) → AreSteps setting steps → Among f (flights steps) → IsOfNetwork setting.net f
 flights_of_network setting = each_flight setting (λ steps f. IsOfNetwork setting.net f) (sent_of_network setting) (λ s earlier f is rest. rest)
 
--- it was sent by the latest event, or before
-pub sent_by_latest : (setting : Setting) (steps : List Step) (f : Flight) → AreSteps setting steps → Among f (flights steps)
-    → f.sent_at ≤ latest_reference (seen_of steps)
-sent_by_latest setting =
-    each_flight setting (λ steps f. f.sent_at ≤ latest_reference (seen_of steps))
-    (λ s earlier f is a.
-    let at : f.sent_at ≡ reference_of s.seen.event = ap (λ (g : Flight). g.sent_at) (was_sent setting s earlier f is a).over.is in
-    omega (arith, at))
-    (λ s earlier f is rest.
-    let goes : latest_reference (seen_of earlier) ≤ reference_of s.seen.event = time_goes_on setting earlier s.seen.event is.1 in
-    omega (arith, rest, goes))
-
 -- Receivers
 
 -- no plan of the setting breaks a rule of structure
@@ -189,22 +177,3 @@ follower_joined setting n d l c right within follows = by (slice_get setting.pla
     by (Some plan) there follows' =
         let both = both_led setting.net plan d l c (keeps_rules setting.net plan (right (n - 1) plan there)) within in
         elim (or_cases (leads_to d l (primary_of plan c)) (leads_to d l (backup_of plan c)) follows') [ inl one ↦ both.0 one | inr two ↦ both.1 two ]
-
-sent_to_end : (setting : Setting) → AreStructured setting → (s : Step) (earlier : List Step) (f : Flight) → AreSteps setting (s ∷ earlier) → Among f s.sent
-    → is_end_of (link_of setting.net f.link) f.receiver ≡ true
-sent_to_end setting right s earlier f is a =
-    let sent : WasSent setting s earlier f = was_sent setting s earlier f is a in
-    let planned = ends_planned setting earlier sent.answers.epoch sent.device sent.over.end_ sent.over.among in
-    let below_ : IsBelow setting.net (plan_numbered setting planned.0) sent.device sent.over.end_ =
-    ends_below setting.net (plan_numbered setting planned.0) sent.device sent.over.end_ planned.1 in
-    let joined : joins setting.net sent.over.end_.link sent.over.end_.device sent.device ≡ true =
-    follower_joined setting planned.0 sent.device sent.over.end_.link sent.over.end_.device right below_.device below_.follows in
-    subst (λ (g : Flight). is_end_of (link_of setting.net g.link) g.receiver ≡ true) (sym sent.over.is)
-    (joined_end setting.net sent.over.end_.link sent.over.end_.device sent.device joined)
-
--- its receiver is an end of its link
-pub receiver_is_end : (setting : Setting) (steps : List Step) (f : Flight) → AreStructured setting → AreSteps setting steps → Among f (flights steps)
-    → is_end_of (link_of setting.net f.link) f.receiver ≡ true
-receiver_is_end setting steps f right is a =
-    each_flight setting (λ steps' g. is_end_of (link_of setting.net g.link) g.receiver ≡ true) (sent_to_end setting right)
-    (λ s earlier g is' rest. rest) steps f is a

@@ -2,13 +2,13 @@
 use Rattle.std.specs.Prelude.{◌≡◌, ℕ, ◌+◌, ◌*◌, ◌≤◌, List, [], ◌∷◌, length, Option, Some, None, refl}
 use Rattle.std.proofs.Common.{arith, sym, ap, subst}
 use Rattle.std.proofs.lemmas.List.Sums.{sum_by-cons}
-use Rattle.sd_sched.specs.Num.Lists.{map_or}
-use Rattle.sd_core.specs.Topo.Network.{delay_of}
-use Rattle.sd_core.specs.Plan.declared.End.{End}
-use Rattle.sd_core.specs.Msg.declared.Message.{Message}
-use Rattle.sd_core.specs.Msg.declared.Flight.{Flight}
-use Rattle.sd_core.specs.declared.Effect.{Effect}
-use Rattle.sd_core.specs.declared.Effect.TheVariants.{Quiet, Send}
+use Rattle.sd_num.specs.Lists.{map_or}
+use Rattle.sd_plan.specs.topo.Network.{delay_of}
+use Rattle.sd_plan.specs.declared.End.{End}
+use Rattle.sd_device.specs.declared.msg.Message.{Message}
+use Rattle.sd_device.specs.declared.msg.Flight.{Flight}
+use Rattle.sd_device.specs.declared.Effect.{Effect}
+use Rattle.sd_device.specs.declared.Effect.TheVariants.{Quiet, Send}
 use Rattle.sd_sched.specs.Events.{reference_of}
 use Rattle.sd_history.specs.World.{Setting}
 use Rattle.sd_history.specs.Steps.{changed, Answers, Step, flight_count, flight_to, flights_to, ends_at, flights_by, flights_of, act_by}

@@ -1,11 +1,11 @@
 -- The flights of accepted steps: in which order they were sent, which of them an event leaves, and what is found under a number.
 use Rattle.std.specs.Prelude.{◌≡◌, ℕ, ◌+◌, Bool, true, false, not, List, [], ◌∷◌, reverse, flat_map, filter, nat_lt, Option, Result, Ok, Err, if◌then◌else◌}
-use Rattle.sd_sched.specs.Num.Lists.{map_or}
-use Rattle.sd_core.specs.Topo.declared.Thing.{Thing}
-use Rattle.sd_core.specs.Msg.declared.Flight.{Flight}
-use Rattle.sd_core.specs.Msg.declared.TakeFault.{TakeFault}
-use Rattle.sd_core.specs.Msg.declared.TakeFault.TheVariants as fault
-use Rattle.sd_core.specs.Msg.Books.{without, is_swept, is_current}
+use Rattle.sd_num.specs.Lists.{map_or}
+use Rattle.sd_plan.specs.declared.topo.Thing.{Thing}
+use Rattle.sd_device.specs.declared.msg.Flight.{Flight}
+use Rattle.sd_device.specs.declared.msg.TakeFault.{TakeFault}
+use Rattle.sd_device.specs.declared.msg.TakeFault.TheVariants as fault
+use Rattle.sd_device.specs.msg.Books.{without, is_swept, is_current}
 use Rattle.sd_sched.specs.declared.Event.{Event}
 use Rattle.sd_sched.specs.Events.{reference_of, message_of}
 use Rattle.sd_history.specs.Things.{failure_of}

@@ -1,14 +1,14 @@
 //! Which device's primary hop goes over each link.
 ghost use Rattle.std.specs.Prelude.{◌≡◌, ◌<◌, ℕ, map, Some, None, replicate, IfSome, IfOk, length, slice_index_or, if◌then◌else◌};
-ghost use Rattle.sd_topo.specs.Network.{link_numbers};
-ghost use Rattle.sd_topo.specs.Topologies.{network};
+ghost use Rattle.sd_plan.specs.topo.Network.{link_numbers};
+ghost use Rattle.sd_plan.specs.topo.Topologies.{network};
 ghost use Rattle.sd_plan.specs.Plans.{Fits, primary_of};
 ghost use Rattle.sd_plan.specs.Structure.{structure_breach};
 ghost use Rattle.sd_plan.specs.IndexedPlan.{carried_over, goes_over};
 
+use crate::topo::Topology;
 use crate::{Plan, hops};
 use sd_num::NoMemory;
-use sd_topo::Topology;
 use std::alloc::Global;
 
 /// Nothing for each link.

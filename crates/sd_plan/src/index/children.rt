@@ -1,14 +1,14 @@
 //! Who follows each device as its primary parent.
 ghost use Rattle.std.specs.Prelude.{◌≡◌, ◌++◌, ◌<◌, ℕ, length, map, [], slice_index_or, OnOk, IfOk};
-ghost use Rattle.sd_topo.specs.Network.{device_numbers};
-ghost use Rattle.sd_topo.specs.Topologies.{network};
+ghost use Rattle.sd_plan.specs.topo.Network.{device_numbers};
+ghost use Rattle.sd_plan.specs.topo.Topologies.{network};
 ghost use Rattle.sd_plan.specs.Plans.{Fits};
 ghost use Rattle.sd_plan.specs.Subtrees as subtrees;
 
 use crate::hops::primary_of;
+use crate::topo::Topology;
 use crate::{DeviceList, Plan, empty_lists};
 use sd_num::NoMemory;
-use sd_topo::Topology;
 use std::alloc::Global;
 
 /// Adds a device to the children of its primary parent, if it has one.

@@ -25,7 +25,7 @@ fn no_spans(alloc: Global, count: usize) -> Result<Vec<Span>, NoMemory>
     }
 }
 
-/// Adds a device and all that lie below it, at most so many hops down: so deep goes the recursion.
+/// Adds a device and all that lie below it, at most this many hops down: the recursion is as deep.
 fn place(
     children: &[DeviceList],
     d: u32,
@@ -55,7 +55,7 @@ fn place(
     Ok(())
 }
 
-/// A device and all that lie below it, at most so many hops down.
+/// A device and all that lie below it, at most this many hops down.
 pub(super) fn preorder(
     alloc: Global,
     children: &[DeviceList],

@@ -1,8 +1,8 @@
 //! The usable links of each device, with their other ends.
 ghost use Rattle.std.specs.Prelude.{◌≡◌, ◌+◌, ◌++◌, ◌<◌, ℕ, length, map, [], None, replicate, true, not, slice_index_or, IsTrue, OnOk, IfOk};
 ghost use Rattle.sd_num.specs.Lists.{all_below, below, has};
-ghost use Rattle.sd_topo.specs.Network.{device_numbers};
-ghost use Rattle.sd_topo.specs.Topologies.{network};
+ghost use Rattle.sd_plan.specs.topo.Network.{device_numbers};
+ghost use Rattle.sd_plan.specs.topo.Topologies.{network};
 ghost use Rattle.sd_plan.specs.Plans.{Fits, is_present};
 ghost use Rattle.sd_plan.specs.Structure.{structure_breach};
 ghost use Rattle.sd_plan.specs.IndexedPlan as indexed;
@@ -11,9 +11,9 @@ ghost use Rattle.sd_plan.specs.Usable.{usable_before, usable_below};
 use crate::flags::present;
 use crate::table::duties::is_member;
 use crate::table::ends::EndList;
+use crate::topo::Topology;
 use crate::{End, Plan, empty_lists};
 use sd_num::NoMemory;
-use sd_topo::Topology;
 use std::alloc::Global;
 
 /// Adds one end of a link to the usable ends of the other, if it is a member.

@@ -1,7 +1,7 @@
 //! What each device is told.
 ghost use Rattle.std.specs.Prelude.{◌≡◌, ◌<◌, length, map, None, IfSome, IfOk, option_map};
-ghost use Rattle.sd_topo.specs.Network.{device_numbers};
-ghost use Rattle.sd_topo.specs.Topologies.{network};
+ghost use Rattle.sd_plan.specs.topo.Network.{device_numbers};
+ghost use Rattle.sd_plan.specs.topo.Topologies.{network};
 ghost use Rattle.sd_plan.specs.Plans as plans;
 ghost use Rattle.sd_plan.specs.Plans.{Fits};
 ghost use Rattle.sd_plan.specs.Duties as duties;
@@ -9,9 +9,9 @@ ghost use Rattle.sd_plan.specs.Structure.{structure_breach};
 ghost use Rattle.sd_plan.specs.Tables.{told_of, EndsAt};
 
 use crate::hops::{backup_of, primary_of};
+use crate::topo::Topology;
 use crate::{Duty, Edge, Hop, Plan, Role};
 use sd_num::NoMemory;
-use sd_topo::Topology;
 use std::alloc::Global;
 
 /// Whether the plan says something of a device.

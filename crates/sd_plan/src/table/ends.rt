@@ -1,16 +1,16 @@
 //! What lies below each device.
 ghost use Rattle.std.specs.Prelude.{◌≡◌, ℕ, ◌+◌, ◌++◌, ◌<◌, length, map, [], None, slice_index_or, OnOk, IfOk};
-ghost use Rattle.sd_topo.specs.Network.{device_numbers};
-ghost use Rattle.sd_topo.specs.Topologies.{network};
+ghost use Rattle.sd_plan.specs.topo.Network.{device_numbers};
+ghost use Rattle.sd_plan.specs.topo.Topologies.{network};
 ghost use Rattle.sd_plan.specs.Plans.{Fits};
 ghost use Rattle.sd_plan.specs.Duties as duties;
 ghost use Rattle.sd_plan.specs.Structure.{structure_breach};
 ghost use Rattle.sd_plan.specs.Tables.{ends_before, end_below};
 
 use crate::hops::{backup_of, primary_of};
+use crate::topo::Topology;
 use crate::{End, Hop, List, Plan, empty_lists};
 use sd_num::NoMemory;
-use sd_topo::Topology;
 use std::alloc::Global;
 
 /// The ends below one device.

@@ -1,13 +1,13 @@
 //! The listed domains of each device and of each link.
 ghost use Rattle.std.specs.Prelude.{◌≡◌, ◌<◌, ℕ, ◌&&◌, ◌||◌, true, length, nat_eq, IfOk, OnOk};
 ghost use Rattle.sd_num.specs.Lists.{has};
-ghost use Rattle.sd_topo.specs.Topologies.{network};
+ghost use Rattle.sd_plan.specs.topo.Topologies.{network};
 ghost use Rattle.sd_plan.specs.Subtrees.{listed};
 ghost use Rattle.sd_planner.specs.Listed.{AreListed};
 
 use sd_num::NoMemory;
+use sd_plan::topo::Topology;
 use sd_plan::{DeviceList, empty_lists};
-use sd_topo::Topology;
 use std::alloc::Global;
 use std::marker::Model;
 

@@ -8,7 +8,7 @@ ghost use Rattle.sd_planner.specs.Flags.{AreSet};
 use sd_num::NoMemory;
 use std::alloc::Global;
 
-/// So many flags, none of them set.
+/// This many flags, none of them set.
 pub(crate) fn no_flags(alloc: Global, count: usize) -> Result<Vec<bool>, NoMemory>
     ensures { IfOk result (λ made. made.items ≡ replicate count false) }
 {

@@ -1,8 +1,8 @@
 //! Flags on devices and links.
 ghost use Rattle.std.specs.Prelude.{◌≡◌, ◌<◌, ℕ, true, false, [], ◌∷◌, length, nat_eq, IfOk};
 ghost use Rattle.sd_num.specs.Lists.{has};
-ghost use Rattle.sd_topo.specs.Places.{domain_of};
-ghost use Rattle.sd_topo.specs.Topologies.{network};
+ghost use Rattle.sd_plan.specs.topo.Places.{domain_of};
+ghost use Rattle.sd_plan.specs.topo.Topologies.{network};
 ghost use Rattle.sd_planner.specs.Flags.{AreSet};
 ghost use Rattle.sd_planner.specs.Things as words;
 ghost use Rattle.sd_planner.specs.Things.{AreNone, AreSized, AddsAll};
@@ -10,7 +10,7 @@ ghost use Rattle.sd_planner.specs.Things.{AreNone, AreSized, AddsAll};
 use super::flags::{is_any_set, no_flags, set_flags};
 use sd_num::NoMemory;
 use sd_plan::Hop;
-use sd_topo::Topology;
+use sd_plan::topo::Topology;
 use std::alloc::Global;
 
 /// Flags on devices and links.

@@ -1,14 +1,14 @@
 //! The usable links of each device, with their other ends.
 ghost use Rattle.std.specs.Prelude.{◌≡◌, ◌+◌, ◌++◌, ◌<◌, ℕ, length, map, [], slice_index_or, OnOk, IfOk};
-ghost use Rattle.sd_topo.specs.Network.{device_numbers};
-ghost use Rattle.sd_topo.specs.Topologies.{network};
+ghost use Rattle.sd_plan.specs.topo.Network.{device_numbers};
+ghost use Rattle.sd_plan.specs.topo.Topologies.{network};
 ghost use Rattle.sd_planner.specs.Gathered.{neighbour_below, over_before, over_links};
 ghost use Rattle.sd_planner.specs.Flags.{is_set};
 
 use super::rows::{NeighbourRow, no_neighbours};
 use crate::present::Neighbour;
 use sd_num::NoMemory;
-use sd_topo::Topology;
+use sd_plan::topo::Topology;
 use std::alloc::Global;
 
 /// Adds the neighbour over a link from one end to the other.

@@ -1,13 +1,13 @@
 //! Which links may be used.
 ghost use Rattle.std.specs.Prelude.{◌≡◌, ◌<◌, ◌&&◌, map, false, length, slice_index_or, IfOk};
-ghost use Rattle.sd_topo.specs.Network.{device_numbers, link_numbers, link_of};
-ghost use Rattle.sd_topo.specs.Topologies.{network};
+ghost use Rattle.sd_plan.specs.topo.Network.{device_numbers, link_numbers, link_of};
+ghost use Rattle.sd_plan.specs.topo.Topologies.{network};
 ghost use Rattle.sd_planner.specs.Usable.{takes_part, is_usable};
 ghost use Rattle.sd_planner.specs.Absences.{IsAbsentOf};
 
 use sd_num::NoMemory;
+use sd_plan::topo::Topology;
 use sd_plan::{Absent, present};
-use sd_topo::Topology;
 use std::alloc::Global;
 
 /// Whether a link and both its ends are flagged.

@@ -4,11 +4,11 @@ ghost use Rattle.serde_json.specs.Data.{depth};
 ghost use Rattle.serde_json.specs.Read.{max_depth};
 ghost use Rattle.serde_json.specs.View.{view};
 ghost use Rattle.serde_json.specs.Written.{compact_text};
-ghost use Rattle.sd_topo.specs.Topologies.{network};
+ghost use Rattle.sd_plan.specs.topo.Topologies.{network};
 ghost use Rattle.sd_plantext.specs.Reading.{tree_of};
 ghost use Rattle.sd_plantext.specs.PrintedTree.{device_data, link_data, list_data, IsPlain};
 
-use sd_topo::Topology;
+use sd_plan::topo::Topology;
 use serde_json::Value;
 use std::alloc::{AllocError, Global};
 

@@ -2,8 +2,8 @@
 ghost use Rattle.std.specs.Prelude.{◌≡◌, ◌<◌, ℕ, length, All, OnOk, IfOk, IfErr, []};
 ghost use Rattle.serde_json.specs.View.{view, items_view};
 ghost use Rattle.sd_num.specs.Lists.{ascending};
-ghost use Rattle.sd_topo.specs.Network.{number_in};
-ghost use Rattle.sd_topo.specs.Topologies.{network};
+ghost use Rattle.sd_plan.specs.topo.Network.{number_in};
+ghost use Rattle.sd_plan.specs.topo.Topologies.{network};
 ghost use Rattle.sd_plantext.specs.Counted.{names_of};
 ghost use Rattle.sd_plantext.specs.Gives.{Gives, Fails};
 ghost use Rattle.sd_plantext.specs.Meaning.{referred, named, one_more_name, names_from, names_in};
@@ -12,7 +12,7 @@ use super::values::{array_at, text_of, value_at};
 use crate::fault::{PlanFault, PlanKey, PlanPlace};
 use indexmap::IndexSet;
 use sd_plan::DeviceList;
-use sd_topo::Topology;
+use sd_plan::topo::Topology;
 use serde_json::Value;
 use std::alloc::Global;
 

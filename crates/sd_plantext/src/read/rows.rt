@@ -1,8 +1,8 @@
 //! The rows of a text, each set at the place of its device.
 ghost use Rattle.std.specs.Prelude.{◌≡◌, ◌<◌, ◌+◌, Some, None, true, length, vec_len, slice_set, OnOk, IfOk, IfErr};
 ghost use Rattle.serde_json.specs.View.{view, items_view};
-ghost use Rattle.sd_topo.specs.Network.{device_names};
-ghost use Rattle.sd_topo.specs.Topologies.{network};
+ghost use Rattle.sd_plan.specs.topo.Network.{device_names};
+ghost use Rattle.sd_plan.specs.topo.Topologies.{network};
 ghost use Rattle.sd_plantext.specs.Counted.{filled};
 ghost use Rattle.sd_plantext.specs.Gives.{Gives, Fails};
 ghost use Rattle.sd_plantext.specs.Meaning.{named, hop_in, backup_in, row_in, is_free, device_in, one_more_row, rows_from, no_rows, rows_in};
@@ -10,8 +10,8 @@ ghost use Rattle.sd_plantext.specs.Meaning.{named, hop_in, backup_in, row_in, is
 use super::names::{Kind, named_at};
 use super::values::{array_at, member, object_of};
 use crate::fault::{PlanFault, PlanKey, PlanPlace};
+use sd_plan::topo::Topology;
 use sd_plan::{Hop, PlanRow, RowList};
-use sd_topo::Topology;
 use serde_json::Value;
 use std::alloc::Global;
 

@@ -3,12 +3,12 @@ use Rattle.std.specs.Prelude.{◌≡◌, ℕ, Bool, true, false, List, [], ◌�
 use Rattle.std.proofs.Common.{sym, ap, ◌∙◌, append_assoc}
 use Rattle.std.proofs.lemmas.List.{append-nil}
 use Rattle.std.proofs.lemmas.List.Concat.{flat_map-append}
-use Rattle.sd_topo.specs.Network.{Network}
+use Rattle.sd_plan.specs.topo.Network.{Network}
 use Rattle.sd_history.specs.declared.BrokenSet.{BrokenSet}
 use Rattle.sd_history.specs.Lines.{Line, Premise, Start, Drift, Delay, Tick, Loss, Domain, Renew, Broken, broken_lines}
 use Rattle.sd_replay.specs.lines.Findings.{line_bytes}
 
--- four parts, one behind the other
+-- four parts, one after the other
 pub four_parts : {X : Type 0} (f : X → List ℕ) (a b c d : List X) → flat_map f (a ++ b ++ c ++ d) ≡ flat_map f a ++ flat_map f b ++ flat_map f c ++ flat_map f d
 four_parts f a b c d =
     flat_map-append f (a ++ b ++ c) d
@@ -35,7 +35,7 @@ module _ (net : Network) (n : ℕ) (old : List ℕ) where
       ∙ ap (λ front. front ++ flat_map (line_bytes net n) (one_if b premise)) before
       ∙ ap (λ last. bytes ++ last) (of_one b premise)
 
-  -- premise by premise, behind what was printed
+  -- premise by premise, after what was printed
   pub premise_by_premise : (broken : BrokenSet)
       → old ++ bytes_if broken.start Start ++ bytes_if broken.drift Drift ++ bytes_if broken.delay Delay ++ bytes_if broken.tick Tick
       ++ bytes_if broken.loss Loss ++ bytes_if broken.domain Domain ++ bytes_if broken.renew Renew

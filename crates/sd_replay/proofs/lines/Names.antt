@@ -4,8 +4,8 @@ use Rattle.std.specs.List.{list_all}
 use Rattle.std.proofs.Common.{arith}
 use Rattle.std.proofs.lemmas.Bool.{and_parts, leb-true}
 use Rattle.sd_num.specs.Lists.{map_or}
-use Rattle.sd_topo.specs.Network.{Network, device_names, is_name, is_name_byte}
-use Rattle.sd_topo.specs.Limits.{IsNetwork}
+use Rattle.sd_plan.specs.topo.Network.{Network, device_names, is_name, is_name_byte}
+use Rattle.sd_plan.specs.topo.Limits.{IsNetwork}
 use Rattle.sd_history.specs.Text.{device_name}
 
 short : (name : List ℕ) → IsTrue (is_name name) → length name ≤ 64

@@ -3,7 +3,7 @@ use Rattle.std.specs.Prelude.{ℕ, List, [], ◌∷◌, ◌++◌, length, flat_m
 use Rattle.std.specs.List.{join_with_byte}
 use Rattle.std.proofs.Common.{sym, ap, ◌∙◌, inl, inr, append_assoc}
 use Rattle.std.proofs.lemmas.List.{append-nil}
-use Rattle.sd_topo.specs.Network.{Network}
+use Rattle.sd_plan.specs.topo.Network.{Network}
 use Rattle.sd_history.specs.Lines.{Line, lines_of}
 use Rattle.sd_history.specs.Text.{line_words}
 use Rattle.sd_replay.specs.lines.Findings.{line_bytes, AreWhole, PrintsWhole}
@@ -18,6 +18,3 @@ all_whole net n (line ∷ others) = elim (all_whole net n others) [
         ∙ sym (append_assoc (line_bytes net n line) some.0 (10 ∷ [])),
   )
 ]
-
-pub prints_whole : PrintsWhole
-prints_whole setting steps = all_whole setting.net (length steps) (lines_of setting steps)

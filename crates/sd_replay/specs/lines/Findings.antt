@@ -2,9 +2,9 @@
 use Rattle.std.specs.Prelude.{◌≡◌, ◌⊎◌, ℕ, ◌<◌, Bool, false, not, ◌||◌, ◌&&◌, is_some, List, [], ◌∷◌, ◌++◌, length, flat_map, Option, IfSome}
 use Rattle.sd_num.specs.Lists.{map_or}
 use Rattle.sd_num.specs.Texts.{text_of}
-use Rattle.sd_topo.specs.Network.{Network}
-use Rattle.sd_clock.specs.declared.Report.{Report}
-use Rattle.sd_clock.specs.Estimates.{contains}
+use Rattle.sd_plan.specs.topo.Network.{Network}
+use Rattle.sd_num.specs.declared.clock.Report.{Report}
+use Rattle.sd_num.specs.clock.Estimates.{contains}
 use Rattle.sd_history.specs.declared.BrokenSet.{BrokenSet}
 use Rattle.sd_history.specs.Lines.{Line, LoopAlarm, RootsAlarm, broken_lines, report_lines}
 use Rattle.sd_history.specs.World.{Setting}

@@ -2,9 +2,9 @@
 ghost use Rattle.std.specs.Prelude.{◌≡◌};
 ghost use Rattle.sd_replay.specs.lines.Findings.{breaks_some, finds_none, are_none, misses_in};
 
-use sd_clock::Report;
+use crate::watch::outside;
 use sd_history::BrokenSet;
-use sd_watch::outside;
+use sd_num::clock::Report;
 
 /// What is to be printed of one event, and nothing else.
 #[derive(Clone, Copy, Debug, PartialEq, Eq)]

@@ -3,16 +3,16 @@ ghost use Rattle.std.specs.Prelude.{◌≡◌, ◌<◌, ◌≤◌, ◌+◌, ◌+
 ghost use Rattle.sd_num.specs.Texts.{text_of};
 ghost use Rattle.sd_num.specs.Lists.{map_or};
 ghost use Rattle.sd_replay.specs.lines.Printed.{printed};
-ghost use Rattle.sd_topo.specs.Topologies.{network};
+ghost use Rattle.sd_plan.specs.topo.Topologies.{network};
 ghost use Rattle.sd_history.specs.Lines.{broken_lines, report_lines};
 ghost use Rattle.sd_history.specs.Text.{device_name};
 ghost use Rattle.sd_replay.specs.lines.Findings.{IsOf, line_bytes, found_bytes, loop_found, roots_found};
 
 use crate::lines::{EventLines, Findings};
-use sd_clock::Report;
+use crate::watch::outside;
 use sd_history::BrokenSet;
-use sd_topo::Topology;
-use sd_watch::outside;
+use sd_num::clock::Report;
+use sd_plan::topo::Topology;
 
 /// Adds the name of a device, of at most 64 bytes.
 fn push_name(out: &mut EventLines, topo: &Topology, d: u32)

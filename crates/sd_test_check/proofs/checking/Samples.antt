@@ -2,11 +2,11 @@
 use Rattle.std.proofs.Common.{◌≡◌, None, ℕ, ◌<◌, [], ◌∷◌, Some, refl, sym, subst, arith, length}
 use Rattle.std.proofs.lemmas.List.Elements.{All-nil, All-cons}
 use Rattle.sd_plan.proofs.Fitting.{is_row_of_two}
-use Rattle.sd_test_examples.specs.Topo.Network.{Network}
-use Rattle.sd_test_examples.proofs.Topo.Lists.{each_of}
-use Rattle.sd_test_examples.specs.Plan.Examples.{IsSquare, square_plan, hop, row}
-use Rattle.sd_test_examples.specs.Plan.Plans.{Fits, IsHop, IsRow}
-use Rattle.sd_test_examples.specs.Plan.Structure.{structure_breach}
+use Rattle.sd_plan.specs.topo.Network.{Network}
+use Rattle.sd_plan.proofs.topo.Lists.{each_of}
+use Rattle.sd_plan.specs.Examples.{IsSquare, square_plan, hop, row}
+use Rattle.sd_plan.specs.Plans.{Fits, IsHop, IsRow}
+use Rattle.sd_plan.specs.Structure.{structure_breach}
 
 pub square_fits : (net : Network) → IsSquare net → Fits net square_plan
 square_fits net square =

@@ -1,6 +1,6 @@
 //! The checker beside a plain slow program, on networks and plans made by counting and by hand.
-ghost use Rattle.sd_test_examples.specs.Plan.Plans.{Fits};
-ghost use Rattle.sd_test_examples.specs.Topo.Topologies.{network};
+ghost use Rattle.sd_plan.specs.Plans.{Fits};
+ghost use Rattle.sd_plan.specs.topo.Topologies.{network};
 
 mod cycles;
 mod single;
@@ -10,9 +10,9 @@ use crate::plain::{
     Change, Plain, Said, Setup, Shape, counted_case, plan_of, said_by, topology_of,
 };
 use sd_checker::{Verdict, accepted_line, check, refused_line};
-use sd_test_examples::num::NoMemory;
-use sd_test_examples::plan::Plan;
-use sd_test_examples::topo::Topology;
+use sd_num::NoMemory;
+use sd_plan::Plan;
+use sd_plan::topo::Topology;
 use std::alloc::{AllocError, Global};
 use std::process::Abort;
 use std::test::Fail;

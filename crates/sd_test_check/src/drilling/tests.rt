@@ -1,8 +1,8 @@
 //! The drill beside a plain slow program, under each domain of the accepted plans among some that are
 //! made by counting.
-ghost use Rattle.sd_drill.specs.Checker.Verdicts.{IsAccepted};
-ghost use Rattle.sd_test_examples.specs.Plan.Plans.{Fits};
-ghost use Rattle.sd_test_examples.specs.Topo.Topologies.{network};
+ghost use Rattle.sd_checker.specs.Verdicts.{IsAccepted};
+ghost use Rattle.sd_plan.specs.Plans.{Fits};
+ghost use Rattle.sd_plan.specs.topo.Topologies.{network};
 
 mod ages;
 mod slow;
@@ -10,9 +10,9 @@ mod slow;
 use crate::plain::{Domain, Plain, Setup, counted_case, has_domain, plan_of, topology_of};
 use sd_checker::{Verdict, check};
 use sd_drill::{Budget, WorstList, worst};
-use sd_test_examples::num::NoMemory;
-use sd_test_examples::plan::Plan;
-use sd_test_examples::topo::Topology;
+use sd_num::NoMemory;
+use sd_plan::Plan;
+use sd_plan::topo::Topology;
 use slow::bounds_of;
 use std::process::Abort;
 use std::test::Fail;

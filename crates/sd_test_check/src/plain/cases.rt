@@ -1,13 +1,13 @@
 //! The topology and the plan of a case, each read from its text.
 ghost use Rattle.std.specs.Prelude.{IfOk};
 ghost use Rattle.sd_plan.specs.Plans.{Fits};
-ghost use Rattle.sd_topo.specs.Topologies.{network};
+ghost use Rattle.sd_plan.specs.topo.Topologies.{network};
 
 use super::setups::Setup;
 use super::texts::{plan_text_of, topology_text_of};
 use sd_plan::Plan;
+use sd_plan::topo::Topology;
 use sd_plantext::{PlanFault, read_plan};
-use sd_topo::Topology;
 use sd_topotext::{TopoFault, read_topology};
 use std::alloc::{AllocError, Global};
 

@@ -1,7 +1,7 @@
 //! Smallest sets of devices that a rule closes, found by trying all devices again and again.
 use super::lists::{Domain, Plain};
 use sd_plan::Hop;
-use sd_topo::Thing;
+use sd_plan::topo::Thing;
 use std::alloc::{AllocError, Global};
 
 /// When a device joins a set.

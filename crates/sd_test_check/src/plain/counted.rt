@@ -2,7 +2,7 @@
 use super::setups::{Change, Setup};
 use super::shapes::{Shape, shape_of};
 use sd_plan::PlanRow;
-use sd_topo::Thing;
+use sd_plan::topo::Thing;
 use std::alloc::{AllocError, Global};
 
 /// The digits of a number, each in a base of its own.

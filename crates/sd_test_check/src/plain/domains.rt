@@ -3,7 +3,7 @@ use super::closing::Rule;
 use super::lists::{Domain, Plain};
 use super::walks::Until;
 use sd_plan::Hop;
-use sd_topo::Thing;
+use sd_plan::topo::Thing;
 use std::alloc::{AllocError, Global};
 
 /// The devices of a trail from the first place of one on.

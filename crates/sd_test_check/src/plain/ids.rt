@@ -1,10 +1,10 @@
 //! Domains by their numbers.
 ghost use Rattle.std.specs.Prelude.{IsTrue};
-ghost use Rattle.sd_domain.specs.Lone.{IsDomain};
-ghost use Rattle.sd_topo.specs.Topologies.{network};
+ghost use Rattle.sd_plan.specs.domain.Lone.{IsDomain};
+ghost use Rattle.sd_plan.specs.topo.Topologies.{network};
 
-use sd_domain::DomainId;
-use sd_topo::Topology;
+use sd_plan::domain::DomainId;
+use sd_plan::topo::Topology;
 
 /// Whether a topology has a domain.
 pub fn has_domain(topo: &Topology, domain: DomainId) -> bool

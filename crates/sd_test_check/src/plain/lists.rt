@@ -1,8 +1,8 @@
 //! A topology and a plan read back as plain lists, with the questions that all conditions ask.
-use sd_domain::DomainId;
 use sd_num::Rates;
+use sd_plan::domain::DomainId;
+use sd_plan::topo::{LinkEntry, Params, Thing, Topology};
 use sd_plan::{Hop, Plan, PlanRow};
-use sd_topo::{LinkEntry, Params, Thing, Topology};
 use std::alloc::{AllocError, Global};
 
 /// A domain with all that it has: devices ascending, then links ascending.

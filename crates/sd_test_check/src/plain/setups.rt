@@ -1,7 +1,7 @@
 //! A network and a plan before they are written as texts, and what may be changed in them.
 use super::shapes::Shape;
+use sd_plan::topo::Thing;
 use sd_plan::{Hop, PlanRow};
-use sd_topo::Thing;
 use std::alloc::{AllocError, Global};
 
 /// What the texts of a topology and a plan say.

@@ -2,7 +2,7 @@
 use super::lists::Plain;
 use super::walks::Until;
 use sd_plan::Hop;
-use sd_topo::Thing;
+use sd_plan::topo::Thing;
 
 impl Plain<'_> {
     /// The root or the backup root, where rule 1 is broken.

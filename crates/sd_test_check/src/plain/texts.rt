@@ -1,7 +1,7 @@
 //! The texts of a network and a plan. Device 0 is named `d0`, link 0 `l0`, the first domain `f0`.
 use super::setups::Setup;
 use sd_plan::PlanRow;
-use sd_topo::Thing;
+use sd_plan::topo::Thing;
 use std::alloc::{AllocError, Global};
 
 /// The name of a thing, where it is a device or where it is a link.
@@ -71,7 +71,7 @@ pub(crate) fn topology_text_of(alloc: Global, setup: &Setup) -> Result<String, A
     Ok(text)
 }
 
-/// One row, behind a comma unless it is the first.
+/// One row, after a comma unless it is the first.
 fn add_row(text: &mut String, d: u32, row: PlanRow, is_first: bool) -> Result<(), AllocError> {
     let comma = if is_first { "" } else { "," };
     let (parent, link) = (row.primary.parent, row.primary.link);

@@ -1,6 +1,6 @@
 //! The five rules of timing. No case comes near the greatest `u128`, where sums would stop.
 use super::lists::Plain;
-use sd_check_root::TimingBreach;
+use sd_checker::check_root::TimingBreach;
 use sd_num::Rates;
 
 /// By how much an oscillator may be off after a time: its grain and its parts per million of it.
@@ -45,7 +45,7 @@ impl Plain<'_> {
         u128::from(longest)
     }
 
-    /// So many times the greatest delay of a link for each hop of the longest walk and one more.
+    /// This many times the greatest delay of a link for each hop of the longest walk and one more.
     fn trips(&self, count: u128) -> u128 {
         let hops = u128::from(self.params.depth).saturating_add(1);
         count.saturating_mul(hops).saturating_mul(self.delay())

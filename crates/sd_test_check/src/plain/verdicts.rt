@@ -1,9 +1,9 @@
 //! The verdict of the slow program, and the checker's in the same form.
 use super::lists::{Domain, Plain};
-use sd_check_root::TimingBreach;
+use sd_checker::check_root::TimingBreach;
 use sd_checker::{Breach, Verdict};
-use sd_domain::DomainId;
-use sd_topo::Thing;
+use sd_plan::domain::DomainId;
+use sd_plan::topo::Thing;
 use std::alloc::{AllocError, Global};
 
 /// What is said of a plan.

@@ -1,6 +1,6 @@
 //! Walks, followed hop by hop each time that something is asked of them.
 use super::lists::{Domain, Plain};
-use sd_topo::Thing;
+use sd_plan::topo::Thing;
 
 /// How far a walk is looked at.
 #[derive(Clone, Copy)]

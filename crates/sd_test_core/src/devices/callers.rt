@@ -1,13 +1,13 @@
 //! Callers of a node: of any kind, and of a device.
 
 ghost use Rattle.std.specs.Prelude.{◌≡◌, ◌≤◌, ◌^◌, true};
-ghost use Rattle.sd_core.specs.Limits.{IsDuty};
-ghost use Rattle.sd_core.specs.Calls.{Started, Tick};
-ghost use Rattle.sd_core.specs.Words.{is_acting};
-ghost use Rattle.sd_core.specs.Lives.{past_of, longer};
-ghost use Rattle.sd_core.specs.Standing.{alone};
+ghost use Rattle.sd_device.specs.Limits.{IsDuty};
+ghost use Rattle.sd_device.specs.Calls.{Started, Tick};
+ghost use Rattle.sd_device.specs.Words.{is_acting};
+ghost use Rattle.sd_device.specs.Lives.{past_of, longer};
+ghost use Rattle.sd_device.specs.Standing.{alone};
 
-use sd_core::{Device, Node};
+use sd_device::{Device, Node};
 use sd_plan::Duty;
 
 /// The parent of a node that acts: it has none.

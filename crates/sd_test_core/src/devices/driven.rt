@@ -1,20 +1,20 @@
 //! A node that is given only calls that it may be given.
 
 ghost use Rattle.std.specs.Prelude.{◌≡◌, ◌≤◌, ◌<◌, ◌+◌, ◌*◌, ◌^◌, true, IfSome, is_some, option_map, Some};
-ghost use Rattle.sd_plan.specs.Topo.Limits.{IsRates};
+ghost use Rattle.sd_plan.specs.topo.Limits.{IsRates};
 ghost use Rattle.sd_plan.specs.declared.Role.TheVariants as role;
-ghost use Rattle.sd_core.specs.Limits.{IsDuty, IsEdge};
+ghost use Rattle.sd_device.specs.Limits.{IsDuty, IsEdge};
 
 use super::plain::{Call, Making};
-use sd_clock::Report;
-use sd_core::{Effect, Node};
-use sd_msg::Message;
+use sd_device::msg::Message;
+use sd_device::{Effect, Node};
 use sd_num::Rates;
+use sd_num::clock::Report;
 use sd_plan::{Duty, Edge, Role};
 
 const LIMIT: u64 = 1 << 60;
 
-/// At most so many calls are made of one node.
+/// At most this many calls are made of one node.
 const MOST: u64 = 1 << 20;
 
 #[derive(Drop)]

@@ -1,10 +1,10 @@
 //! A device as a plain program: it keeps the whole list of its calls, and looks up all that it
 //! needs anew at each of them.
 
-use sd_clock::Report;
-use sd_core::Effect;
-use sd_msg::{Message, Stamp};
+use sd_device::Effect;
+use sd_device::msg::{Message, Stamp};
 use sd_num::Rates;
+use sd_num::clock::Report;
 use sd_plan::{Duty, Edge, Role};
 use std::alloc::{AllocError, Global};
 

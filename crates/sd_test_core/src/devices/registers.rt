@@ -1,11 +1,11 @@
 //! A device that is taken apart and put together again, beside values worked out by hand.
 ghost use Rattle.std.specs.Prelude.{◌≡◌, ◌≤◌, ◌<◌, ◌+◌, ◌^◌, max};
-ghost use Rattle.sd_core.specs.Rules.{floor_in, ceiling_in, height_in};
+ghost use Rattle.sd_device.specs.Rules.{floor_in, ceiling_in, height_in};
 
 use crate::same::assert_same;
-use sd_clock::{Estimate, Report};
-use sd_core::{Device, Effect, Mode, Node, Registers};
-use sd_msg::{Message, Stamp};
+use sd_device::msg::{Message, Stamp};
+use sd_device::{Device, Effect, Mode, Node, Registers};
+use sd_num::clock::{Estimate, Report};
 use sd_num::{Bounds, Rates};
 use sd_plan::{Duty, Edge, Role};
 use std::process::Abort;

@@ -1,9 +1,9 @@
 //! A node that does nothing, and always reports the same.
 
-use sd_clock::Report;
-use sd_core::{Effect, Node};
-use sd_msg::Message;
+use sd_device::msg::Message;
+use sd_device::{Effect, Node};
 use sd_num::Rates;
+use sd_num::clock::Report;
 use sd_plan::Duty;
 
 #[derive(Drop)]
@@ -13,7 +13,7 @@ pub(super) struct Still {
 
 impl Node for Still {
     ghost use Rattle.std.specs.Prelude.{◌≡◌, None, true, false, refl};
-    ghost use Rattle.sd_core.specs.declared.Effect.TheVariants.{Quiet};
+    ghost use Rattle.sd_device.specs.declared.Effect.TheVariants.{Quiet};
 
     ghost makes = { λ making s. s.given ≡ None };
 

@@ -6,9 +6,9 @@ use super::calls::{Answer, Call, DEVICES, LINKS, Tried, flight};
 use super::flagged::AllFlights;
 use super::numbers::Numbers;
 use crate::same::assert_same;
-use sd_msg::{Flight, FlightBook, TakeFault};
+use sd_device::msg::{Flight, FlightBook, TakeFault};
 use sd_num::NoMemory;
-use sd_topo::Thing;
+use sd_plan::topo::Thing;
 use std::alloc::Global;
 use std::process::Abort;
 

@@ -2,9 +2,9 @@
 
 ghost use Rattle.std.specs.Prelude.{◌≡◌};
 
-use sd_msg::{Flight, FlightBook, Message, Stamp, TakeFault};
+use sd_device::msg::{Flight, FlightBook, Message, Stamp, TakeFault};
 use sd_num::NoMemory;
-use sd_topo::Thing;
+use sd_plan::topo::Thing;
 use std::alloc::Global;
 
 #[derive(Clone, Copy, Debug, PartialEq, Eq)]

@@ -1,8 +1,8 @@
 //! A plain book that keeps all flights, each with a flag.
 
 use super::calls::{Answer, Call, found, lost};
-use sd_msg::{Flight, TakeFault};
-use sd_topo::Thing;
+use sd_device::msg::{Flight, TakeFault};
+use sd_plan::topo::Thing;
 use std::alloc::Global;
 
 #[derive(Clone, Copy, Debug)]

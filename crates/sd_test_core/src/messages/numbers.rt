@@ -2,7 +2,7 @@
 
 use super::calls::{Call, flight};
 use super::flagged::AllFlights;
-use sd_topo::Thing;
+use sd_plan::topo::Thing;
 
 /// A linear congruential number.
 #[derive(Drop)]

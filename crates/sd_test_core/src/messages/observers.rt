@@ -1,9 +1,9 @@
 //! Observers, through their trait.
 
 use crate::same::assert_same;
-use sd_clock::Report;
-use sd_msg::{KeptReports, NoObserver, Observer, SeenReport};
+use sd_device::msg::{KeptReports, NoObserver, Observer, SeenReport};
 use sd_num::NoMemory;
+use sd_num::clock::Report;
 use std::alloc::Global;
 
 const REPORT: Report = Report { clock: 90, eps: 8 };

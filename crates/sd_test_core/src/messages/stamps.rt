@@ -1,5 +1,5 @@
 //! Which of two stamps is newer.
-use sd_msg::Stamp;
+use sd_device::msg::Stamp;
 
 #[test]
 fn a_later_term_is_newer_and_then_a_later_round(rt: HostRuntime) {

@@ -6,11 +6,11 @@ mod network;
 
 use load::Load;
 use network::{plan_text, topology_text};
-use sd_test_fleet_kit::device::Device;
+use sd_device::Device;
+use sd_fleet::Fleet;
+use sd_plan::topo::Topology;
 use sd_test_fleet_kit::examples::fleet_over;
-use sd_test_fleet_kit::fleet::Fleet;
-use sd_test_fleet_kit::topo::Topology;
-use sd_test_fleet_kit::topotext::read_topology;
+use sd_topotext::read_topology;
 use std::alloc::Global;
 use std::process::Abort;
 use std::test::Fail;
@@ -51,7 +51,7 @@ fn drive(
     Ok(())
 }
 
-/// So many rounds of a new fleet.
+/// This many rounds of a new fleet.
 fn run(rt: &(impl AllocGlobal + Abort), rounds: u32) -> Result<(), Fail> {
     let mut fleet = new_fleet(rt.alloc())?;
     let driven = drive(rt, &mut fleet, rounds);

@@ -2,17 +2,17 @@
 //! how many events and reports this has, which are counted here of its list.
 ghost use Rattle.std.specs.Prelude.{◌≤◌, ◌<◌, ◌^◌, length};
 ghost use Rattle.sd_gen.specs.Listed.{AreWithin};
-ghost use Rattle.sd_test_fleet_kit.specs.Topo.Topologies.{network};
-ghost use Rattle.sd_test_fleet_kit.specs.FleetState.membership.Plans.{AreSound};
+ghost use Rattle.sd_plan.specs.topo.Topologies.{network};
+ghost use Rattle.sd_world.specs.membership.Plans.{AreSound};
 
+use sd_device::Device;
+use sd_fleet::Fleet;
 use sd_gen::{fabric_text, fabric_topology, make_schedule};
-use sd_test_fleet_kit::device::Device;
+use sd_plan::Plan;
+use sd_plan::topo::Topology;
+use sd_sched::Event;
 use sd_test_fleet_kit::examples::plans_of;
-use sd_test_fleet_kit::fleet::Fleet;
-use sd_test_fleet_kit::plan::Plan;
-use sd_test_fleet_kit::sched::Event;
-use sd_test_fleet_kit::topo::Topology;
-use sd_test_fleet_kit::topotext::{read_topology, topology_text};
+use sd_topotext::{read_topology, topology_text};
 use std::alloc::Global;
 use std::process::Abort;
 use std::test::Fail;
@@ -23,7 +23,7 @@ const PLANS: [&str; 2] = [
     r#"{"version":1,"root":"s1","backup_root":"s2","wait_first":1112349470,"wait_second":1112349470,"wait":5562637408,"absent_devices":["s0"],"absent_links":[],"rows":[{"device":"s2","parent":"l0","link":"k0-2","backup":"l1","backup_link":"k1-2"},{"device":"l0","parent":"s1","link":"k0-1","backup":"s2","backup_link":"k0-2"},{"device":"l1","parent":"s1","link":"k1-1","backup":"s2","backup_link":"k1-2"},{"device":"l2","parent":"s1","link":"k2-1","backup":"s2","backup_link":"k2-2"}]}"#,
 ];
 
-/// There are so many events, and a fleet accepts them one by one and makes so many reports.
+/// There are this many events, and a fleet accepts them one by one and makes this many reports.
 fn assert_accepts(
     rt: &(impl AllocGlobal + Abort),
     fleet: &mut Fleet<Device>,

@@ -3,9 +3,9 @@
 
 use super::outcomes::{acting, quiet, sends, takes};
 use super::playing::play;
-use sd_test_fleet_kit::device::Device;
-use sd_test_fleet_kit::fleet::{Fleet, Outcome};
-use sd_test_fleet_kit::msg::{Flight, Message, Stamp};
+use sd_device::Device;
+use sd_device::msg::{Flight, Message, Stamp};
+use sd_fleet::{Fleet, Outcome};
 use std::process::Abort;
 use std::test::Fail;
 

@@ -6,9 +6,9 @@ use super::nodes::{Mute, StillClock, still_message, still_report};
 use super::outcomes::{acting, quiet, reports, sends, takes};
 use super::playing::{Standing, follower, play, refuse, root, standing_of};
 use crate::same::assert_same;
-use sd_test_fleet_kit::clock::Report;
-use sd_test_fleet_kit::device::Device;
-use sd_test_fleet_kit::fleet::{ApplyFault, Fleet};
+use sd_device::Device;
+use sd_fleet::{ApplyFault, Fleet};
+use sd_num::clock::Report;
 use std::process::Abort;
 use std::test::Fail;
 

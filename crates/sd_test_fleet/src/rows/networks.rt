@@ -1,9 +1,9 @@
 //! The networks: the worked triangle, with one plan or with two.
 
+use sd_device::Node;
+use sd_fleet::Fleet;
 use sd_test_examples::{TRIANGLE, TRIANGLE_PLAN};
-use sd_test_fleet_kit::device::Node;
 use sd_test_fleet_kit::examples::{Example, fleet_of};
-use sd_test_fleet_kit::fleet::Fleet;
 use std::alloc::Global;
 use std::test::Fail;
 

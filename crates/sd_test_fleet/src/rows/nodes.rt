@@ -1,14 +1,14 @@
 //! Nodes of other kinds than a device: a clock that stands still, and a node that never sends.
 ghost use Rattle.std.specs.Prelude.{◌≡◌, ℕ, Bool, false, Option, None, refl};
-ghost use Rattle.sd_test_fleet_kit.specs.Core.declared.Effect.{Effect};
-ghost use Rattle.sd_test_fleet_kit.specs.Core.declared.Effect.TheVariants.{Quiet};
+ghost use Rattle.sd_device.specs.declared.Effect.{Effect};
+ghost use Rattle.sd_device.specs.declared.Effect.TheVariants.{Quiet};
 ghost use Rattle.sd_test_fleet.specs.Kinds.{still, still_message, still_sends};
 
-use sd_test_fleet_kit::clock::Report;
-use sd_test_fleet_kit::device::{Effect, Node};
-use sd_test_fleet_kit::msg::{Message, Stamp};
-use sd_test_fleet_kit::num::Rates;
-use sd_test_fleet_kit::plan::Duty;
+use sd_device::msg::{Message, Stamp};
+use sd_device::{Effect, Node};
+use sd_num::Rates;
+use sd_num::clock::Report;
+use sd_plan::Duty;
 
 /// A clock that stands still. It reports the same at any counter, and sends that at each tick to
 /// those below it. It follows nobody and never acts as root.

@@ -1,8 +1,8 @@
 //! What comes of events.
 
-use sd_test_fleet_kit::clock::Report;
-use sd_test_fleet_kit::fleet::Outcome;
-use sd_test_fleet_kit::msg::Flight;
+use sd_device::msg::Flight;
+use sd_fleet::Outcome;
+use sd_num::clock::Report;
 
 /// Nothing comes of it, and the named device does not act as root.
 pub(super) fn quiet() -> Outcome {
@@ -17,7 +17,7 @@ pub(super) fn acting() -> Outcome {
     }
 }
 
-/// So many messages go, the first with this number.
+/// This many messages go, the first with this number.
 pub(super) fn sends(first_sent: u64, sent: u32) -> Outcome {
     Outcome {
         first_sent,

@@ -1,9 +1,9 @@
 //! Lines that a fleet is driven by, each with what comes of it.
 
 use crate::same::assert_same_at;
-use sd_test_fleet_kit::device::Node;
-use sd_test_fleet_kit::fleet::{ApplyFault, Fleet, Outcome};
-use sd_test_fleet_kit::sched::read_line;
+use sd_device::Node;
+use sd_fleet::{ApplyFault, Fleet, Outcome};
+use sd_sched::read_line;
 use std::process::Abort;
 use std::test::Fail;
 

@@ -5,9 +5,9 @@ use super::networks::{ODD_SUM, ONE_PLAN, new_fleet};
 use super::outcomes::{ends, reports, sends};
 use super::playing::{follower, play, refuse, root, standing_of};
 use crate::same::assert_same;
-use sd_test_fleet_kit::device::Device;
-use sd_test_fleet_kit::fleet::{ApplyFault, Fleet, Outcome};
-use sd_test_fleet_kit::msg::{Flight, TakeFault};
+use sd_device::Device;
+use sd_device::msg::{Flight, TakeFault};
+use sd_fleet::{ApplyFault, Fleet, Outcome};
 use std::process::Abort;
 use std::test::Fail;
 

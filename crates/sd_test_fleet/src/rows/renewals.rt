@@ -5,9 +5,9 @@ use super::networks::{ONE_PLAN, OTHER_PLAN, new_fleet};
 use super::outcomes::{acting, ends, quiet, reports, sends, takes};
 use super::playing::{follower, play, refuse, root, standing_of};
 use crate::same::assert_same;
-use sd_test_fleet_kit::device::Device;
-use sd_test_fleet_kit::fleet::{ApplyFault, Fleet, Outcome};
-use sd_test_fleet_kit::msg::Message;
+use sd_device::Device;
+use sd_device::msg::Message;
+use sd_fleet::{ApplyFault, Fleet, Outcome};
 use std::process::Abort;
 use std::test::Fail;
 

@@ -5,8 +5,8 @@ use super::networks::{ONE_PLAN, new_fleet};
 use super::outcomes::{acting, ends, quiet, reports, sends};
 use super::playing::{down, follower, happen, root, standing_of};
 use crate::same::assert_same;
-use sd_test_fleet_kit::device::Device;
-use sd_test_fleet_kit::fleet::{Fleet, Outcome};
+use sd_device::Device;
+use sd_fleet::{Fleet, Outcome};
 use std::process::Abort;
 use std::test::Fail;
 

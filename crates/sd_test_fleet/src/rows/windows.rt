@@ -6,8 +6,8 @@ use super::outcomes::{acting, ends, quiet, reports};
 use super::playing::{Standing, down, follower, happen, play, refuse, root, standing_of};
 use super::renewals::{bring_in, enter_b};
 use crate::same::assert_same;
-use sd_test_fleet_kit::device::Device;
-use sd_test_fleet_kit::fleet::{ApplyFault, Fleet, Outcome};
+use sd_device::Device;
+use sd_fleet::{ApplyFault, Fleet, Outcome};
 use std::process::Abort;
 use std::test::Fail;
 

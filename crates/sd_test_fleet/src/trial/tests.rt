@@ -1,10 +1,11 @@
-//! A fleet beside a plain slow program, on histories drawn by lot over four networks: of devices, and
-//! of nodes that seal themselves or fall back at a message. At every other event a quick way is tried
-//! first.
+//! A fleet beside a plain slow program, on histories drawn by lot over four networks: of devices,
+//! bare and wrapped, and of nodes that seal themselves or fall back at a message. At every other
+//! event a quick way is tried first.
 ghost use Rattle.std.specs.Prelude.{◌≤◌, ◌<◌, ◌^◌, length, IsTrue};
-ghost use Rattle.sd_test_fleet_kit.specs.Sched.Spelled.{is_within};
-ghost use Rattle.sd_test_fleet_kit.specs.Topo.Topologies.{network};
-ghost use Rattle.sd_test_fleet_kit.specs.FleetState.membership.Plans.{AreSound};
+ghost use Rattle.sd_sched.specs.Spelled.{is_within};
+ghost use Rattle.sd_plan.specs.topo.Topologies.{network};
+ghost use Rattle.sd_world.specs.membership.Plans.{AreSound};
+ghost use Rattle.sd_fleet.specs.Devices.{NodesKeepChronicle};
 
 mod causes;
 mod drawn;
@@ -16,25 +17,25 @@ use crate::same::assert_same_at;
 use causes::refusal;
 use drawn::{draw, line_of};
 use outcomes::{happen, look};
-use sd_test_fleet_kit::device::{Device, Node};
+use sd_device::{Device, Node};
+use sd_fleet::{ApplyFault, Fleet, Outcome, keeps_chronicle};
+use sd_plan::Plan;
+use sd_plan::topo::Topology;
+use sd_sched::{Event, read_line};
 use sd_test_fleet_kit::examples::{Example, FABRIC, PAIR, SQUARE, TRIANGLE, plans_of};
-use sd_test_fleet_kit::fleet::{ApplyFault, Fleet, Outcome};
-use sd_test_fleet_kit::kinds::{FallingBack, SelfSealing};
+use sd_test_fleet_kit::kinds::{FallingBack, SelfSealing, Wrapped};
 use sd_test_fleet_kit::plain::{Net, NodeKind, Numbers, Plain};
-use sd_test_fleet_kit::plan::Plan;
-use sd_test_fleet_kit::sched::{Event, read_line};
-use sd_test_fleet_kit::topo::Topology;
-use sd_test_fleet_kit::topotext::read_topology;
+use sd_topotext::read_topology;
 use std::alloc::Global;
 use std::process::Abort;
 use std::test::Fail;
 use tally::Tally;
 use ways::happen_quickly;
 
-/// So many events are drawn for each history.
+/// This many events are drawn for each history.
 const LINES: u32 = 120;
 
-/// So many histories are drawn over each network.
+/// This many histories are drawn over each network.
 const HISTORIES: u64 = 12;
 
 /// Whether the fleet says of each device what the plain program says.
@@ -257,6 +258,21 @@ fn run_examples<N: Node>(rt: &(impl AllocGlobal + Abort), kind: NodeKind) -> Res
 #[test]
 fn a_fleet_does_as_a_plain_program_that_keeps_all_events(rt: HostRuntime) -> Result<(), Fail> {
     let tally = run_examples::<Device>(&rt, NodeKind::Device)?;
+    assert!(rt; tally.is_ample(), "{tally:?}");
+    Ok(())
+}
+
+/// What is promised of fleets of exact nodes is promised of these.
+fn wrapped_devices_keep_chronicle()
+    ensures { NodesKeepChronicle ⟦<Wrapped<Device> as Node>⟧ }
+{
+    keeps_chronicle::<Wrapped<Device>>();
+}
+
+#[test]
+fn a_fleet_of_wrapped_devices_does_as_the_plain_program(rt: HostRuntime) -> Result<(), Fail> {
+    wrapped_devices_keep_chronicle();
+    let tally = run_examples::<Wrapped<Device>>(&rt, NodeKind::Device)?;
     assert!(rt; tally.is_ample(), "{tally:?}");
     Ok(())
 }

@@ -1,10 +1,10 @@
 -- Lists of plans that can be followed.
 use Rattle.std.specs.Prelude.{◌≡◌, List, [], ◌∷◌, ◌++◌}
 use Rattle.std.proofs.Common.{subst, sym}
-use Rattle.sd_topo.specs.Network.{Network}
+use Rattle.sd_plan.specs.topo.Network.{Network}
 use Rattle.sd_plan.specs.declared.Plan.{Plan}
 use Rattle.sd_plan.proofs.Shared.{each_more}
-use Rattle.sd_fleet.specs.FleetState.membership.Plans.{IsFollowable, AreSound}
+use Rattle.sd_world.specs.membership.Plans.{IsFollowable, AreSound}
 use Rattle.sd_fleet.proofs.Eaches.{each_joined}
 
 -- the same list, as another name has it

@@ -1,14 +1,14 @@
 //! Fleets over the examples.
 ghost use Rattle.std.specs.Prelude.{[], IfOk};
-ghost use Rattle.sd_fleet.specs.History.World.{Setting};
+ghost use Rattle.sd_history.specs.World.{Setting};
 ghost use Rattle.sd_fleet.specs.Standing.{StandsFor};
 
 use crate::examples::plans::{NoPlans, plans_of};
 use crate::examples::texts::Example;
-use sd_core::Node;
+use sd_device::Node;
 use sd_fleet::Fleet;
 use sd_num::NoMemory;
-use sd_topo::Topology;
+use sd_plan::topo::Topology;
 use sd_topotext::{TopoFault, read_topology};
 use std::alloc::Global;
 

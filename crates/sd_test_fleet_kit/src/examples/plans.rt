@@ -1,11 +1,11 @@
 //! Plans that a fleet can follow.
 ghost use Rattle.std.specs.Prelude.{◌≤◌, ◌<◌, ◌^◌, length, IfOk};
-ghost use Rattle.sd_topo.specs.Topologies.{network};
-ghost use Rattle.sd_fleet.specs.FleetState.membership.Plans.{IsFollowable, AreSound};
+ghost use Rattle.sd_plan.specs.topo.Topologies.{network};
+ghost use Rattle.sd_world.specs.membership.Plans.{IsFollowable, AreSound};
 
+use sd_plan::topo::Topology;
 use sd_plan::{Plan, Rule, structure_breach};
 use sd_plantext::{PlanFault, read_plan};
-use sd_topo::Topology;
 use std::alloc::Global;
 
 /// Why there are no plans that a fleet can follow.

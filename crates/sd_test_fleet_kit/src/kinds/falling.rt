@@ -1,13 +1,13 @@
 //! A device that goes back to its primary parent.
 ghost use Rattle.std.specs.Prelude.{◌≡◌};
-ghost use Rattle.sd_core.specs.declared.registers.Mode.TheVariants.{Backup};
-ghost use Rattle.sd_core.specs.Limits.{IsSound};
+ghost use Rattle.sd_device.specs.declared.registers.Mode.TheVariants.{Backup};
+ghost use Rattle.sd_device.specs.Limits.{IsSound};
 ghost use Rattle.sd_test_fleet_kit.specs.Kinds.{back as back_in};
 
-use sd_clock::Report;
-use sd_core::{Device, Effect, Mode, Node, Registers};
-use sd_msg::Message;
+use sd_device::msg::Message;
+use sd_device::{Device, Effect, Mode, Node, Registers};
 use sd_num::Rates;
+use sd_num::clock::Report;
 use sd_plan::Duty;
 
 /// A device that moved goes back to its primary parent when it hears news of it.
@@ -30,8 +30,8 @@ fn back(moved: Registers) -> Registers
 }
 
 impl Node for FallingBack {
-    ghost use Rattle.sd_core.specs.Rules.{made, report_in, parent_in, acts_in, epoch_in, floor_in, ceiling_in, height_in};
-    ghost use Rattle.sd_core.specs.Planless.{acting_leads_nowhere, planless_leads_nowhere, planless_acts_not};
+    ghost use Rattle.sd_device.specs.Rules.{made, report_in, parent_in, acts_in, epoch_in, floor_in, ceiling_in, height_in};
+    ghost use Rattle.sd_device.specs.Planless.{acting_leads_nowhere, planless_leads_nowhere, planless_acts_not};
     ghost use Rattle.sd_test_fleet_kit.specs.Kinds.{falls_back};
 
     ghost makes = { λ making s. s.device ≡ made making };

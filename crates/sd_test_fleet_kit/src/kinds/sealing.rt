@@ -1,9 +1,9 @@
 //! A device that seals itself.
 
-use sd_clock::Report;
-use sd_core::{Device, Effect, Node};
-use sd_msg::Message;
+use sd_device::msg::Message;
+use sd_device::{Device, Effect, Node};
 use sd_num::Rates;
+use sd_num::clock::Report;
 use sd_plan::Duty;
 
 /// A device seals itself at each message.
@@ -14,8 +14,8 @@ pub struct SelfSealing {
 
 impl Node for SelfSealing {
     ghost use Rattle.std.specs.Prelude.{◌≡◌};
-    ghost use Rattle.sd_core.specs.Rules.{made, report_in, parent_in, acts_in, epoch_in, floor_in, ceiling_in, height_in};
-    ghost use Rattle.sd_core.specs.Planless.{acting_leads_nowhere, planless_leads_nowhere, planless_acts_not};
+    ghost use Rattle.sd_device.specs.Rules.{made, report_in, parent_in, acts_in, epoch_in, floor_in, ceiling_in, height_in};
+    ghost use Rattle.sd_device.specs.Planless.{acting_leads_nowhere, planless_leads_nowhere, planless_acts_not};
     ghost use Rattle.sd_test_fleet_kit.specs.Kinds.{seals_itself};
 
     ghost makes = { λ making s. s.device ≡ made making };

@@ -2,10 +2,10 @@
 
 use crate::plain::history::{Plain, Sent};
 use crate::plain::things::{failed_by, received_by, used_by};
-use sd_msg::{Flight, Message};
+use sd_device::msg::{Flight, Message};
 use sd_plan::End;
+use sd_plan::topo::Thing;
 use sd_sched::Event;
-use sd_topo::Thing;
 use std::alloc::AllocError;
 
 /// Whether the event fails the link or the receiver of a flight.

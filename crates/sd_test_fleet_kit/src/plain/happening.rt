@@ -1,8 +1,8 @@
 //! What an accepted event does.
 
 use crate::plain::history::{Plain, Step, Transition};
-use sd_clock::Report;
-use sd_msg::Message;
+use sd_device::msg::Message;
+use sd_num::clock::Report;
 use sd_sched::Event;
 use std::alloc::AllocError;
 

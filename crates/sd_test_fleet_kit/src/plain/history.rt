@@ -2,9 +2,9 @@
 
 use crate::plain::net::Net;
 use crate::plain::things::{failed_by, mended_by, received_by};
-use sd_msg::{Flight, Stamp};
+use sd_device::msg::{Flight, Stamp};
+use sd_plan::topo::Thing;
 use sd_sched::Event;
-use sd_topo::Thing;
 use std::alloc::Global;
 
 /// What the named device did at an event. Numbers are those of plans.

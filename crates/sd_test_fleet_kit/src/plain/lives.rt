@@ -2,8 +2,8 @@
 
 use crate::plain::history::{NodeKind, Plain, Subject, Transition};
 use crate::plain::things::received_by;
-use sd_clock::Report;
-use sd_msg::{Message, Stamp};
+use sd_device::msg::{Message, Stamp};
+use sd_num::clock::Report;
 use sd_plan::{Hop, Plan};
 use sd_sched::Event;
 

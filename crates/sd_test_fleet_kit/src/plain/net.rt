@@ -1,8 +1,8 @@
 //! A topology and its plans, asked by numbers that may be out of range.
 
 use sd_num::Rates;
+use sd_plan::topo::{LinkEntry, Topology};
 use sd_plan::{End, Hop, Plan, PlanRow};
-use sd_topo::{LinkEntry, Topology};
 use std::alloc::{AllocError, Global};
 
 /// Devices and links are numbered from 0, plans from 1. What is out of range is nothing, or 0.

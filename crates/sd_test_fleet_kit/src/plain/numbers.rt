@@ -21,7 +21,7 @@ impl Numbers {
         u32::try_from(self.below(u64::from(bound))).unwrap_or(0)
     }
 
-    /// True once in so many times.
+    /// True once in this many times.
     pub fn once_in(&mut self, times: u64) -> bool {
         self.below(times) == 0
     }

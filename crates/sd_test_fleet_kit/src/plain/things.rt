@@ -1,7 +1,7 @@
 //! What events do to things and messages.
 
+use sd_plan::topo::Thing;
 use sd_sched::Event;
-use sd_topo::Thing;
 
 /// The thing that the event fails.
 pub fn failed_by(event: &Event) -> Option<Thing> {

@@ -1,7 +1,7 @@
 //! What is next to do in a history.
 
 use crate::plain::history::Plain;
-use sd_topo::Thing;
+use sd_plan::topo::Thing;
 
 /// What it may be a device's turn for.
 #[derive(Clone, Copy)]

@@ -2,3 +2,4 @@
 mod clocks;
 mod flights;
 mod rounds;
+mod whole;

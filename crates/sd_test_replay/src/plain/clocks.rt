@@ -1,9 +1,9 @@
 //! The premises on clocks that are set, on oscillators and on delays.
 
 use super::replay::PlainReplay;
-use sd_test_fleet_kit::num::Rates;
+use sd_num::Rates;
+use sd_sched::Event;
 use sd_test_fleet_kit::plain::Subject;
-use sd_test_fleet_kit::sched::Event;
 
 /// Whether a counter went on by `elapsed` while the reference went on by `passed`, both in ps, at
 /// the rates of its oscillator.

@@ -1,9 +1,9 @@
 //! The premise on failures.
 
 use super::replay::PlainReplay;
+use sd_plan::topo::Thing;
+use sd_sched::Event;
 use sd_test_fleet_kit::plain::failed_by;
-use sd_test_fleet_kit::sched::Event;
-use sd_test_fleet_kit::topo::Thing;
 
 fn lies_in(domain: &[Thing], thing: Option<Thing>) -> bool {
     match thing {

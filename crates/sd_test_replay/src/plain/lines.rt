@@ -2,7 +2,7 @@
 
 use super::premises::Premise;
 use super::site::Site;
-use sd_test_fleet_kit::clock::Report;
+use sd_num::clock::Report;
 use std::alloc::{AllocError, Global};
 
 /// What is to be printed of an event.

@@ -1,7 +1,7 @@
 //! The seven premises.
 
 use super::replay::PlainReplay;
-use sd_test_fleet_kit::sched::Event;
+use sd_sched::Event;
 use std::alloc::AllocError;
 
 /// What is asked of the fabric, in the order in which broken premises are printed.

@@ -1,9 +1,9 @@
 //! The premise on changes of plan.
 
 use super::replay::PlainReplay;
+use sd_plan::topo::{LinkEntry, Thing};
+use sd_sched::Event;
 use sd_test_fleet_kit::plain::{Stage, Step, Subject, mended_by};
-use sd_test_fleet_kit::sched::Event;
-use sd_test_fleet_kit::topo::{LinkEntry, Thing};
 use std::alloc::AllocError;
 
 impl PlainReplay<'_> {

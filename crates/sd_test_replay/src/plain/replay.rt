@@ -3,9 +3,9 @@
 use super::lines::Found;
 use super::premises::{PREMISES, Premise};
 use super::site::Site;
-use sd_test_fleet_kit::clock::Report;
-use sd_test_fleet_kit::plain::Plain;
-use sd_test_fleet_kit::sched::Event;
+use sd_num::clock::Report;
+use sd_sched::Event;
+use sd_test_fleet_kit::plain::{NodeKind, Plain};
 use std::alloc::{AllocError, Global};
 
 /// A history over a site, with the premises that events were against so far.
@@ -23,11 +23,11 @@ fn newly<T: Copy>(before: Option<T>, now: Option<T>) -> Option<T> {
 }
 
 impl PlainReplay<'_> {
-    /// Before any event.
-    pub fn new<'a>(alloc: Global, site: &'a Site<'a>) -> PlainReplay<'a> {
+    /// Nodes of a kind before any event.
+    pub fn of_kind<'a>(alloc: Global, site: &'a Site<'a>, kind: NodeKind) -> PlainReplay<'a> {
         PlainReplay {
             site,
-            plain: Plain::new(alloc, &site.net),
+            plain: Plain::of_kind(alloc, &site.net, kind),
             broken: Vec::new(alloc),
         }
     }

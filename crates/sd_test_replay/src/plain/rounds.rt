@@ -1,9 +1,9 @@
 //! The premise on losses, judged once the event is in the list.
 
 use super::replay::PlainReplay;
-use sd_test_fleet_kit::msg::Stamp;
+use sd_device::msg::Stamp;
+use sd_plan::topo::Thing;
 use sd_test_fleet_kit::plain::{Sent, Step, received_by};
-use sd_test_fleet_kit::topo::Thing;
 
 /// Whether a step fails the link, the sender or the receiver of a message.
 fn cuts(step: &Step, sent: &Sent) -> bool {

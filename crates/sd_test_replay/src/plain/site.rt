@@ -1,10 +1,10 @@
 //! What premises and lines ask of a topology and its plans.
 ghost use Rattle.std.specs.Prelude.{◌<◌, length};
-ghost use Rattle.sd_test_fleet_kit.specs.Topo.Topologies.{network};
+ghost use Rattle.sd_plan.specs.topo.Topologies.{network};
 
+use sd_plan::Plan;
+use sd_plan::topo::{Thing, Topology};
 use sd_test_fleet_kit::plain::Net;
-use sd_test_fleet_kit::plan::Plan;
-use sd_test_fleet_kit::topo::{Thing, Topology};
 use std::alloc::{AllocError, Global};
 
 /// A topology and its plans. What is out of range is nothing.

@@ -2,8 +2,8 @@
 
 use super::clocks::is_making;
 use super::replay::PlainReplay;
-use sd_test_fleet_kit::sched::Event;
-use sd_test_fleet_kit::topo::Thing;
+use sd_plan::topo::Thing;
+use sd_sched::Event;
 
 impl PlainReplay<'_> {
     /// A moment at which some device has not looked at its counter for too long.

@@ -1,15 +1,15 @@
 //! Plans that the checker accepts.
 ghost use Rattle.std.specs.Prelude.{◌≤◌, ◌<◌, ◌^◌, length, IfOk};
-ghost use Rattle.sd_checker.specs.Topo.Topologies.{network};
-ghost use Rattle.sd_checker.specs.Topo.Network.{Each as OfEach};
-ghost use Rattle.sd_checker.specs.Plan.Plans.{Fits};
+ghost use Rattle.sd_plan.specs.topo.Topologies.{network};
+ghost use Rattle.sd_plan.specs.topo.Network.{Each as OfEach};
+ghost use Rattle.sd_plan.specs.Plans.{Fits};
 ghost use Rattle.sd_checker.specs.Verdicts.{IsAccepted};
 
 use sd_checker::{Verdict, check};
-use sd_test_fleet_kit::num::NoMemory;
-use sd_test_fleet_kit::plan::Plan;
-use sd_test_fleet_kit::plantext::{PlanFault, read_plan};
-use sd_test_fleet_kit::topo::Topology;
+use sd_num::NoMemory;
+use sd_plan::Plan;
+use sd_plan::topo::Topology;
+use sd_plantext::{PlanFault, read_plan};
 use std::alloc::Global;
 
 /// Why there are no accepted plans.

@@ -2,11 +2,11 @@
 
 use super::course::Course;
 use super::tempers::{Failures, Renewals};
+use sd_plan::topo::Thing;
+use sd_sched::Event;
 use sd_test_fleet_kit::plain::{Numbers, Stage, Turn};
-use sd_test_fleet_kit::sched::Event;
-use sd_test_fleet_kit::topo::Thing;
 
-/// So many events pass under a plan before what is planned fails.
+/// This many events pass under a plan before what is planned fails.
 const BEFORE_FAILURE: usize = 50;
 
 impl Course<'_> {

@@ -3,9 +3,9 @@
 
 use super::tempers::{Temper, goes_wrong};
 use crate::plain::PlainReplay;
+use sd_plan::topo::Thing;
+use sd_sched::Event;
 use sd_test_fleet_kit::plain::{Numbers, Plain, Sent, Step, Subject};
-use sd_test_fleet_kit::sched::Event;
-use sd_test_fleet_kit::topo::Thing;
 
 /// A history so far, and how it goes on.
 #[derive(Clone, Copy)]

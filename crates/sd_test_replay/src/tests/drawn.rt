@@ -2,8 +2,8 @@
 
 use super::course::{Coming, Course};
 use super::tempers::{Renewals, goes_wrong};
+use sd_sched::Event;
 use sd_test_fleet_kit::plain::{Numbers, Turn};
-use sd_test_fleet_kit::sched::Event;
 
 impl Course<'_> {
     /// The next event. It is mostly one that the fleet accepts.

@@ -1,9 +1,9 @@
 //! Events of one device, made as its history and its temper have it.
 
 use super::course::Course;
+use sd_plan::topo::Thing;
+use sd_sched::Event;
 use sd_test_fleet_kit::plain::{Numbers, Sent};
-use sd_test_fleet_kit::sched::Event;
-use sd_test_fleet_kit::topo::Thing;
 
 impl Course<'_> {
     /// A moment at which nothing else has happened since the latest event.

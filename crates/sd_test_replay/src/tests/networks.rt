@@ -1,6 +1,6 @@
 //! Small networks with several accepted plans each, whose waits are as short as they may be.
 
-use sd_test_fleet_kit::topo::Thing;
+use sd_plan::topo::Thing;
 
 /// A topology with its plans, as texts.
 #[derive(Clone, Copy)]

@@ -45,7 +45,7 @@ impl Count {
     }
 }
 
-/// Whether each thing came in so many histories, and did not in as many.
+/// Whether each thing came in this many histories, and did not in as many.
 fn are_ample(counts: &[Count], least: u64) -> bool {
     for count in counts {
         if count.with < least || count.without < least {
@@ -117,8 +117,8 @@ impl Tally {
         }
     }
 
-    /// Whether each premise broke in so many histories and held in as many, and each alarm came in
-    /// so many and did not come in as many.
+    /// Whether each premise broke in this many histories and held in as many, and each alarm came
+    /// in this many and did not come in as many.
     pub(super) fn is_ample(&self, least: u64) -> bool {
         are_ample(&self.premises, least) && are_ample(&self.alarms, least) && self.closings >= least
     }

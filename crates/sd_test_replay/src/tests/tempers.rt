@@ -101,7 +101,7 @@ pub(super) const RASH: Temper = Temper {
 /// All of them.
 pub(super) const TEMPERS: [Temper; 7] = [HONEST, RENEWED, LOSSY, SKEWED, TARDY, BROKEN, RASH];
 
-/// Whether one of so many things of a kind is wrong.
+/// Whether one of this many things of a kind is wrong.
 pub(super) fn goes_wrong(numbers: &mut Numbers, times: u64) -> bool {
     times != 0 && numbers.once_in(times)
 }

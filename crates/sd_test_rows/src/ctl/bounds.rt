@@ -65,5 +65,17 @@ fn the_outside_fails_under_bounds(rt: HostRuntime) -> Result<(), Fail> {
     let ran = run_over(&rt, &WORDS, &texts, &[], &[(1, 7)])?;
     assert_eq!(rt; ran.status, Status::SinkFault);
     assert_eq!(rt; ran.out.bytes(), b"nobound".as_slice());
+    // the second write is that of the second domain
+    let ran = run_over(&rt, &WORDS, &texts, &[], &[(2, 7)])?;
+    assert_eq!(rt; ran.status, Status::SinkFault);
+    assert_eq!(rt;
+        ran.out.bytes(),
+        b"\
+nobound device r r 1516436
+bounds device r b 4916851 4160603 1816436
+bounds device r x 5449722 4460603 1816436
+bounds "
+            .as_slice()
+    );
     Ok(())
 }

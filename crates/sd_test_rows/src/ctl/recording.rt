@@ -43,7 +43,7 @@ ask 121000000 1 121000000
 end 121000000
 ";
 
-/// What is written and answered behind the first lines where these end the log.
+/// What is written and answered after the first lines where these end the log.
 fn assert_records(
     rt: &(impl Abort + AllocGlobal),
     rest: &str,

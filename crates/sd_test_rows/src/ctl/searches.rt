@@ -72,7 +72,7 @@ link = [
 /// What is absent of the fabric.
 const WITHOUT_L3: &str = r#"{"absent_devices":["l3"],"absent_links":[]}"#;
 
-/// A search of a topology with an everyday budget, by so many moves.
+/// A search of a topology with an everyday budget, by this many moves.
 fn words_of<'a>(steps: &'a str) -> [&'a str; 6] {
     ["search", "topology", "1000000", "3000000000", "1", steps]
 }

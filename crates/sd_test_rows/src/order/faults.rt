@@ -1,4 +1,4 @@
-//! Where the outside fails: a write, and the read behind the last line.
+//! Where the outside fails: a write, and the read after the last line.
 
 use super::{THREE, WORDS, shelf_for};
 use crate::kit::run_words;

@@ -6,7 +6,7 @@ use sd_test_examples::TRIANGLE;
 use sd_top::Status;
 use std::test::Fail;
 
-/// The lines of a renewal behind the first round: the second plan is staged, given and committed,
+/// The lines of a renewal after the first round: the second plan is staged, given and committed,
 /// and a round later all devices are sealed.
 const RENEWAL: &str = "\
 stage 112000000

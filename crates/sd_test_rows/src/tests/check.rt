@@ -62,7 +62,7 @@ fn accepted_plans_are_counted(rt: HostRuntime) -> Result<(), Fail> {
     Ok(())
 }
 
-/// The last line of a list of links, and the same with a domain behind it.
+/// The last line of a list of links, and the same with a domain after it.
 const END: &str = "\n]\n";
 
 const CORE: &str = "\n]\ndomain = [{ name = \"core\", devices = [\"s1\"], links = [\"a2\"] }]\n";

@@ -15,7 +15,7 @@ const FABRIC: &str =
 const NUMBERS: &str =
     "ppm = 200\ngrain = 1000\nperiod = 100000000\ntick = 90000000\nloss = 1\ndepth = 2\n";
 
-/// Those behind `ppm`.
+/// Those after `ppm`.
 const OTHER_NUMBERS: &str =
     "grain = 1000\nperiod = 100000000\ntick = 90000000\nloss = 1\ndepth = 2\n";
 
@@ -251,7 +251,7 @@ fn a_refused_topology_is_named_with_its_first_fault(rt: HostRuntime) -> Result<(
     assert_migrates(&rt, &[255], 1, no_text, Status::InputRefused)
 }
 
-/// A text with so many devices.
+/// A text with this many devices.
 fn crowd(alloc: Global, devices: u32) -> Result<String, AllocError> {
     let mut text = joined(
         alloc,

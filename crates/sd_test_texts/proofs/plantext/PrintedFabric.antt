@@ -2,10 +2,10 @@
 use Rattle.std.specs.Prelude.{◌≡◌, ◌++◌, Some, codes, refl}
 use Rattle.std.specs.Fmt.{digits}
 use Rattle.std.proofs.Common.{arith}
-use Rattle.sd_domain.specs.Topo.Network.{Network}
-use Rattle.sd_plantext.specs.Plan.Examples.{IsFabric, fabric, fabric_rows, plan_with, hop}
-use Rattle.sd_plantext.specs.Plan.Plans.{Fits}
-use Rattle.sd_plantext.proofs.Plan.Fitting.{fabric_fits}
+use Rattle.sd_plan.specs.topo.Network.{Network}
+use Rattle.sd_plan.specs.Examples.{IsFabric, fabric, fabric_rows, plan_with, hop}
+use Rattle.sd_plan.specs.Plans.{Fits}
+use Rattle.sd_plan.proofs.Fitting.{fabric_fits}
 use Rattle.sd_plantext.specs.Printed.{plan_text}
 
 printed_fabric :

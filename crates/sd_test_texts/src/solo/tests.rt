@@ -1,6 +1,6 @@
 //! Refusals in their order.
 use crate::same::assert_same;
-use sd_solo::{Solo, SoloFault, read_solo_line};
+use sd_commands::solo::{Solo, SoloFault, read_solo_line};
 
 #[test]
 fn refuses_in_order(rt: HostRuntime) {

@@ -2,13 +2,13 @@
 ghost use Rattle.std.specs.Prelude.{◌≡◌, pos, ◌≤◌, ◌<◌, ◌^◌, IfOk, OnOk, All, length, ◌++◌, ◌∷◌, []};
 ghost use Rattle.toml.specs.Data.{string, integer, array, table};
 ghost use Rattle.toml.specs.View.{view, table_view, array_view};
-ghost use Rattle.sd_topo.specs.Network.{device_names, link_names};
-ghost use Rattle.sd_topo.specs.Topologies.{network};
+ghost use Rattle.sd_plan.specs.topo.Network.{device_names, link_names};
+ghost use Rattle.sd_plan.specs.topo.Topologies.{network};
 ghost use Rattle.sd_topotext.specs.Printed.{put, whole, side_word, names_data};
 
 use crate::fault::Key;
 use sd_num::NoMemory;
-use sd_topo::{Side, Topology};
+use sd_plan::topo::{Side, Topology};
 use std::alloc::Global;
 use toml::Value;
 use toml::value::{Array, Table};

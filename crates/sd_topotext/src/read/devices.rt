@@ -2,19 +2,18 @@
 ghost use Rattle.std.specs.Prelude.{◌≡◌, ◌≤◌, ◌<◌, ◌+◌, length, OnOk, IfOk, IfErr, [], false};
 ghost use Rattle.std.specs.List.{list_any};
 ghost use Rattle.std.specs.Str.{bytes_eq};
-ghost use Rattle.indexmap.specs.IndexMap.{index_map_len};
+ghost use Rattle.indexmap.specs.IndexMap.{index_map_len, hasher_of};
 ghost use Rattle.toml.specs.View.{view, table_view, items_view};
 ghost use Rattle.sd_topotext.specs.Gives.{Gives, Fails};
-ghost use Rattle.sd_topo.specs.Limits.{IsRates};
-ghost use Rattle.sd_topo.specs.Seen.{devices_seen, names_seen};
+ghost use Rattle.sd_plan.specs.topo.Limits.{IsRates};
+ghost use Rattle.sd_plan.specs.topo.Seen.{devices_seen, names_seen};
 ghost use Rattle.sd_topotext.specs.Meaning.{side_in, rates_in, device_in, one_more_device, each_from, devices_in};
 
 use super::names::{add, own_name};
 use super::values::{SECOND, array_at, member, number_or, table_of, text_at};
 use crate::fault::{Key, Kind, Place, TopoFault};
-use indexmap::IndexMap;
 use sd_num::Rates;
-use sd_topo::{Side, Station};
+use sd_plan::topo::{Names, Side, Station, TextSeed};
 use std::alloc::Global;
 use toml::{Table, Value};
 
@@ -57,7 +56,7 @@ fn rates_at(table: &Table, version: u32, top: Rates, entry: u32) -> Result<Rates
 /// The device of an entry: its name, which is new, and the rest.
 #[tactic(auto, unfolding(crate::specs::Meaning::device_in))]
 fn device_at<'a>(
-    devices: &IndexMap<String, Station>,
+    devices: &Names<Station>,
     item: &'a Value,
     version: u32,
     top: Rates,
@@ -80,7 +79,7 @@ fn device_at<'a>(
 #[tactic(auto, using(crate::proofs::Entries::one_more_device_seen, crate::proofs::Entries::devices_added))]
 fn add_device(
     alloc: Global,
-    devices: &mut IndexMap<String, Station>,
+    devices: &mut Names<Station>,
     item: &Value,
     version: u32,
     top: Rates,
@@ -90,6 +89,7 @@ fn add_device(
     ensures ok { OnOk result (one_more_device version top (devices_seen devices.old)
         (view item.now) ≡ Ok (devices_seen devices.new)) }
     ensures len { OnOk result (index_map_len devices.new ≡ index_map_len devices.old + 1) }
+    ensures hasher { OnOk result (hasher_of devices.new ≡ hasher_of devices.old) }
     ensures err { IfErr result (λ e. Fails e (one_more_device version top
         (devices_seen devices.old) (view item.now))) }
 {
@@ -101,17 +101,19 @@ fn add_device(
 /// The devices of all entries.
 fn all_devices(
     alloc: Global,
+    seed: TextSeed,
     items: &[Value],
     version: u32,
     top: Rates,
-) -> Result<IndexMap<String, Station>, TopoFault>
+) -> Result<Names<Station>, TopoFault>
     requires few { length items.now ≤ 4096 }
     requires rates { IsRates top }
     ensures given { Gives (λ m. devices_seen m) result (each_from (one_more_device version top) []
         (items_view items.now)) }
     ensures len { IfOk result (λ m. index_map_len m ≡ length items.now) }
+    ensures hasher { IfOk result (λ m. hasher_of m ≡ seed) }
 {
-    let mut devices = IndexMap::new(alloc);
+    let mut devices = Names::with_hasher(alloc, seed);
     for item in items {
         match add_device(alloc, &mut devices, item, version, top) {
             Ok(()) => {}
@@ -125,14 +127,16 @@ fn all_devices(
 #[tactic(auto, unfolding(crate::specs::Meaning::devices_in), using(crate::proofs::Entries::count_of_items))]
 pub(super) fn devices_at(
     alloc: Global,
+    seed: TextSeed,
     table: &Table,
     version: u32,
     top: Rates,
-) -> Result<IndexMap<String, Station>, TopoFault>
+) -> Result<Names<Station>, TopoFault>
     requires { IsRates top }
     ensures given { Gives (λ m. devices_seen m) result (devices_in version top
         (table_view table.now)) }
     ensures len { IfOk result (λ m. index_map_len m ≤ 4096) }
+    ensures hasher { IfOk result (λ m. hasher_of m ≡ seed) }
 {
     let key = Key::Device;
     let items = array_at(table, key, 0)?;
@@ -142,5 +146,5 @@ pub(super) fn devices_at(
     if items.len() > DEVICES {
         return Err(TopoFault::Limit(Kind::Device));
     }
-    all_devices(alloc, items, version, top)
+    all_devices(alloc, seed, items, version, top)
 }

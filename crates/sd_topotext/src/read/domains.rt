@@ -2,18 +2,17 @@
 ghost use Rattle.std.specs.Prelude.{◌≡◌, ◌≤◌, ◌<◌, ◌+◌, ◌^◌, ℕ, nat_eq, length, OnOk, IfOk, IfErr, All, [], false};
 ghost use Rattle.std.specs.List.{list_any, IsDistinct};
 ghost use Rattle.std.specs.Str.{bytes_eq};
-ghost use Rattle.indexmap.specs.IndexMap.{index_map_len};
+ghost use Rattle.indexmap.specs.IndexMap.{index_map_len, hasher_of};
 ghost use Rattle.toml.specs.View.{view, table_view, items_view};
 ghost use Rattle.sd_num.specs.Lists.{ascending};
 ghost use Rattle.sd_topotext.specs.Gives.{Gives, Fails};
-ghost use Rattle.sd_topo.specs.Seen.{domains_seen, names_seen};
+ghost use Rattle.sd_plan.specs.topo.Seen.{domains_seen, names_seen};
 ghost use Rattle.sd_topotext.specs.Meaning.{place, value, things_listed, members_in, domain_in, one_more_domain, each_from, domains_in, roots_in};
 
-use super::names::{add, listed, own_name};
+use super::names::{Listed, add, listed, own_name};
 use super::values::{array_at, array_or_none, table_of};
 use crate::fault::{Key, Kind, Place, TopoFault};
-use indexmap::{IndexMap, IndexSet};
-use sd_topo::{Group, LinkEntry, Station};
+use sd_plan::topo::{Group, LinkEntry, Names, Station, TextSeed};
 use std::alloc::Global;
 use toml::{Table, Value};
 
@@ -24,7 +23,7 @@ const DOMAINS: usize = 4096;
 const THINGS: usize = 262_144;
 
 /// Listed numbers in ascending order.
-fn sorted(alloc: Global, listed: &IndexSet<u32>) -> Result<Vec<u32>, TopoFault>
+fn sorted(alloc: Global, listed: &Listed) -> Result<Vec<u32>, TopoFault>
     ensures ok { IfOk result (λ v. (count : ℕ) → All (λ n. n < count) listed.now.keys → v.items
         ≡ ascending count listed.now.keys) }
     ensures err { IfErr result (λ e. e ≡ TopoFault.Memory) }
@@ -43,7 +42,7 @@ fn sorted(alloc: Global, listed: &IndexSet<u32>) -> Result<Vec<u32>, TopoFault>
 #[tactic(auto, unfolding(crate::specs::Meaning::members_in))]
 fn members_at<V>(
     alloc: Global,
-    names: &IndexMap<String, V>,
+    names: &Names<V>,
     table: &Table,
     key: Key,
     entry: u32,
@@ -64,9 +63,9 @@ fn members_at<V>(
 #[tactic(auto, unfolding(crate::specs::Meaning::domain_in))]
 fn domain_at<'a>(
     alloc: Global,
-    devices: &IndexMap<String, Station>,
-    links: &IndexMap<String, LinkEntry>,
-    domains: &IndexMap<String, Group>,
+    devices: &Names<Station>,
+    links: &Names<LinkEntry>,
+    domains: &Names<Group>,
     item: &'a Value,
     entry: u32,
 ) -> Result<(&'a str, Group), TopoFault>
@@ -95,9 +94,9 @@ fn domain_at<'a>(
 #[tactic(auto, using(crate::proofs::Entries::one_more_domain_seen, crate::proofs::Entries::domains_added, crate::proofs::Entries::things_listed_more))]
 fn add_domain(
     alloc: Global,
-    devices: &IndexMap<String, Station>,
-    links: &IndexMap<String, LinkEntry>,
-    domains: &mut IndexMap<String, Group>,
+    devices: &Names<Station>,
+    links: &Names<LinkEntry>,
+    domains: &mut Names<Group>,
     item: &Value,
     things: usize,
 ) -> Result<usize, TopoFault>
@@ -109,6 +108,7 @@ fn add_domain(
     ensures ok { OnOk result (one_more_domain (names_seen devices.now) (names_seen links.now)
         (domains_seen domains.old) (view item.now) ≡ Ok (domains_seen domains.new)) }
     ensures len { OnOk result (index_map_len domains.new ≡ index_map_len domains.old + 1) }
+    ensures hasher { OnOk result (hasher_of domains.new ≡ hasher_of domains.old) }
     ensures things { IfOk result (λ n. (n ≡ things_listed (domains_seen domains.new)) ×
         (n ≤ 262144)) }
     ensures err { IfErr result (λ e. Fails e (one_more_domain (names_seen devices.now)
@@ -131,18 +131,20 @@ fn add_domain(
 /// The domains of all entries.
 fn all_domains(
     alloc: Global,
-    devices: &IndexMap<String, Station>,
-    links: &IndexMap<String, LinkEntry>,
+    seed: TextSeed,
+    devices: &Names<Station>,
+    links: &Names<LinkEntry>,
     items: &[Value],
-) -> Result<IndexMap<String, Group>, TopoFault>
+) -> Result<Names<Group>, TopoFault>
     requires devices { index_map_len devices.now ≤ 4096 }
     requires links { index_map_len links.now ≤ 32768 }
     requires few { length items.now ≤ 4096 }
     ensures given { Gives (λ m. domains_seen m) result (each_from (one_more_domain
         (names_seen devices.now) (names_seen links.now)) [] (items_view items.now)) }
     ensures len { IfOk result (λ m. index_map_len m ≡ length items.now) }
+    ensures hasher { IfOk result (λ m. hasher_of m ≡ seed) }
 {
-    let mut domains = IndexMap::new(alloc);
+    let mut domains = Names::with_hasher(alloc, seed);
     let mut things = 0;
     for item in items {
         match add_domain(alloc, devices, links, &mut domains, item, things) {
@@ -157,27 +159,29 @@ fn all_domains(
 #[tactic(auto, unfolding(crate::specs::Meaning::domains_in), using(crate::proofs::Entries::count_of_items))]
 pub(super) fn domains_at(
     alloc: Global,
-    devices: &IndexMap<String, Station>,
-    links: &IndexMap<String, LinkEntry>,
+    seed: TextSeed,
+    devices: &Names<Station>,
+    links: &Names<LinkEntry>,
     table: &Table,
-) -> Result<IndexMap<String, Group>, TopoFault>
+) -> Result<Names<Group>, TopoFault>
     requires devices { index_map_len devices.now ≤ 4096 }
     requires links { index_map_len links.now ≤ 32768 }
-    ensures { Gives (λ m. domains_seen m) result (domains_in (names_seen devices.now)
+    ensures given { Gives (λ m. domains_seen m) result (domains_in (names_seen devices.now)
         (names_seen links.now) (table_view table.now)) }
+    ensures hasher { IfOk result (λ m. hasher_of m ≡ seed) }
 {
     let items = array_or_none(table, Key::Domain, 0)?;
     if items.len() > DOMAINS {
         return Err(TopoFault::Limit(Kind::Domain));
     }
-    all_domains(alloc, devices, links, items)
+    all_domains(alloc, seed, devices, links, items)
 }
 
 /// The candidates for root and backup root, at least one, in order.
 #[tactic(auto, unfolding(crate::specs::Meaning::roots_in), using(crate::proofs::Entries::count_of_items))]
 pub(super) fn roots_at(
     alloc: Global,
-    devices: &IndexMap<String, Station>,
+    devices: &Names<Station>,
     table: &Table,
 ) -> Result<Vec<u32>, TopoFault>
     requires { index_map_len devices.now ≤ 4096 }

@@ -2,17 +2,16 @@
 ghost use Rattle.std.specs.Prelude.{◌≡◌, ◌≤◌, ◌<◌, ◌+◌, ◌^◌, length, map, flat_map, OnOk, IfOk, IfErr, [], ◌∷◌, false};
 ghost use Rattle.std.specs.List.{list_any};
 ghost use Rattle.std.specs.Str.{bytes_eq};
-ghost use Rattle.indexmap.specs.IndexMap.{index_map_len};
+ghost use Rattle.indexmap.specs.IndexMap.{index_map_len, hasher_of};
 ghost use Rattle.toml.specs.View.{view, table_view, items_view};
 ghost use Rattle.sd_topotext.specs.Gives.{Gives, Fails};
-ghost use Rattle.sd_topo.specs.Seen.{links_seen, names_seen};
+ghost use Rattle.sd_plan.specs.topo.Seen.{links_seen, names_seen};
 ghost use Rattle.sd_topotext.specs.Meaning.{place, two, ends_in, delay_in, back_in, value, link_in, one_more_link, each_from, links_in};
 
 use super::names::{add, own_name, referred};
 use super::values::{SECOND, array_at, array_or_none, member, number_at, table_of};
 use crate::fault::{Key, Kind, Place, TopoFault};
-use indexmap::IndexMap;
-use sd_topo::{Delay, LinkEntry, Station};
+use sd_plan::topo::{Delay, LinkEntry, Names, Station, TextSeed};
 use std::alloc::Global;
 use toml::{Table, Value};
 
@@ -32,11 +31,7 @@ fn two(items: &[Value], place: Place) -> Result<(&Value, &Value), TopoFault>
 
 /// The numbers of a link's two ends, which differ.
 #[tactic(auto, unfolding(crate::specs::Meaning::ends_in))]
-fn ends_at(
-    devices: &IndexMap<String, Station>,
-    table: &Table,
-    entry: u32,
-) -> Result<(u32, u32), TopoFault>
+fn ends_at(devices: &Names<Station>, table: &Table, entry: u32) -> Result<(u32, u32), TopoFault>
     requires { index_map_len devices.now ≤ 4096 }
     ensures { Gives (λ p. p) result (ends_in (names_seen devices.now) entry
         (table_view table.now)) }
@@ -78,8 +73,8 @@ fn back_at(table: &Table, version: u32, forth: Delay, entry: u32) -> Result<Dela
 /// The link of an entry: its name, which is new, and the rest.
 #[tactic(auto, unfolding(crate::specs::Meaning::link_in))]
 fn link_at<'a>(
-    devices: &IndexMap<String, Station>,
-    links: &IndexMap<String, LinkEntry>,
+    devices: &Names<Station>,
+    links: &Names<LinkEntry>,
     item: &'a Value,
     version: u32,
     entry: u32,
@@ -110,8 +105,8 @@ fn link_at<'a>(
 #[tactic(auto, using(crate::proofs::Entries::one_more_link_seen, crate::proofs::Entries::links_added))]
 fn add_link(
     alloc: Global,
-    devices: &IndexMap<String, Station>,
-    links: &mut IndexMap<String, LinkEntry>,
+    devices: &Names<Station>,
+    links: &mut Names<LinkEntry>,
     item: &Value,
     version: u32,
 ) -> Result<(), TopoFault>
@@ -120,6 +115,7 @@ fn add_link(
     ensures ok { OnOk result (one_more_link version (names_seen devices.now)
         (links_seen links.old) (view item.now) ≡ Ok (links_seen links.new)) }
     ensures len { OnOk result (index_map_len links.new ≡ index_map_len links.old + 1) }
+    ensures hasher { OnOk result (hasher_of links.new ≡ hasher_of links.old) }
     ensures err { IfErr result (λ e. Fails e (one_more_link version (names_seen devices.now)
         (links_seen links.old) (view item.now))) }
 {
@@ -131,17 +127,19 @@ fn add_link(
 /// The links of all entries.
 fn all_links(
     alloc: Global,
-    devices: &IndexMap<String, Station>,
+    seed: TextSeed,
+    devices: &Names<Station>,
     items: &[Value],
     version: u32,
-) -> Result<IndexMap<String, LinkEntry>, TopoFault>
+) -> Result<Names<LinkEntry>, TopoFault>
     requires devices { index_map_len devices.now ≤ 4096 }
     requires few { length items.now ≤ 32768 }
     ensures given { Gives (λ m. links_seen m) result (each_from (one_more_link version
         (names_seen devices.now)) [] (items_view items.now)) }
     ensures len { IfOk result (λ m. index_map_len m ≡ length items.now) }
+    ensures hasher { IfOk result (λ m. hasher_of m ≡ seed) }
 {
-    let mut links = IndexMap::new(alloc);
+    let mut links = Names::with_hasher(alloc, seed);
     for item in items {
         match add_link(alloc, devices, &mut links, item, version) {
             Ok(()) => {}
@@ -155,18 +153,20 @@ fn all_links(
 #[tactic(auto, unfolding(crate::specs::Meaning::links_in), using(crate::proofs::Entries::count_of_items))]
 pub(super) fn links_at(
     alloc: Global,
-    devices: &IndexMap<String, Station>,
+    seed: TextSeed,
+    devices: &Names<Station>,
     table: &Table,
     version: u32,
-) -> Result<IndexMap<String, LinkEntry>, TopoFault>
+) -> Result<Names<LinkEntry>, TopoFault>
     requires { index_map_len devices.now ≤ 4096 }
     ensures given { Gives (λ m. links_seen m) result (links_in version (names_seen devices.now)
         (table_view table.now)) }
     ensures len { IfOk result (λ m. index_map_len m ≤ 32768) }
+    ensures hasher { IfOk result (λ m. hasher_of m ≡ seed) }
 {
     let items = array_or_none(table, Key::Link, 0)?;
     if items.len() > LINKS {
         return Err(TopoFault::Limit(Kind::Link));
     }
-    all_links(alloc, devices, items, version)
+    all_links(alloc, seed, devices, items, version)
 }

@@ -5,19 +5,22 @@ ghost use Rattle.std.specs.Str.{bytes_eq};
 ghost use Rattle.indexmap.specs.IndexMap.{index_map_len};
 ghost use Rattle.toml.specs.View.{view, table_view, items_view};
 ghost use Rattle.sd_topotext.specs.Gives.{Gives, Fails};
-ghost use Rattle.sd_topo.specs.Seen.{names_seen, Adds};
+ghost use Rattle.sd_plan.specs.topo.Seen.{names_seen, Adds};
 ghost use Rattle.sd_topotext.specs.Meaning.{own_name, referred, known, one_more, each_from};
 
 use super::values::{is_name, text_at, text_of};
 use crate::fault::{Key, Place, TopoFault};
-use indexmap::{IndexMap, IndexSet};
-use sd_topo::add_named;
+use indexmap::IndexSet;
+use sd_plan::topo::{Names, TextSeed, add_named};
 use std::alloc::Global;
 use toml::{Table, Value};
 
+/// Numbers of things in the order of an array.
+pub(super) type Listed = IndexSet<u32, TextSeed>;
+
 /// Whether a name is taken.
 #[tactic(auto, using(crate::proofs::Names::taken))]
-fn is_taken<V>(names: &IndexMap<String, V>, name: &str) -> bool
+fn is_taken<V>(names: &Names<V>, name: &str) -> bool
     ensures { result ≡ list_any (bytes_eq name.now) (names_seen names.now) }
 {
     names.contains_key(name)
@@ -26,7 +29,7 @@ fn is_taken<V>(names: &IndexMap<String, V>, name: &str) -> bool
 /// An entry's own name, within the limits of names and new among its kind.
 #[tactic(auto, unfolding(crate::specs::Meaning::own_name))]
 pub(super) fn own_name<'a, V>(
-    names: &IndexMap<String, V>,
+    names: &Names<V>,
     table: &'a Table,
     key: Key,
     entry: u32,
@@ -48,7 +51,7 @@ pub(super) fn own_name<'a, V>(
 /// Adds an entry with a new name.
 pub(super) fn add<V: Drop>(
     alloc: Global,
-    names: &mut IndexMap<String, V>,
+    names: &mut Names<V>,
     name: &str,
     value: V,
 ) -> Result<(), TopoFault>
@@ -65,11 +68,7 @@ pub(super) fn add<V: Drop>(
 
 /// The number of the device or link that an element of an array names.
 #[tactic(auto, unfolding(crate::specs::Meaning::referred), using(crate::proofs::Names::named_at))]
-pub(super) fn referred<V>(
-    names: &IndexMap<String, V>,
-    item: &Value,
-    place: Place,
-) -> Result<u32, TopoFault>
+pub(super) fn referred<V>(names: &Names<V>, item: &Value, place: Place) -> Result<u32, TopoFault>
     requires { index_map_len names.now < 2 ^ 32 }
     ensures given { Gives (λ n. n) result (referred place (names_seen names.now) (view item.now)) }
     ensures range { IfOk result (λ n. n < index_map_len names.now) }
@@ -84,8 +83,8 @@ pub(super) fn referred<V>(
 /// Lists the thing that an element names, which is new in its array.
 #[tactic(auto, unfolding(crate::specs::Meaning::one_more))]
 fn list_item<V>(
-    names: &IndexMap<String, V>,
-    listed: &mut IndexSet<u32>,
+    names: &Names<V>,
+    listed: &mut Listed,
     item: &Value,
     place: Place,
 ) -> Result<(), TopoFault>
@@ -106,15 +105,15 @@ fn list_item<V>(
 /// The numbers of the things that the elements name, in their order.
 pub(super) fn listed<V>(
     alloc: Global,
-    names: &IndexMap<String, V>,
+    names: &Names<V>,
     items: &[Value],
     place: Place,
-) -> Result<IndexSet<u32>, TopoFault>
+) -> Result<Listed, TopoFault>
     requires { index_map_len names.now < 2 ^ 32 }
     ensures { Gives (λ s. s.keys) result (each_from (one_more place (names_seen names.now)) []
         (items_view items.now)) }
 {
-    let mut listed = IndexSet::new(alloc);
+    let mut listed = Listed::with_hasher(alloc, *names.hasher());
     for item in items {
         match list_item(names, &mut listed, item, place) {
             Ok(()) => {}

@@ -4,7 +4,7 @@ ghost use Rattle.std.specs.List.{list_all};
 ghost use Rattle.toml.specs.Data.{as_integer, as_table, as_array, as_str, no_items};
 ghost use Rattle.toml.specs.View.{view, table_view, items_view};
 ghost use Rattle.sd_topotext.specs.Gives.{Gives};
-ghost use Rattle.sd_topo.specs.Network.{is_name, is_name_byte};
+ghost use Rattle.sd_plan.specs.topo.Network.{is_name, is_name_byte};
 ghost use Rattle.sd_topotext.specs.Meaning.{place, value, there, of_kind, in_range, number, number_or, text, array, array_or_none};
 
 use crate::fault::{Key, Place, TopoFault};

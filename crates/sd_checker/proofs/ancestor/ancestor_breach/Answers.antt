@@ -1,6 +1,6 @@
 use Rattle.std.proofs.Common.{◌≡◌, ℕ, None, find, subst, not, ap, sym, arith, length}
 use Rattle.sd_num.specs.Lists.{below}
-use Rattle.sd_topo.specs.Topologies.{network}
+use Rattle.sd_plan.specs.topo.Topologies.{network}
 use Rattle.sd_plan.specs.Structure.{is_no_ancestor}
 use Rattle.sd_num.proofs.Firsts.{find_below_here, find_below_more}
 use Rattle.sd_checker.proofs.ancestor.ancestor_breach.Goals as goal

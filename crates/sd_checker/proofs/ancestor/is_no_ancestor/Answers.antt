@@ -1,5 +1,5 @@
 use Rattle.std.proofs.Common.{not, sym, ap, ◌∙◌, arith}
-use Rattle.sd_topo.specs.Topologies.{network}
+use Rattle.sd_plan.specs.topo.Topologies.{network}
 use Rattle.sd_checker.proofs.Above.{backup_right, root_ancestor}
 use Rattle.sd_checker.proofs.ancestor.is_no_ancestor.Goals as goal
 

@@ -1,6 +1,6 @@
 use Rattle.std.proofs.Common.{not, sym, ap, ◌≡◌, false, ◌∙◌}
 use Rattle.std.proofs.lemmas.Bool.{ne_eqb}
-use Rattle.sd_topo.specs.Topologies.{network}
+use Rattle.sd_plan.specs.topo.Topologies.{network}
 use Rattle.sd_plan.specs.Plans.{is_root}
 use Rattle.sd_checker.proofs.Above.{above_by}
 use Rattle.sd_checker.proofs.ancestor.is_on_short_walk.Goals as goal

@@ -1,8 +1,8 @@
 use Rattle.std.proofs.Common.{◌≡◌, ℕ, ◌+◌, length, Option, sym, ◌∙◌, subst, arith}
-use Rattle.sd_domain.specs.Domains.{domains}
-use Rattle.sd_topo.specs.Topologies.{network}
+use Rattle.sd_plan.specs.domain.Domains.{domains}
+use Rattle.sd_plan.specs.topo.Topologies.{network}
 use Rattle.sd_plan.specs.declared.indexed.IndexedPlan.{IndexedPlan}
-use Rattle.sd_check_reach.specs.Searches.{HasRoom}
+use Rattle.sd_checker.specs.check_reach.Searches.{HasRoom}
 use Rattle.sd_checker.specs.declared.Breach.{Breach}
 use Rattle.sd_checker.specs.Findings.{IsFoundAmong, Judges}
 use Rattle.sd_checker.proofs.Breaches.{found_of_none, found_more, found_loop, found_no_more, found_of_all}

@@ -1,6 +1,6 @@
-use Rattle.sd_topo.specs.Topologies.{network}
-use Rattle.sd_check_hit.specs.Outages as outages
-use Rattle.sd_check_reach.specs.Searches as searches
+use Rattle.sd_plan.specs.topo.Topologies.{network}
+use Rattle.sd_checker.specs.check_hit.Outages as outages
+use Rattle.sd_checker.specs.check_reach.Searches as searches
 use Rattle.sd_checker.specs.Findings.{IsFoundAmong}
 use Rattle.sd_checker.proofs.hits.hit_breach.Given as goal
 

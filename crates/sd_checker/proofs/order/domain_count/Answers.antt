@@ -1,5 +1,5 @@
 use Rattle.std.proofs.Common.{arith}
-use Rattle.sd_topo.specs.Topologies.{network}
+use Rattle.sd_plan.specs.topo.Topologies.{network}
 use Rattle.sd_checker.proofs.DomainOrder.{length-domains}
 use Rattle.sd_checker.proofs.order.domain_count.Goals as goal
 

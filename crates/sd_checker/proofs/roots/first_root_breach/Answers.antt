@@ -1,7 +1,7 @@
 use Rattle.std.proofs.Common.{◌≡◌, length, sym, ◌∙◌, arith}
 use Rattle.std.proofs.lemmas.Option.{slice_get_within}
-use Rattle.sd_domain.specs.Domains.{domains}
-use Rattle.sd_topo.specs.Topologies.{network}
+use Rattle.sd_plan.specs.domain.Domains.{domains}
+use Rattle.sd_plan.specs.topo.Topologies.{network}
 use Rattle.sd_checker.specs.Conditions.{RootHolds}
 use Rattle.sd_checker.proofs.Breaches.{one_more}
 use Rattle.sd_checker.proofs.roots.first_root_breach.Goals as goal

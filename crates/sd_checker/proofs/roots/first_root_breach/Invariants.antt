@@ -1,8 +1,8 @@
 use Rattle.std.proofs.Common.{◌≡◌, ℕ, ◌<◌, Some}
 use Rattle.std.specs.Prelude.{slice_get}
-use Rattle.sd_domain.specs.Domains.{domains}
-use Rattle.sd_domain.specs.declared.DomainId.{DomainId}
-use Rattle.sd_topo.specs.Topologies.{network}
+use Rattle.sd_plan.specs.domain.Domains.{domains}
+use Rattle.sd_plan.specs.declared.domain.DomainId.{DomainId}
+use Rattle.sd_plan.specs.topo.Topologies.{network}
 use Rattle.sd_checker.specs.Conditions.{RootHolds}
 use Rattle.sd_checker.proofs.roots.first_root_breach.Given as goal
 

@@ -1,6 +1,6 @@
 use Rattle.std.proofs.Common.{◌≡◌, ◌++◌, [], ◌∷◌, string_bytes, sym, ap, subst, ◌∙◌}
 use Rattle.std.specs.Prelude.{IfOk}
-use Rattle.sd_topo.specs.Topologies.{network}
+use Rattle.sd_plan.specs.topo.Topologies.{network}
 use Rattle.sd_checker.specs.Named.{named}
 use Rattle.sd_checker.specs.Showing.{refused_by}
 use Rattle.sd_checker.proofs.Lines.{root_line, domain_line, loop_line, reach_line, if_ok}

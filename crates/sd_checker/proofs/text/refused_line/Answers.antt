@@ -1,5 +1,5 @@
 use Rattle.std.proofs.Common.{◌≡◌, string_bytes, sym, subst, ◌∙◌}
-use Rattle.sd_topo.specs.Topologies.{network}
+use Rattle.sd_plan.specs.topo.Topologies.{network}
 use Rattle.sd_checker.specs.Text.{refused_line}
 use Rattle.sd_checker.proofs.Lines.{structure_line, ancestor_line, timing_line}
 use Rattle.sd_checker.proofs.text.refused_line.Goals as goal

@@ -1,4 +1,4 @@
-use Rattle.sd_topo.specs.Topologies.{network}
+use Rattle.sd_plan.specs.topo.Topologies.{network}
 use Rattle.sd_ctl_top.proofs.Makes.{finding_makes}
 use Rattle.sd_ctl_top.proofs.finding.finding.Goals as goal
 

@@ -1,11 +1,11 @@
 use Rattle.std.proofs.Common.{ℕ, Some, subst}
-use Rattle.sd_topo.specs.Topologies.{network}
+use Rattle.sd_plan.specs.topo.Topologies.{network}
 use Rattle.sd_plan.specs.declared.Absent.{Absent}
 use Rattle.sd_plan.specs.declared.Plan.{Plan}
-use Rattle.sd_cmd_files.specs.Answering.{After}
-use Rattle.sd_cmd_files.specs.Inputs.{plan_in_file, absent_in_file}
-use Rattle.sd_cmd_files.specs.Writes.{IsAllowed}
-use Rattle.sd_cmd_files.proofs.Loading.{told_always, told_goes_on}
+use Rattle.sd_files.specs.Answering.{After}
+use Rattle.sd_files.specs.Inputs.{plan_in_file, absent_in_file}
+use Rattle.sd_files.specs.Writes.{IsAllowed}
+use Rattle.sd_files.proofs.Loading.{told_always, told_goes_on}
 use Rattle.sd_ctl_top.specs.Findings.{IsFinding, root_after}
 use Rattle.sd_ctl_top.proofs.renewal.renew_over.Goals as goal
 

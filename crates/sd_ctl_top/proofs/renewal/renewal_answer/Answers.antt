@@ -1,8 +1,8 @@
 use Rattle.std.proofs.Common.{Some}
-use Rattle.sd_topo.specs.Topologies.{network}
-use Rattle.sd_cmd_files.specs.Answering.{After}
-use Rattle.sd_cmd_files.specs.Inputs.{topology_of, plan_in_file, absent_in_file}
-use Rattle.sd_cmd_files.proofs.Loading.{told_goes_on}
+use Rattle.sd_plan.specs.topo.Topologies.{network}
+use Rattle.sd_files.specs.Answering.{After}
+use Rattle.sd_files.specs.Inputs.{topology_of, plan_in_file, absent_in_file}
+use Rattle.sd_files.proofs.Loading.{told_goes_on}
 use Rattle.sd_ctl_top.specs.Findings.{IsFinding, root_after}
 use Rattle.sd_ctl_top.proofs.renewal.renewal_answer.Goals as goal
 

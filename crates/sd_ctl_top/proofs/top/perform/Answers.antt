@@ -1,14 +1,13 @@
 use Rattle.std.proofs.Common.{[], ◌∷◌, ◌++◌, Some, ap, map, string_bytes, sym, ◌∙◌}
 use Rattle.std.specs.Prelude.{IsTrue}
-use Rattle.sd_cmd_files.proofs.Keeping.{keeps_for}
-use Rattle.sd_ctl_resume.specs.Resumes.{IsResuming}
-use Rattle.sd_ctl_top.specs.Bounded.{IsBounding}
+use Rattle.sd_files.proofs.Keeping.{keeps_for}
+use Rattle.sd_resume.specs.command.Resumes.{IsResuming}
 use Rattle.sd_ctl_top.specs.Findings.{IsRenewing, IsSearch}
 use Rattle.sd_ctl_top.specs.Parsed.{named}
 use Rattle.sd_ctl_top.specs.Words.{command_of, names_of}
-use Rattle.sd_ctl_top.specs.Words.Command.{Search, Renew, Bounds, Resume, Record, Merge}
+use Rattle.sd_ctl_top.specs.Words.Command.{Search, Renew, Bounds, Resume, Record, Merge, Version}
 use Rattle.sd_ctl_top.specs.declared.words.Command.{Command as Parsed}
-use Rattle.sd_ctl_top.proofs.Meeting.{made_once, meets, usage_meets}
+use Rattle.sd_ctl_top.proofs.Meeting.{made_once, meets, usage_meets, version_meets}
 use Rattle.sd_ctl_top.proofs.Served.{end_served, first_served, inner_served, last_served, middle_served, name_served, second_served, third_served}
 use Rattle.sd_ctl_top.proofs.top.perform.Goals as goal
 
@@ -59,14 +58,14 @@ pub returns-in-Some-Renew-clause-shelf : goal.returns-in-Some-Renew-clause-shelf
 returns-in-Some-Renew-clause-shelf g c =
     keeps_for g.S.Shelf _ _ _ _ c.write_answer-in-Some-Renew.ensures.shelf.1 c.write_answer-in-Some-Renew.ensures.shelf.0 c.renewal_answer-made.ensures.shelf
 
-pub bounds_answer-made-requires-clause-topology : goal.bounds_answer-made-requires-clause-topology
-bounds_answer-made-requires-clause-topology g c =
+pub print_texts-requires-clause-topology : goal.print_texts-requires-clause-topology
+print_texts-requires-clause-topology g c =
     first_served (λ name. IsTrue (g.S.Shelf.serves c.args.shelf.now name)) (names_of (command_of (map string_bytes c.args.words.now)))
     c.in-Some-Bounds.topology.now (c.in-Some-Bounds.plan.now ∷ [])
     (ap names_of (ap (λ (x : Parsed). Some (named x)) (sym c.in-Some-Bounds.field-0-is) ∙ c.in-Some-Bounds.ensures.is)) c.requires
 
-pub bounds_answer-made-requires-clause-plan : goal.bounds_answer-made-requires-clause-plan
-bounds_answer-made-requires-clause-plan g c =
+pub print_texts-requires-clause-plan : goal.print_texts-requires-clause-plan
+print_texts-requires-clause-plan g c =
     second_served (λ name. IsTrue (g.S.Shelf.serves c.args.shelf.now name)) (names_of (command_of (map string_bytes c.args.words.now)))
     c.in-Some-Bounds.topology.now c.in-Some-Bounds.plan.now []
     (ap names_of (ap (λ (x : Parsed). Some (named x)) (sym c.in-Some-Bounds.field-0-is) ∙ c.in-Some-Bounds.ensures.is)) c.requires
@@ -74,13 +73,7 @@ bounds_answer-made-requires-clause-plan g c =
 pub returns-in-Some-Bounds-clause-outcome : goal.returns-in-Some-Bounds-clause-outcome
 returns-in-Some-Bounds-clause-outcome g c =
     meets _ _ (Some (Bounds c.in-Some-Bounds.topology.now c.in-Some-Bounds.plan.now c.in-Some-Bounds.budget)) _ _ _
-    (ap (λ (x : Parsed). Some (named x)) (sym c.in-Some-Bounds.field-0-is) ∙ c.in-Some-Bounds.ensures.is)
-    (made_once _ (λ texts. IsBounding (texts c.in-Some-Bounds.topology.now) (texts c.in-Some-Bounds.plan.now) c.in-Some-Bounds.budget)
-    c.bounds_answer-made.result _ _ _ c.bounds_answer-made.ensures.makes c.write_answer-in-Some-Bounds.ensures.writes)
-
-pub returns-in-Some-Bounds-clause-shelf : goal.returns-in-Some-Bounds-clause-shelf
-returns-in-Some-Bounds-clause-shelf g c =
-    keeps_for g.S.Shelf _ _ _ _ c.write_answer-in-Some-Bounds.ensures.shelf.1 c.write_answer-in-Some-Bounds.ensures.shelf.0 c.bounds_answer-made.ensures.shelf
+    (ap (λ (x : Parsed). Some (named x)) (sym c.in-Some-Bounds.field-0-is) ∙ c.in-Some-Bounds.ensures.is) c.print_texts.ensures.outcome
 
 pub resume-made-requires-clause-topology : goal.resume-made-requires-clause-topology
 resume-made-requires-clause-topology g c =
@@ -164,3 +157,7 @@ returns-in-Some-Merge-clause-outcome g c =
 
 pub returns-in-None-clause-outcome : goal.returns-in-None-clause-outcome
 returns-in-None-clause-outcome g c = usage_meets _ _ _ _ _ c.in-None.ensures.is c.usage.ensures.outcome
+
+pub returns-in-Some-Version-clause-outcome : goal.returns-in-Some-Version-clause-outcome
+returns-in-Some-Version-clause-outcome g c =
+    version_meets _ _ _ _ _ (ap (λ (x : Parsed). Some (named x)) (sym c.in-Some-Version.field-0-is) ∙ c.in-Some-Version.ensures.is) c.version.ensures.outcome

@@ -1,8 +1,8 @@
 use Rattle.std.proofs.Common.{inl, map, refl, string_bytes}
-use Rattle.sd_cmd_files.specs.declared.Status.TheVariants.{ShelfFault, SinkFault}
-use Rattle.sd_cmd_files.specs.declared.command_error.IoError.TheVariants as stop
-use Rattle.sd_ctl_merge.proofs.Laws.{feed_is_merged}
-use Rattle.sd_ctl_record.proofs.Lawful.{log_is_recorded}
+use Rattle.sd_files.specs.declared.Status.TheVariants.{ShelfFault, SinkFault}
+use Rattle.sd_files.specs.declared.command_error.IoError.TheVariants as stop
+use Rattle.sd_record.proofs.merge.Laws.{feed_is_merged}
+use Rattle.sd_record.proofs.Lawful.{log_is_recorded}
 use Rattle.sd_ctl_top.specs.Words.{command_of}
 use Rattle.sd_ctl_top.proofs.Meeting.{ended_is, ended_rises, never_stopped, stopped_is, stopped_rises}
 use Rattle.sd_ctl_top.proofs.top.run.Goals as goal

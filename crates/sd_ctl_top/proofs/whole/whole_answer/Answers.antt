@@ -1,7 +1,7 @@
 use Rattle.std.proofs.Common.{[], None}
-use Rattle.sd_topo.specs.Topologies.{network}
-use Rattle.sd_cmd_files.specs.Inputs.{topology_of}
-use Rattle.sd_cmd_files.proofs.Loading.{told_goes_on, told_always}
+use Rattle.sd_plan.specs.topo.Topologies.{network}
+use Rattle.sd_files.specs.Inputs.{topology_of}
+use Rattle.sd_files.proofs.Loading.{told_goes_on, told_always}
 use Rattle.sd_ctl_top.specs.Findings.{IsFinding}
 use Rattle.sd_ctl_top.proofs.whole.whole_answer.Goals as goal
 

@@ -1,6 +1,6 @@
 use Rattle.std.proofs.Common.{◌∙◌, ◌+◌, ◌<◌, ℕ, List, get_or, sym, subst, ap, arith, length}
 use Rattle.std.proofs.lemmas.List.{length_push}
-use Rattle.sd_topo.specs.Topologies.{network}
+use Rattle.sd_plan.specs.topo.Topologies.{network}
 use Rattle.sd_drill.specs.Calm.{IsCalm}
 use Rattle.sd_drill.specs.declared.Budget.{Budget}
 use Rattle.sd_drill.proofs.Listing.{placed_more}

@@ -1,6 +1,6 @@
 use Rattle.std.proofs.Common.{◌≡◌, ℕ, ◌<◌, get_or, length}
 use Rattle.std.specs.Vec.{vec_capacity}
-use Rattle.sd_topo.specs.Topologies.{network}
+use Rattle.sd_plan.specs.topo.Topologies.{network}
 use Rattle.sd_drill.specs.Calm.{IsCalm}
 use Rattle.sd_drill.proofs.calm.calm_numbers.Given as goal
 

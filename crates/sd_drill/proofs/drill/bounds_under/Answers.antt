@@ -1,5 +1,5 @@
 use Rattle.std.proofs.Common.{◌∙◌}
-use Rattle.sd_checker.specs.CheckHit.Outages.{net_of, plan_of}
+use Rattle.sd_checker.specs.check_hit.Outages.{net_of, plan_of}
 use Rattle.sd_drill.proofs.recovery.Searching.{ready}
 use Rattle.sd_drill.proofs.drill.bounds_under.Goals as goal
 

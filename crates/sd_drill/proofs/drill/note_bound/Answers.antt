@@ -1,5 +1,5 @@
 use Rattle.std.proofs.Common.{ℕ, List, Option, sym, subst}
-use Rattle.sd_checker.specs.CheckHit.Outages.{net_of, plan_of}
+use Rattle.sd_checker.specs.check_hit.Outages.{net_of, plan_of}
 use Rattle.sd_plan.proofs.Forest.{forest_of}
 use Rattle.sd_drill.specs.Spared.{AreSparedBounds}
 use Rattle.sd_drill.proofs.recovery.Sparing.{bound_spared, bounds_noted}

@@ -1,5 +1,5 @@
 use Rattle.std.proofs.Common.{◌≡◌, ◌<◌, ◌≤◌, ◌+◌, ◌*◌, ◌^◌, length}
-use Rattle.sd_topo.specs.Topologies.{network}
+use Rattle.sd_plan.specs.topo.Topologies.{network}
 use Rattle.sd_plan.specs.Walks.{walk}
 use Rattle.sd_plan.proofs.Walking.{hops_left}
 use Rattle.sd_drill.specs.recovery.Walks.{halves}

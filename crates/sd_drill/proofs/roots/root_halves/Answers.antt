@@ -1,5 +1,5 @@
 use Rattle.std.proofs.Common.{◌∙◌, Option, IfSome, sym, subst}
-use Rattle.sd_topo.specs.Topologies.{network}
+use Rattle.sd_plan.specs.topo.Topologies.{network}
 use Rattle.sd_plan.specs.Plans.{IsHop}
 use Rattle.sd_plan.specs.Tables.{EndsAt}
 use Rattle.sd_plan.specs.declared.Hop.{Hop}

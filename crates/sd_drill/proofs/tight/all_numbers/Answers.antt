@@ -1,6 +1,6 @@
 use Rattle.std.proofs.Common.{◌∙◌, ◌+◌, ◌<◌, ℕ, List, Option, sym, subst, ap, arith, length}
 use Rattle.std.proofs.lemmas.List.{length_push}
-use Rattle.sd_checker.specs.CheckHit.Outages.{net_of, plan_of}
+use Rattle.sd_checker.specs.check_hit.Outages.{net_of, plan_of}
 use Rattle.sd_drill.specs.Bounds.{bound_at}
 use Rattle.sd_drill.specs.Tight.{IsTightListed}
 use Rattle.sd_drill.proofs.Listing.{listed_more}

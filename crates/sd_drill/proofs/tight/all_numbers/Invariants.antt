@@ -1,6 +1,6 @@
 use Rattle.std.proofs.Common.{◌≡◌, ℕ, ◌<◌, length}
 use Rattle.std.specs.Vec.{vec_capacity}
-use Rattle.sd_checker.specs.CheckHit.Outages.{net_of, plan_of}
+use Rattle.sd_checker.specs.check_hit.Outages.{net_of, plan_of}
 use Rattle.sd_drill.specs.Bounds.{bound_at}
 use Rattle.sd_drill.specs.Tight.{IsTightListed}
 use Rattle.sd_drill.specs.Tightening.{CanTighten}

@@ -2,7 +2,7 @@
 use Rattle.std.proofs.Common.{◌≤◌, filter, sym, ◌∙◌, ap, subst, if◌then◌else◌}
 use Rattle.std.specs.Prelude.{IsOk}
 use Rattle.std.specs.Result.{result_ok}
-use Rattle.sd_msg.specs.Books.{found, without, is_current}
+use Rattle.sd_device.specs.msg.Books.{found, without, is_current}
 use Rattle.sd_sched.specs.Events.{reference_of}
 use Rattle.sd_fleet.specs.Stepping.{CanDeliver, delivered, taken_from}
 use Rattle.sd_fleet.proofs.FabricKeeping.{found_still, still_kept, is_there, lost_ok}

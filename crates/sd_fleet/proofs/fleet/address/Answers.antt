@@ -1,9 +1,9 @@
 -- What an event asks of its device can be asked of it, and what is done is what the event does.
 use Rattle.std.proofs.Common.{refl, sym, ◌∙◌, ap}
 use Rattle.sd_sched.specs.declared.Event.TheVariants as event
-use Rattle.sd_core.specs.Calls as calls
-use Rattle.sd_fleet.specs.History.Steps as steps
-use Rattle.sd_fleet.specs.FleetState.membership.Memberships.{staged_number}
+use Rattle.sd_device.specs.Calls as calls
+use Rattle.sd_history.specs.Steps as steps
+use Rattle.sd_world.specs.membership.Memberships.{staged_number}
 use Rattle.sd_fleet.specs.Doing.{act_in, receipt}
 use Rattle.sd_fleet.proofs.Applying.{device_if, can_do, can_as, done, with_its_duty, numbers_made}
 use Rattle.sd_fleet.proofs.fleet.address.Goals as goal

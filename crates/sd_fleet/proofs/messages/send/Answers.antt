@@ -1,7 +1,7 @@
 -- What the named device sends is what a device sends that replies so.
 use Rattle.std.proofs.Common.{◌≡◌, ◌≤◌, ◌++◌, ◌+◌, List, length, filter, sym, ◌∙◌, ap, subst}
-use Rattle.sd_topo.specs.Topologies.{network}
-use Rattle.sd_msg.specs.declared.Flight.{Flight}
+use Rattle.sd_plan.specs.topo.Topologies.{network}
+use Rattle.sd_device.specs.declared.msg.Flight.{Flight}
 use Rattle.sd_fleet.specs.Registers.{kept}
 use Rattle.sd_fleet.specs.Sending.{sent_by, sent_in}
 use Rattle.sd_fleet.specs.Outcomes.{first_number}

@@ -1,10 +1,10 @@
 -- What is sent goes over the ends below the sender, which are sound; where there are none, nothing is.
 use Rattle.std.proofs.Common.{◌++◌, length, filter, sym, ◌∙◌, ap, subst, arith}
 use Rattle.std.proofs.lemmas.List.{append-nil}
-use Rattle.sd_topo.specs.Topologies.{network}
-use Rattle.sd_topo.specs.Network.{Each}
-use Rattle.sd_msg.specs.declared.Flight.{Flight}
-use Rattle.sd_fleet_state.specs.membership.Plans.{IsEnd}
+use Rattle.sd_plan.specs.topo.Topologies.{network}
+use Rattle.sd_plan.specs.topo.Network.{Each}
+use Rattle.sd_device.specs.declared.msg.Flight.{Flight}
+use Rattle.sd_world.specs.membership.Plans.{IsEnd}
 use Rattle.sd_fleet.specs.Registers.{kept}
 use Rattle.sd_fleet.specs.Outcomes.{first_number}
 use Rattle.sd_fleet.proofs.FabricKeeping.{ends_sound}

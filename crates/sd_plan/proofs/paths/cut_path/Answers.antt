@@ -1,6 +1,6 @@
 use Rattle.std.proofs.Common.{sym, ap, ◌∙◌, ◌++◌, List, arith}
-use Rattle.sd_topo.specs.declared.Thing.{Thing}
-use Rattle.sd_topo.specs.Topologies.{network}
+use Rattle.sd_plan.specs.declared.topo.Thing.{Thing}
+use Rattle.sd_plan.specs.topo.Topologies.{network}
 use Rattle.sd_plan.specs.Cuts.{ends_at}
 use Rattle.sd_plan.proofs.Steps.{goes_on, goes_with, primary_within}
 use Rattle.sd_plan.proofs.paths.cut_path.Goals as goal

@@ -1,5 +1,5 @@
 use Rattle.std.proofs.Common.{◌≡◌, ◌<◌, ◌++◌, length}
-use Rattle.sd_topo.specs.Topologies.{network}
+use Rattle.sd_plan.specs.topo.Topologies.{network}
 use Rattle.sd_plan.specs.Cuts.{ends_at}
 use Rattle.sd_plan.specs.Walks.{things_of, hops}
 use Rattle.sd_plan.proofs.paths.cut_path.Given as goal

@@ -1,6 +1,6 @@
 use Rattle.std.proofs.Common.{IfSome, subst, sym, ap, ◌∙◌, arith}
 use Rattle.std.proofs.lemmas.Bool.{ne_eqb}
-use Rattle.sd_topo.specs.Topologies.{network}
+use Rattle.sd_plan.specs.topo.Topologies.{network}
 use Rattle.sd_plan.specs.Plans.{IsHop}
 use Rattle.sd_plan.proofs.Walking.{walks_on}
 use Rattle.sd_plan.proofs.Rules.{hops_within}

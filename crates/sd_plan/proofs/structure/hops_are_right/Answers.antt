@@ -1,5 +1,5 @@
 use Rattle.std.proofs.Common.{IfSome, subst, sym}
-use Rattle.sd_topo.specs.Topologies.{network}
+use Rattle.sd_plan.specs.topo.Topologies.{network}
 use Rattle.sd_plan.specs.Plans.{IsHop}
 use Rattle.sd_plan.proofs.Rules.{hops_within}
 use Rattle.sd_plan.proofs.structure.hops_are_right.Goals as goal

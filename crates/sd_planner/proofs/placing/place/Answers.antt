@@ -8,7 +8,7 @@ use Rattle.sd_planner.specs.Trees.{Grows, IsTree}
 use Rattle.sd_planner.proofs.Growing.{both_parts_tree, placed_grows}
 use Rattle.sd_planner.proofs.placing.place.Goals as goal
 
--- so many devices, placed so
+-- this many devices, placed so
 abbrev placing_of : List Placed → ℕ → Placements
 placing_of list n = record { order = list; count = n }
 

@@ -12,7 +12,7 @@ use Rattle.sd_planner.proofs.Growing.{with_backup_root_tree, grows_known, backup
 use Rattle.sd_planner.proofs.Steps.{flag_tells, flags_fresh, flags_count, found_there}
 use Rattle.sd_planner.proofs.placing.place_backup_part.Goals as goal
 
--- so many devices, placed so
+-- this many devices, placed so
 abbrev placing_of : List Placed → ℕ → Placements
 placing_of list n = record { order = list; count = n }
 

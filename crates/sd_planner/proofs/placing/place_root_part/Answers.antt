@@ -12,7 +12,7 @@ use Rattle.sd_planner.proofs.placing.place_root_part.Goals as goal
 abbrev with_more : Placements → List Placed → Placements
 with_more p more = record { order = p.order ++ more; count = p.count }
 
--- nothing placed of so many devices
+-- nothing placed of this many devices
 abbrev none_of : ℕ → Placements
 none_of n = record { order = []; count = n }
 

@@ -1,7 +1,7 @@
 use Rattle.std.proofs.Common.{◌≡◌, ◌≤◌, length, subst, sym, arith}
 use Rattle.sd_num.specs.Numbers.{low}
 use Rattle.sd_num.specs.declared.Rates.{Rates}
-use Rattle.sd_topo.specs.Topologies.{network}
+use Rattle.sd_plan.specs.topo.Topologies.{network}
 use Rattle.sd_planner.proofs.Least.{IsLeastOf, least_more, least_is}
 use Rattle.sd_planner.proofs.waits.least_wait.Goals as goal
 

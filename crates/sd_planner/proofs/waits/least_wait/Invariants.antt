@@ -1,4 +1,4 @@
-use Rattle.sd_topo.specs.Topologies.{network}
+use Rattle.sd_plan.specs.topo.Topologies.{network}
 use Rattle.sd_planner.proofs.Least.{IsLeastOf}
 use Rattle.sd_planner.proofs.waits.least_wait.Given as goal
 

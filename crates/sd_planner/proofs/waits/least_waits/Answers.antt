@@ -1,5 +1,5 @@
 use Rattle.std.proofs.Common.{arith}
-use Rattle.sd_topo.specs.Topologies.{network}
+use Rattle.sd_plan.specs.topo.Topologies.{network}
 use Rattle.sd_planner.proofs.Bounds.{silence_bound}
 use Rattle.sd_planner.proofs.waits.least_waits.Goals as goal
 

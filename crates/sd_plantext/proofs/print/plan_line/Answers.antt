@@ -3,7 +3,7 @@ use Rattle.std.proofs.lemmas.Result.{IfOk-weaker}
 use Rattle.serde_json.specs.Data.{Data, depth}
 use Rattle.serde_json.specs.Read.{max_depth}
 use Rattle.serde_json.specs.Written.{compact_text}
-use Rattle.sd_topo.specs.Topologies.{network}
+use Rattle.sd_plan.specs.topo.Topologies.{network}
 use Rattle.sd_plantext.specs.Meaning.{plan_of}
 use Rattle.sd_plantext.specs.PrintedTree.{IsPlain}
 use Rattle.sd_plantext.proofs.ReadBack.{plan_read_back}

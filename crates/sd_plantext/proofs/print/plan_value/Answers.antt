@@ -1,5 +1,5 @@
 use Rattle.std.proofs.Common.{length}
-use Rattle.sd_topo.specs.Topologies.{network}
+use Rattle.sd_plan.specs.topo.Topologies.{network}
 use Rattle.sd_plantext.proofs.Shape.{absent_within}
 use Rattle.sd_plantext.proofs.print.plan_value.Goals as goal
 

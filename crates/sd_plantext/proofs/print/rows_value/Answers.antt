@@ -1,6 +1,6 @@
 use Rattle.std.proofs.Common.{◌<◌, length, ap, ◌∙◌, arith, map}
 use Rattle.serde_json.specs.View.{view}
-use Rattle.sd_topo.specs.Topologies.{network}
+use Rattle.sd_plan.specs.topo.Topologies.{network}
 use Rattle.sd_plantext.proofs.Listed.{row_at, rows_more}
 use Rattle.sd_plantext.proofs.print.rows_value.Goals as goal
 

@@ -1,5 +1,5 @@
 use Rattle.serde_json.specs.View.{view}
-use Rattle.sd_topo.specs.Topologies.{network}
+use Rattle.sd_plan.specs.topo.Topologies.{network}
 use Rattle.sd_plantext.proofs.Sound.{plan_ok}
 use Rattle.sd_plantext.proofs.read.read_plan.Goals as goal
 

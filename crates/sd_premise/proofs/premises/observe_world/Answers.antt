@@ -1,6 +1,6 @@
 use Rattle.std.proofs.Common.{sym, ap, ◌∙◌}
-use Rattle.sd_fleet_state.specs.world.Registers.{registers_closed}
-use Rattle.sd_premise_clocks.specs.Sights.{sight_of}
+use Rattle.sd_world.specs.world.Registers.{registers_closed}
+use Rattle.sd_monitors.specs.clocks.Sights.{sight_of}
 use Rattle.sd_premise.proofs.Worlds.{world_stands, world_closed, world_open}
 use Rattle.sd_premise.proofs.premises.observe_world.Goals as goal
 

@@ -1,6 +1,6 @@
 -- What is kept answers for loops and roots of the history, before the event and after it.
 use Rattle.std.proofs.Common.{◌∷◌, sym, ap, ◌∙◌}
-use Rattle.sd_watch.specs.Watch.{two_least}
+use Rattle.sd_replay.specs.watch.Watch.{two_least}
 use Rattle.sd_history.specs.Nodes.{steps_of}
 use Rattle.sd_history.specs.Lines.{first_on_loop, roots}
 use Rattle.sd_replay.proofs.Others.{steps_know}

@@ -1,7 +1,7 @@
 use Rattle.std.proofs.Common.{◌≡◌, Bool, true, not, ◌||◌, sym, ◌∙◌, subst}
 use Rattle.std.proofs.lemmas.Bool.{or_parts, not-false}
-use Rattle.sd_fleet.specs.History.World.{setting_over, is_untouched}
-use Rattle.sd_premise_clocks.specs.Tickings.{TickKept, TickStands}
+use Rattle.sd_history.specs.World.{setting_over, is_untouched}
+use Rattle.sd_monitors.specs.clocks.Tickings.{TickKept, TickStands}
 use Rattle.sd_resume.proofs.honesty.compare_device.Goals as goal
 
 pub returns-then-not-knows_as_much-clause-differs : goal.returns-then-not-knows_as_much-clause-differs

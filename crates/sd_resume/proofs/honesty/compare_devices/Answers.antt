@@ -1,5 +1,5 @@
 use Rattle.std.proofs.Common.{◌≡◌, ℕ, ◌<◌, ◌≤◌, arith, below_more}
-use Rattle.sd_fleet.specs.History.World.{setting_over}
+use Rattle.sd_history.specs.World.{setting_over}
 use Rattle.sd_resume.specs.Honesty.{IsHonestAt, devices_of_both}
 use Rattle.sd_resume.proofs.honesty.compare_devices.Goals as goal
 

@@ -1,5 +1,5 @@
 use Rattle.std.proofs.Common.{◌≡◌, ℕ, ◌<◌, ◌≤◌, arith, below_more}
-use Rattle.sd_topo.specs.declared.Thing.TheVariants.{Link}
+use Rattle.sd_plan.specs.declared.topo.Thing.TheVariants.{Link}
 use Rattle.sd_resume.specs.Honesty.{failed_since, links_of_both}
 use Rattle.sd_resume.proofs.honesty.compare_links.Goals as goal
 

@@ -1,7 +1,7 @@
 use Rattle.std.proofs.Common.{sym, ◌∙◌, ap}
 use Rattle.std.proofs.lemmas.Bool.{leb-true, leb-false}
-use Rattle.sd_fleet_state.specs.world.Registers.{Registers, up_at}
-use Rattle.sd_fleet.specs.History.Premises.{latest_tick}
+use Rattle.sd_world.specs.world.Registers.{Registers, up_at}
+use Rattle.sd_history.specs.Premises.{latest_tick}
 use Rattle.sd_resume.proofs.Honest.{up_is, life_honest}
 use Rattle.sd_resume.proofs.honesty.compare_lives.Goals as goal
 

@@ -1,5 +1,5 @@
 use Rattle.std.proofs.Common.{sym, ◌∙◌}
-use Rattle.sd_fleet.specs.History.World.{setting_over}
+use Rattle.sd_history.specs.World.{setting_over}
 use Rattle.sd_resume.proofs.Honest.{is_honest}
 use Rattle.sd_resume.proofs.honesty.is_honest.Goals as goal
 

@@ -1,6 +1,6 @@
 use Rattle.std.proofs.Common.{◌≡◌, Bool, true, false, not, ◌||◌, refl, sym, ◌∙◌}
-use Rattle.sd_proof_resume.specs.Law.{whole}
-use Rattle.sd_fleet.specs.History.World.{setting_over}
+use Rattle.sd_resume.specs.law.Law.{whole}
+use Rattle.sd_history.specs.World.{setting_over}
 use Rattle.sd_resume.proofs.honesty.knows_as_much.Goals as goal
 
 where_first : (a b : Bool) → b ≡ true → b ≡ (not a || b)

@@ -1,5 +1,5 @@
 use Rattle.std.proofs.Common.{◌≤◌, arith}
-use Rattle.sd_fleet.specs.History.Nodes.{steps_of}
+use Rattle.sd_history.specs.Nodes.{steps_of}
 use Rattle.sd_resume.proofs.Sending.{none_before, none_next}
 use Rattle.sd_resume.proofs.messages.first_on_its_way.Goals as goal
 

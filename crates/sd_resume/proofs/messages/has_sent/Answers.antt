@@ -1,6 +1,6 @@
 use Rattle.std.proofs.Common.{◌<◌, sym, ◌∙◌, ap, not, arith}
-use Rattle.sd_fleet.specs.History.Nodes.{steps_of}
-use Rattle.sd_fleet.specs.History.Steps.{flight_count}
+use Rattle.sd_history.specs.Nodes.{steps_of}
+use Rattle.sd_history.specs.Steps.{flight_count}
 use Rattle.sd_resume.proofs.Sending.{no_more_by, too_few_by, fewer_by}
 use Rattle.sd_resume.proofs.messages.has_sent.Goals as goal
 

@@ -1,6 +1,6 @@
 use Rattle.std.proofs.Common.{◌≤◌, ap, ◌∙◌, not, arith}
-use Rattle.sd_fleet.specs.History.Nodes.{steps_of}
-use Rattle.sd_fleet.specs.History.flights.Flights.{says_unknown}
+use Rattle.sd_history.specs.Nodes.{steps_of}
+use Rattle.sd_history.specs.flights.Flights.{says_unknown}
 use Rattle.sd_resume.proofs.Sending.{known_is_sent}
 use Rattle.sd_resume.proofs.messages.has_sent_some.Goals as goal
 

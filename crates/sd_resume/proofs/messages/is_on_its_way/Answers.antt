@@ -1,5 +1,5 @@
 use Rattle.std.proofs.Common.{sym, ◌∙◌}
-use Rattle.sd_fleet.specs.History.Nodes.{steps_of}
+use Rattle.sd_history.specs.Nodes.{steps_of}
 use Rattle.sd_resume.proofs.Sending.{found_on_its_way, not_found_is_spent}
 use Rattle.sd_resume.proofs.messages.is_on_its_way.Goals as goal
 

@@ -1,5 +1,5 @@
 use Rattle.std.proofs.Common.{◌≤◌, ◌*◌, ◌^◌, ap, arith}
-use Rattle.sd_fleet_state.specs.world.Registers.{Registers}
+use Rattle.sd_world.specs.world.Registers.{Registers}
 use Rattle.sd_resume.proofs.messages.most_sent.Goals as goal
 
 pub returns-clause-most : goal.returns-clause-most

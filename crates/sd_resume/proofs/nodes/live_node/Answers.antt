@@ -1,6 +1,6 @@
 use Rattle.std.proofs.Common.{◌≡◌, Some, Bor, option_map, sym, ◌∙◌, ap, arith}
-use Rattle.sd_core.specs.declared.registers.Registers.{Registers}
-use Rattle.sd_core.specs.contracts.device.DeviceNode.TheImpl.{ghosts as device}
+use Rattle.sd_device.specs.declared.registers.Registers.{Registers}
+use Rattle.sd_device.specs.contracts.device.DeviceNode.TheImpl.{ghosts as device}
 use Rattle.sd_fleet.specs.Nodes.{node_at}
 use Rattle.sd_fleet.specs.Bounds.{IsKept}
 use Rattle.sd_resume.proofs.nodes.live_node.Goals as goal

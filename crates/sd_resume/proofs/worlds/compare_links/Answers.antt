@@ -1,7 +1,7 @@
 use Rattle.std.proofs.Common.{◌≡◌, Bool, true, false, not, refl, sym, ◌∙◌, ap, below_more}
 use mathlib.Core.Bool.{beq}
-use Rattle.sd_topo.specs.declared.Thing.TheVariants.{Link}
-use Rattle.sd_fleet_state.specs.world.Registers.{Registers, failed_at}
+use Rattle.sd_plan.specs.declared.topo.Thing.TheVariants.{Link}
+use Rattle.sd_world.specs.world.Registers.{Registers, failed_at}
 use Rattle.sd_resume.specs.Fleets.{world_of}
 use Rattle.sd_resume.proofs.worlds.compare_links.Goals as goal
 

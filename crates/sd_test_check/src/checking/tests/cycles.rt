@@ -1,15 +1,15 @@
 //! Loops over a square with one diagonal, which is read.
 ghost use Rattle.std.specs.Prelude.{◌≡◌};
-ghost use Rattle.sd_check_loop.specs.Domain.Lone.{IsDomain};
-ghost use Rattle.sd_test_examples.specs.Plan.Examples as examples;
-ghost use Rattle.sd_test_examples.specs.Plan.Examples.{IsSquare};
-ghost use Rattle.sd_test_examples.specs.Topo.Topologies.{network};
+ghost use Rattle.sd_plan.specs.domain.Lone.{IsDomain};
+ghost use Rattle.sd_plan.specs.Examples as examples;
+ghost use Rattle.sd_plan.specs.Examples.{IsSquare};
+ghost use Rattle.sd_plan.specs.topo.Topologies.{network};
 
-use sd_check_loop::loop_breach;
-use sd_domain::DomainId::{self, Link, Listed};
-use sd_test_examples::num::NoMemory;
-use sd_test_examples::plan::{DeviceList, Plan};
-use sd_test_examples::topo::Topology;
+use sd_checker::check_loop::loop_breach;
+use sd_num::NoMemory;
+use sd_plan::domain::DomainId::{self, Link, Listed};
+use sd_plan::topo::Topology;
+use sd_plan::{DeviceList, Plan};
 use sd_test_examples::{square, square_plan};
 use std::alloc::Global;
 use std::process::Abort;

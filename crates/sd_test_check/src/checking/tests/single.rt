@@ -1,21 +1,21 @@
 //! The four conditions on domains, each asked of one domain by itself: a call makes its own index.
 ghost use Rattle.std.specs.Prelude.{◌≡◌, None, IsTrue};
-ghost use Rattle.sd_check_loop.specs.Domain.Lone.{IsDomain};
-ghost use Rattle.sd_test_examples.specs.Plan.Plans.{Fits};
-ghost use Rattle.sd_test_examples.specs.Plan.Structure as structure;
-ghost use Rattle.sd_test_examples.specs.Topo.Topologies.{network};
+ghost use Rattle.sd_plan.specs.domain.Lone.{IsDomain};
+ghost use Rattle.sd_plan.specs.Plans.{Fits};
+ghost use Rattle.sd_plan.specs.Structure as structure;
+ghost use Rattle.sd_plan.specs.topo.Topologies.{network};
 
 use super::Tally;
 use crate::plain::{
     CONDITIONS, Condition, Domain, Plain, Said, Setup, counted_case, has_domain, plan_of,
     topology_of,
 };
-use sd_check_loop::loop_breach;
-use sd_check_reach::{domain_breach, reach_breach};
-use sd_check_root::root_breach;
-use sd_domain::DomainId;
-use sd_test_examples::plan::{Plan, structure_breach};
-use sd_test_examples::topo::Topology;
+use sd_checker::check_loop::loop_breach;
+use sd_checker::check_reach::{domain_breach, reach_breach};
+use sd_checker::check_root::root_breach;
+use sd_plan::domain::DomainId;
+use sd_plan::topo::Topology;
+use sd_plan::{Plan, structure_breach};
 use std::alloc::{AllocError, Global};
 use std::process::Abort;
 use std::test::Fail;

@@ -1,7 +1,7 @@
 //! Cases whose verdicts were found by hand.
 use crate::plain::{Change, FABRIC, LADDER, MESH, RING, SQUARE, Shape, TRIANGLE};
-use sd_test_examples::plan::{Hop, PlanRow};
-use sd_test_examples::topo::Thing;
+use sd_plan::topo::Thing;
+use sd_plan::{Hop, PlanRow};
 
 /// A network, what is changed in it, and how the line ends that is due.
 pub(super) type Worked = (Shape, &'static [Change], &'static str);

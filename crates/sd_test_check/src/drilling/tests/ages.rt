@@ -1,8 +1,8 @@
 //! Ages beside a search over all advances.
-ghost use Rattle.sd_drill.specs.Topo.Limits.{IsRates};
+ghost use Rattle.sd_plan.specs.topo.Limits.{IsRates};
 
 use sd_drill::ages::{ageing, oldest};
-use sd_test_examples::num::{Rates, low};
+use sd_num::{Rates, low};
 use std::test::Fail;
 
 /// The greatest advance of a counter, up to 4000 ps, whose least reference time is at most `s`.

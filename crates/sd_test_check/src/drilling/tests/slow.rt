@@ -1,8 +1,8 @@
 //! The bounds of the drill by their definition: over walks of one hop, of two, and so on.
 use crate::plain::{Domain, Plain, Rule, error_of, low_of};
 use sd_drill::Budget;
-use sd_test_examples::num::Rates;
-use sd_test_examples::plan::Hop;
+use sd_num::Rates;
+use sd_plan::Hop;
 use std::alloc::{AllocError, Global};
 
 /// What the walks from a device reach.
@@ -41,7 +41,7 @@ fn walk_halves(plain: &Plain, from: u32) -> u128 {
     sum
 }
 
-/// The sum of halves over a hop and the walk behind it.
+/// The sum of halves over a hop and the walk after it.
 fn halves_over(plain: &Plain, hop: Option<Hop>) -> u128 {
     match hop {
         Some(hop) => half(plain, hop.link).saturating_add(walk_halves(plain, hop.parent)),
@@ -82,7 +82,7 @@ fn longer(
     Ok(sums)
 }
 
-/// What a device reaches by walks of so many hops too.
+/// What a device reaches by walks of this many hops too.
 fn with_walks(reach: Reach, long: u32, walks: &[Option<u128>], d: usize) -> Reach {
     match walks.get(d) {
         Some(Some(far)) => Reach {
@@ -113,7 +113,7 @@ fn reaches(plain: &Plain, f: &Domain) -> Result<Vec<Reach>, AllocError> {
     Ok(reaches)
 }
 
-/// For how long a device whose walks have so many hops may have heard nothing new.
+/// For how long a device whose walks have this many hops may have heard nothing new.
 fn quiet(plain: &Plain, hops: u32) -> u128 {
     let tick = u128::from(plain.params.tick);
     let noticed = plain.silence();

@@ -1,8 +1,8 @@
 //! Generated reports, beside a plain program that looks at all pairs of transactions each time.
-use sd_clock::Report;
-use sd_msg::Observer;
+use sd_device::msg::Observer;
 use sd_num::NoMemory;
-use sd_wait::{WaitTally, Waits};
+use sd_num::clock::Report;
+use sd_replay::wait::{WaitTally, Waits};
 use std::alloc::{AllocError, Global};
 use std::process::Abort;
 use std::test::Fail;
@@ -35,7 +35,7 @@ struct AllPairs {
 }
 
 impl AllPairs {
-    /// The place of the first report behind one that ends its transaction.
+    /// The place of the first report after one that ends its transaction.
     fn end_of(&self, i: usize) -> Option<usize> {
         let begin = *self.told.get(i)?;
         for (j, end) in self.told.iter().enumerate() {

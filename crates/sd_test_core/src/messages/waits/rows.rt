@@ -1,9 +1,9 @@
 //! Transactions worked out by hand.
 use crate::same::assert_same;
-use sd_clock::Report;
-use sd_msg::Observer;
+use sd_device::msg::Observer;
 use sd_num::NoMemory;
-use sd_wait::{WaitTally, Waits};
+use sd_num::clock::Report;
+use sd_replay::wait::{WaitTally, Waits};
 use std::alloc::Global;
 use std::process::Abort;
 use std::test::Fail;

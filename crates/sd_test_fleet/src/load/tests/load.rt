@@ -1,11 +1,11 @@
 //! The events of rounds.
 ghost use Rattle.std.specs.Prelude.{◌≤◌, ◌^◌, IsTrue};
-ghost use Rattle.sd_test_fleet_kit.specs.Sched.Spelled.{is_within};
+ghost use Rattle.sd_sched.specs.Spelled.{is_within};
 
 use super::network::{DELAY, DEVICES, PERIOD};
-use sd_test_fleet_kit::device::Device;
-use sd_test_fleet_kit::fleet::{Fleet, Outcome};
-use sd_test_fleet_kit::sched::Event;
+use sd_device::Device;
+use sd_fleet::{Fleet, Outcome};
+use sd_sched::Event;
 use std::alloc::Global;
 use std::test::Fail;
 

@@ -1,10 +1,10 @@
 //! The causes for which an event is refused.
 
-use sd_test_fleet_kit::fleet::ApplyFault;
-use sd_test_fleet_kit::fleet_state::world::{failure_of, link_of, mended, message_of};
+use sd_fleet::ApplyFault;
+use sd_plan::topo::Thing;
+use sd_sched::Event;
 use sd_test_fleet_kit::plain::{Plain, Stage, Subject};
-use sd_test_fleet_kit::sched::Event;
-use sd_test_fleet_kit::topo::Thing;
+use sd_world::world::{failure_of, link_of, mended, message_of};
 
 /// Whether the event makes its device.
 fn makes(event: &Event) -> bool {

@@ -1,10 +1,10 @@
 //! Lines drawn by lot, most of which can happen after a history.
 
+use sd_plan::topo::Thing;
 use sd_test_fleet_kit::plain::{Numbers, Plain, Stage, Subject, Turn};
-use sd_test_fleet_kit::topo::Thing;
 use std::alloc::{AllocError, Global};
 
-/// What a line names behind its word and its reference.
+/// What a line names after its word and its reference.
 #[derive(Clone, Copy)]
 pub(super) enum Named {
     /// A device whose clock is set.

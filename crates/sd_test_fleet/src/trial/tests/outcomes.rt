@@ -1,10 +1,10 @@
 //! What comes of an accepted event.
 
-use sd_test_fleet_kit::clock::Report;
-use sd_test_fleet_kit::fleet::Outcome;
-use sd_test_fleet_kit::msg::{Flight, TakeFault};
+use sd_device::msg::{Flight, TakeFault};
+use sd_fleet::Outcome;
+use sd_num::clock::Report;
+use sd_sched::Event;
 use sd_test_fleet_kit::plain::Plain;
-use sd_test_fleet_kit::sched::Event;
 use std::alloc::AllocError;
 
 /// How the message with a number stands.

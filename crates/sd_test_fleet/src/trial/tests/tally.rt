@@ -1,6 +1,6 @@
 //! How often each kind of thing came in all histories.
 
-use sd_test_fleet_kit::fleet::{ApplyFault, Outcome};
+use sd_fleet::{ApplyFault, Outcome};
 use sd_test_fleet_kit::plain::Transition;
 
 /// The words of lines, in the order of their counts.

@@ -1,11 +1,11 @@
 //! An event happens in a fleet by a quick way, where it has one.
 ghost use Rattle.std.specs.Prelude.{IsTrue};
-ghost use Rattle.sd_test_fleet_kit.specs.Sched.declared.Event.TheVariants as events_of;
-ghost use Rattle.sd_test_fleet_kit.specs.Sched.Spelled.{is_within};
+ghost use Rattle.sd_sched.specs.declared.Event.TheVariants as events_of;
+ghost use Rattle.sd_sched.specs.Spelled.{is_within};
 
-use sd_test_fleet_kit::device::Node;
-use sd_test_fleet_kit::fleet::{Fleet, Outcome};
-use sd_test_fleet_kit::sched::Event;
+use sd_device::Node;
+use sd_fleet::{Fleet, Outcome};
+use sd_sched::Event;
 use std::alloc::Global;
 use std::test::Fail;
 

@@ -1,14 +1,16 @@
 //! Each monitor at its bound and just past it.
 ghost use Rattle.std.specs.Prelude.{◌≡◌, ◌<◌, ◌^◌, Some, length};
 ghost use Rattle.sd_sched.specs.Events.{device_of};
-ghost use Rattle.sd_test_examples.specs.Topo.Topologies.{network};
+ghost use Rattle.sd_plan.specs.topo.Topologies.{network};
 
-use sd_fleet_state::world::World;
-use sd_msg::{Flight, Message, Stamp};
-use sd_premise_clocks::{DelayMonitor, DriftMonitor, PresentRows, Seen, StartMonitor, TickMonitor};
+use sd_device::msg::{Flight, Message, Stamp};
+use sd_monitors::clocks::{
+    DelayMonitor, DriftMonitor, PresentRows, Seen, StartMonitor, TickMonitor,
+};
+use sd_plan::topo::Topology;
 use sd_sched::Event;
-use sd_test_examples::topo::Topology;
 use sd_test_examples::{TRIANGLE, topology_of};
+use sd_world::world::World;
 use std::process::Abort;
 use std::test::Fail;
 

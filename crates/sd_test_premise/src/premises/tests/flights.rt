@@ -1,9 +1,9 @@
 //! Each structure by a few of its calls.
 
-use sd_msg::Stamp;
-use sd_premise_loss::flights::{Interruptions, Runs, Waiting, WaitingFlight};
-use sd_test_examples::num::NoMemory;
-use sd_test_examples::topo::Thing;
+use sd_device::msg::Stamp;
+use sd_monitors::loss::flights::{Interruptions, Runs, Waiting, WaitingFlight};
+use sd_num::NoMemory;
+use sd_plan::topo::Thing;
 use std::alloc::Global;
 use std::process::Abort;
 use std::test::Fail;

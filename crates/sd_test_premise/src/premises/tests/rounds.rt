@@ -1,13 +1,13 @@
 //! Short schedules at each boundary of the premise of loss. Up to two consecutive rounds of one
 //! term may be spoiled, and each flight is due 10 after it is sent.
 
-use sd_fleet_state::world::failure_of;
-use sd_msg::{Flight, Message, Stamp};
-use sd_premise_loss::rounds::Rounds;
+use sd_device::msg::{Flight, Message, Stamp};
+use sd_monitors::loss::rounds::Rounds;
+use sd_num::NoMemory;
+use sd_plan::topo::{Thing, Topology};
 use sd_sched::Event;
-use sd_test_examples::num::NoMemory;
-use sd_test_examples::topo::{Thing, Topology};
 use sd_test_examples::topology_of;
+use sd_world::world::failure_of;
 use std::alloc::Global;
 use std::process::Abort;
 use std::test::Fail;

@@ -1,6 +1,6 @@
 //! The lines of events, written out by hand.
-use sd_clock::Report;
 use sd_history::BrokenSet;
+use sd_num::clock::Report;
 use sd_replay::lines::{EventLines, Findings, print_findings};
 use sd_test_examples::fabric;
 use std::test::Fail;

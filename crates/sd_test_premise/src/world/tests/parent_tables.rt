@@ -1,5 +1,5 @@
 //! Loops and roots as devices change one by one.
-use sd_watch::parent_table::{ParentRow, ParentTable};
+use sd_replay::watch::parent_table::{ParentRow, ParentTable};
 use std::test::Fail;
 
 fn follows(parent: u32) -> ParentRow {

@@ -1,6 +1,6 @@
 //! Loops beside a plain slow search, acting devices and intervals worked out by hand.
-use sd_clock::Report;
-use sd_watch::{first_loop, loop_at, outside, two_acting};
+use sd_num::clock::Report;
+use sd_replay::watch::{first_loop, loop_at, outside, two_acting};
 
 /// Whether going along parents comes back to `d`, by as many steps as there are devices.
 fn comes_back(d: u32, parents: &[Option<u32>]) -> bool {

@@ -3,10 +3,10 @@ ghost use Rattle.std.specs.Prelude.{◌≡◌, ◌<◌, length, IsTrue, IfSome};
 ghost use Rattle.sd_sched.specs.Events as of_events;
 ghost use Rattle.sd_sched.specs.Events.{device_of};
 
-use sd_fleet_state::world::{Window, World, link_of};
+use sd_num::NoMemory;
+use sd_plan::topo::Thing;
 use sd_sched::Event;
-use sd_test_examples::num::NoMemory;
-use sd_test_examples::topo::Thing;
+use sd_world::world::{Window, World, link_of};
 use std::alloc::Global;
 use std::test::Fail;
 

@@ -1,14 +1,14 @@
 //! The domains of a network, and what lies in one of them.
 ghost use Rattle.std.specs.Prelude.{◌<◌, length};
-ghost use Rattle.sd_domain.specs.Topo.Topologies.{network};
-ghost use Rattle.sd_domain.specs.Failing.{HasRoomFor};
-ghost use Rattle.sd_domain.specs.Lone.{IsDomain};
+ghost use Rattle.sd_plan.specs.topo.Topologies.{network};
+ghost use Rattle.sd_plan.specs.domain.Failing.{HasRoomFor};
+ghost use Rattle.sd_plan.specs.domain.Lone.{IsDomain};
 
 use crate::same::assert_same;
-use sd_domain::DomainId::{self, Device, Link, Listed};
-use sd_domain::{Failure, holds_device, holds_link, within_one};
-use sd_test_examples::topo::{Thing, Topology};
-use sd_test_examples::topotext::read_topology;
+use sd_plan::domain::DomainId::{self, Device, Link, Listed};
+use sd_plan::domain::{Failure, holds_device, holds_link, within_one};
+use sd_plan::topo::{Thing, Topology};
+use sd_topotext::read_topology;
 use std::alloc::Global;
 use std::process::Abort;
 use std::test::Fail;

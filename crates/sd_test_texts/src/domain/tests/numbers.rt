@@ -2,7 +2,7 @@
 ghost use Rattle.std.specs.Prelude.{◌≡◌, ◌<◌};
 
 use crate::same::assert_same;
-use sd_domain::NumberSet;
+use sd_plan::domain::NumberSet;
 use std::process::Abort;
 use std::test::Fail;
 

@@ -1,15 +1,15 @@
 //! Plans that are printed, and what is printed read again, over two spines and three leaves.
 ghost use Rattle.std.specs.Prelude.{◌≡◌, Some, IfOk};
-ghost use Rattle.sd_domain.specs.Topo.Topologies.{network};
-ghost use Rattle.sd_plantext.specs.Plan.Examples as examples;
-ghost use Rattle.sd_plantext.specs.Plan.Examples.{IsFabric};
-ghost use Rattle.sd_plantext.specs.Plan.Plans.{Fits};
+ghost use Rattle.sd_plan.specs.topo.Topologies.{network};
+ghost use Rattle.sd_plan.specs.Examples as examples;
+ghost use Rattle.sd_plan.specs.Examples.{IsFabric};
+ghost use Rattle.sd_plan.specs.Plans.{Fits};
 
 use crate::same::assert_same;
+use sd_num::NoMemory;
+use sd_plan::topo::Topology;
+use sd_plan::{Plan, PlanRow};
 use sd_plantext::{PlanFault, plan_text, read_plan};
-use sd_test_examples::num::NoMemory;
-use sd_test_examples::plan::{Plan, PlanRow};
-use sd_test_examples::topo::Topology;
 use sd_test_examples::{FABRIC, FABRIC_GREEDY, fabric, fabric_plan, topology_of};
 use std::alloc::Global;
 use std::process::Abort;

@@ -1,8 +1,8 @@
 //! Texts with their faults, and good texts with what they say.
 use crate::same::assert_same;
+use sd_plan::topo::Topology;
+use sd_plan::{Absent, Hop, Plan, PlanRow};
 use sd_plantext::{PlanFault, PlanKey, PlanPlace, read_absent, read_plan};
-use sd_test_examples::plan::{Absent, Hop, Plan, PlanRow};
-use sd_test_examples::topo::Topology;
 use sd_test_examples::{TRIANGLE, topology_of};
 use std::alloc::{AllocError, Global};
 use std::process::Abort;

@@ -2,12 +2,12 @@
 ghost use Rattle.std.specs.Prelude.{◌<◌, ◌≤◌, length};
 
 use crate::same::assert_same;
-use sd_test_examples::num::Rates;
-use sd_test_examples::topo::LinkEntry;
-use sd_twoway::bounds::{is_inside, span};
-use sd_twoway::{
+use sd_commands::exchanges::bounds::{is_inside, span};
+use sd_commands::exchanges::{
     Exchange, ExchangeFault, ExchangeLine, ExchangeLineFault, Span, Spans, read_exchange,
 };
+use sd_num::Rates;
+use sd_plan::topo::LinkEntry;
 use std::process::Abort;
 use std::test::Fail;
 

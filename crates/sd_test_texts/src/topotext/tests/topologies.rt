@@ -1,7 +1,7 @@
 //! Texts with their faults, good texts of both versions, and the printed layout.
 use crate::same::assert_same;
-use sd_test_examples::topo::{Side, Topology};
-use sd_test_examples::topotext::{Key, Kind, read_topology, topology_text};
+use sd_plan::topo::{Side, Topology};
+use sd_topotext::{Key, Kind, read_topology, topology_text};
 use std::alloc::{AllocError, Global};
 use std::process::Abort;
 use std::test::Fail;
@@ -258,7 +258,7 @@ fn bytes_that_are_no_text(rt: HostRuntime) -> Result<(), Fail> {
     assert_reason(&rt, &[255], "the text is no TOML")
 }
 
-/// A text, a piece so many times, and an end.
+/// A text, a piece this many times, and an end.
 fn repeated(
     alloc: Global,
     start: &str,
@@ -279,7 +279,7 @@ fn deep_and_long(rt: HostRuntime) -> Result<(), Fail> {
     assert_reason(&rt, long.as_bytes(), "out of range: device.name 1")
 }
 
-/// A text with so many devices.
+/// A text with this many devices.
 fn crowd(alloc: Global, devices: u32) -> Result<String, AllocError> {
     let mut text = joined(alloc, &[TOP, "roots = [\"d0\", \"d1\"]\n"])?;
     for d in 0..devices {

@@ -1,7 +1,7 @@
-use Rattle.sd_topo.specs.Topologies.{network}
-use Rattle.sd_cmd_files.specs.Answering.{After}
-use Rattle.sd_cmd_files.specs.Inputs.{topology_of, plan_in_file}
-use Rattle.sd_cmd_files.proofs.Loading.{told_goes_on}
+use Rattle.sd_plan.specs.topo.Topologies.{network}
+use Rattle.sd_files.specs.Answering.{After}
+use Rattle.sd_files.specs.Inputs.{topology_of, plan_in_file}
+use Rattle.sd_files.proofs.Loading.{told_goes_on}
 use Rattle.sd_top.specs.Checks.{IsJudged}
 use Rattle.sd_top.proofs.check.check.Goals as goal
 

@@ -1,4 +1,4 @@
-use Rattle.sd_topo.specs.Topologies.{network}
+use Rattle.sd_plan.specs.topo.Topologies.{network}
 use Rattle.sd_top.proofs.Planned.{verdict_makes}
 use Rattle.sd_top.proofs.check.judge.Goals as goal
 

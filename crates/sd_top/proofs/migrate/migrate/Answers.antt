@@ -1,6 +1,6 @@
-use Rattle.sd_topo.specs.Topologies.{network}
-use Rattle.sd_cmd_files.specs.Inputs.{topology_of}
-use Rattle.sd_cmd_files.proofs.Loading.{told_goes_on, told_always}
+use Rattle.sd_plan.specs.topo.Topologies.{network}
+use Rattle.sd_files.specs.Inputs.{topology_of}
+use Rattle.sd_files.proofs.Loading.{told_goes_on, told_always}
 use Rattle.sd_top.specs.Migration.{IsMigrated}
 use Rattle.sd_top.proofs.migrate.migrate.Goals as goal
 

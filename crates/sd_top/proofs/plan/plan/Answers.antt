@@ -1,6 +1,6 @@
-use Rattle.sd_topo.specs.Topologies.{network}
-use Rattle.sd_cmd_files.specs.Inputs.{topology_of}
-use Rattle.sd_cmd_files.proofs.Loading.{told_goes_on, told_always}
+use Rattle.sd_plan.specs.topo.Topologies.{network}
+use Rattle.sd_files.specs.Inputs.{topology_of}
+use Rattle.sd_files.proofs.Loading.{told_goes_on, told_always}
 use Rattle.sd_top.specs.Plannings.{IsPlanning, first_root}
 use Rattle.sd_top.proofs.plan.plan.Goals as goal
 use Rattle.sd_plan.specs.Plans.{nothing_absent}

@@ -1,4 +1,4 @@
-use Rattle.sd_topo.specs.Topologies.{network}
+use Rattle.sd_plan.specs.topo.Topologies.{network}
 use Rattle.sd_top.proofs.Planned.{planning_makes}
 use Rattle.sd_top.proofs.planning.planning.Goals as goal
 

@@ -1,12 +1,13 @@
 use Rattle.std.proofs.Common.{[], ◌∷◌, None, Some, ap, map, refl, string_bytes, sym, ◌∙◌}
 use Rattle.std.specs.Prelude.{IsTrue}
-use Rattle.sd_cmd_files.proofs.Loading.{told_always}
+use Rattle.sd_files.proofs.Loading.{told_always}
 use Rattle.sd_top.specs.Parsed.{named}
 use Rattle.sd_top.specs.Words.{OfTopology, OfPlan, OfAbsent, command_of, files_of}
 use Rattle.sd_top.specs.Words.Command.{Solo, Plan, Check, Renew, Replay, Case, Migrate, Order, Twoway, Drill}
 use Rattle.sd_top.specs.declared.words.Command.{Command as Parsed}
-use Rattle.sd_top.proofs.Performing.{leaves_written, meets_told, meets_once, near_told, near_nothing}
-use Rattle.sd_cmd_files.proofs.Keeping.{keeps_for}
+use Rattle.sd_drill_text.proofs.Commands.{leaves_written}
+use Rattle.sd_top.proofs.Performing.{meets_told, meets_once, near_told, near_nothing}
+use Rattle.sd_files.proofs.Keeping.{keeps_for}
 use Rattle.sd_top.specs.Promise.{IsUsage}
 use Rattle.sd_top.proofs.Serving.{serves_first, serves_second, serves_third, serves_topology, serves_plans, serves_schedule}
 use Rattle.sd_top.proofs.top.perform.Goals as goal
@@ -162,14 +163,14 @@ returns-in-Some-Twoway-clause-near g c =
     λ refused. near_told _ _ (Some (Twoway c.in-Some-Twoway.topology.now c.in-Some-Twoway.exchanges.now)) _
     (ap (λ (x : Parsed). Some (named x)) (sym c.in-Some-Twoway.field-0-is) ∙ c.in-Some-Twoway.ensures.is) (c.twoway.ensures.near refused)
 
-pub drill-requires-clause-topology : goal.drill-requires-clause-topology
-drill-requires-clause-topology g c =
+pub print_texts-requires-clause-topology : goal.print_texts-requires-clause-topology
+print_texts-requires-clause-topology g c =
     serves_first (λ name. IsTrue (g.S.Shelf.serves c.args.shelf.now name)) (OfTopology c.in-Some-Drill.topology.now) (OfPlan c.in-Some-Drill.plan.now) []
     (files_of (command_of (map string_bytes c.args.words.now)))
     (ap files_of (ap (λ (x : Parsed). Some (named x)) (sym c.in-Some-Drill.field-0-is) ∙ c.in-Some-Drill.ensures.is)) c.requires
 
-pub drill-requires-clause-plan : goal.drill-requires-clause-plan
-drill-requires-clause-plan g c =
+pub print_texts-requires-clause-plan : goal.print_texts-requires-clause-plan
+print_texts-requires-clause-plan g c =
     serves_second (λ name. IsTrue (g.S.Shelf.serves c.args.shelf.now name)) (OfTopology c.in-Some-Drill.topology.now) (OfPlan c.in-Some-Drill.plan.now) []
     (files_of (command_of (map string_bytes c.args.words.now)))
     (ap files_of (ap (λ (x : Parsed). Some (named x)) (sym c.in-Some-Drill.field-0-is) ∙ c.in-Some-Drill.ensures.is)) c.requires
@@ -177,7 +178,7 @@ drill-requires-clause-plan g c =
 pub returns-in-Some-Drill-clause-outcome : goal.returns-in-Some-Drill-clause-outcome
 returns-in-Some-Drill-clause-outcome g c =
     meets_told _ _ (Some (Drill c.in-Some-Drill.topology.now c.in-Some-Drill.plan.now c.in-Some-Drill.budget)) _ _ _
-    (ap (λ (x : Parsed). Some (named x)) (sym c.in-Some-Drill.field-0-is) ∙ c.in-Some-Drill.ensures.is) c.drill.ensures.outcome
+    (ap (λ (x : Parsed). Some (named x)) (sym c.in-Some-Drill.field-0-is) ∙ c.in-Some-Drill.ensures.is) c.print_texts.ensures.outcome
 
 pub returns-in-Some-Drill-clause-near : goal.returns-in-Some-Drill-clause-near
 returns-in-Some-Drill-clause-near g c =

@@ -1,5 +1,5 @@
 use Rattle.std.proofs.Common.{map, refl, string_bytes}
-use Rattle.sd_cmd_files.specs.declared.Status.TheVariants.{ShelfFault, SinkFault}
+use Rattle.sd_files.specs.declared.Status.TheVariants.{ShelfFault, SinkFault}
 use Rattle.sd_top.proofs.Bounds.{meets_bounds}
 use Rattle.sd_top.proofs.Headlines.{meets_headline}
 use Rattle.sd_top.proofs.Holding.{keeps_promise}

@@ -1,6 +1,6 @@
 use Rattle.std.proofs.Common.{refl}
-use Rattle.sd_topo.specs.Topologies.{network}
-use Rattle.sd_cmd_twoway.specs.Twoways.{twoway_work}
+use Rattle.sd_plan.specs.topo.Topologies.{network}
+use Rattle.sd_commands.specs.twoway.Twoways.{twoway_work}
 use Rattle.sd_top.proofs.twoway.bound_links.Goals as goal
 
 pub returns-clause-outcome : goal.returns-clause-outcome

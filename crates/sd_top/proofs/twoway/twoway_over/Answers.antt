@@ -1,10 +1,10 @@
 use Rattle.std.proofs.Common.{List, ℕ, Some, true}
-use Rattle.sd_topo.specs.Topologies.{network}
-use Rattle.sd_cmd_files.specs.Answering.{InWrites}
-use Rattle.sd_cmd_files.specs.Stream.Reader.{IsNear}
-use Rattle.sd_cmd_files.specs.work.Ending.{LeavesAt}
-use Rattle.sd_cmd_files.specs.work.Works.{InSteps, IsOutcome, refused_part}
-use Rattle.sd_cmd_twoway.specs.Twoways.{twoway_work}
+use Rattle.sd_plan.specs.topo.Topologies.{network}
+use Rattle.sd_files.specs.Answering.{InWrites}
+use Rattle.sd_io.specs.stream.Reader.{IsNear}
+use Rattle.sd_files.specs.work.Ending.{LeavesAt}
+use Rattle.sd_files.specs.work.Works.{InSteps, IsOutcome, refused_part}
+use Rattle.sd_commands.specs.twoway.Twoways.{twoway_work}
 use Rattle.sd_top.proofs.Bounding.{rest_told}
 use Rattle.sd_top.proofs.twoway.twoway_over.Goals as goal
 

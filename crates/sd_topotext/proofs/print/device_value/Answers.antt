@@ -1,8 +1,8 @@
 use Rattle.std.proofs.Common.{ap, ◌∙◌, get_or}
 use Rattle.toml.specs.Data.{table}
 use Rattle.toml.specs.View.{table_view, view, members_view}
-use Rattle.sd_topo.specs.Topologies.{network}
-use Rattle.sd_topo.specs.Places.{no_device}
+use Rattle.sd_plan.specs.topo.Topologies.{network}
+use Rattle.sd_plan.specs.topo.Places.{no_device}
 use Rattle.sd_topotext.proofs.Printing.{device_told, device_made}
 use Rattle.sd_topotext.proofs.print.device_value.Goals as goal
 

@@ -1,7 +1,7 @@
 use Rattle.std.proofs.Common.{◌<◌, subst}
 use Rattle.toml.specs.Data.{table}
-use Rattle.sd_topo.specs.Topologies.{network}
-use Rattle.sd_topo.specs.Places.{no_device}
+use Rattle.sd_plan.specs.topo.Topologies.{network}
+use Rattle.sd_plan.specs.topo.Places.{no_device}
 use Rattle.sd_topotext.specs.Printed.{device_tree}
 use Rattle.sd_topotext.proofs.Printing.{items_more}
 use Rattle.sd_topotext.proofs.print.devices_value.Goals as goal

@@ -1,11 +1,11 @@
 use Rattle.std.proofs.Common.{ap, sym, ◌∙◌, ◌<◌, subst, All, length, get_or, List, ℕ}
 use Rattle.toml.specs.Data.{table}
 use Rattle.toml.specs.View.{table_view, view, members_view}
-use Rattle.sd_topo.specs.Topologies.{network}
-use Rattle.sd_topo.specs.Network.{Domain, device_names, link_names}
-use Rattle.sd_topo.specs.Places.{no_domain}
+use Rattle.sd_plan.specs.topo.Topologies.{network}
+use Rattle.sd_plan.specs.topo.Network.{Domain, device_names, link_names}
+use Rattle.sd_plan.specs.topo.Places.{no_domain}
 use Rattle.sd_topotext.specs.Printed.{names_data}
-use Rattle.sd_topo.proofs.Laws.{domain_law}
+use Rattle.sd_plan.proofs.topo.Laws.{domain_law}
 use Rattle.sd_topotext.proofs.Printing.{domain_told, domain_made}
 use Rattle.sd_topotext.proofs.print.domain_value.Goals as goal
 

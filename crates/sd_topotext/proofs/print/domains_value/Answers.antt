@@ -1,8 +1,8 @@
 use Rattle.std.proofs.Common.{◌<◌, subst}
 use Rattle.toml.specs.Data.{table}
-use Rattle.sd_topo.specs.Topologies.{network}
-use Rattle.sd_topo.specs.Network.{device_names, link_names}
-use Rattle.sd_topo.specs.Places.{no_domain}
+use Rattle.sd_plan.specs.topo.Topologies.{network}
+use Rattle.sd_plan.specs.topo.Network.{device_names, link_names}
+use Rattle.sd_plan.specs.topo.Places.{no_domain}
 use Rattle.sd_topotext.specs.Printed.{domain_tree}
 use Rattle.sd_topotext.proofs.Printing.{items_more}
 use Rattle.sd_topotext.proofs.print.domains_value.Goals as goal

@@ -1,9 +1,9 @@
 use Rattle.std.proofs.Common.{ap, ◌∙◌, get_or}
 use Rattle.toml.specs.Data.{table}
 use Rattle.toml.specs.View.{table_view, view, members_view}
-use Rattle.sd_topo.specs.Topologies.{network}
-use Rattle.sd_topo.specs.Network.{device_names}
-use Rattle.sd_topo.specs.Places.{no_named_link}
+use Rattle.sd_plan.specs.topo.Topologies.{network}
+use Rattle.sd_plan.specs.topo.Network.{device_names}
+use Rattle.sd_plan.specs.topo.Places.{no_named_link}
 use Rattle.sd_topotext.proofs.Printing.{link_told, link_made}
 use Rattle.sd_topotext.proofs.print.link_value.Goals as goal
 

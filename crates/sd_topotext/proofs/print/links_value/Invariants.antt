@@ -1,8 +1,8 @@
 use Rattle.std.proofs.Common.{◌≡◌, map, take}
 use Rattle.toml.specs.Data.{table}
 use Rattle.toml.specs.View.{items_of, items_view}
-use Rattle.sd_topo.specs.Network.{device_names}
-use Rattle.sd_topo.specs.Topologies.{network}
+use Rattle.sd_plan.specs.topo.Network.{device_names}
+use Rattle.sd_plan.specs.topo.Topologies.{network}
 use Rattle.sd_topotext.specs.Printed.{link_tree}
 use Rattle.sd_topotext.proofs.print.links_value.Given as goal
 

@@ -1,7 +1,7 @@
 use Rattle.std.proofs.Common.{ap, ◌∙◌}
 use Rattle.toml.specs.View.{table_view, view}
-use Rattle.sd_topo.specs.Topologies.{network}
-use Rattle.sd_topo.specs.Network.{device_names}
+use Rattle.sd_plan.specs.topo.Topologies.{network}
+use Rattle.sd_plan.specs.topo.Network.{device_names}
 use Rattle.sd_topotext.specs.Printed.{names_data}
 use Rattle.sd_topotext.proofs.Printing.{network_made}
 use Rattle.sd_topotext.proofs.print.network_table.Goals as goal

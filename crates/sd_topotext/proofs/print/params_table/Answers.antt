@@ -1,6 +1,6 @@
 use Rattle.std.proofs.Common.{ap}
 use Rattle.toml.specs.View.{table_view, members_view}
-use Rattle.sd_topo.specs.Topologies.{network}
+use Rattle.sd_plan.specs.topo.Topologies.{network}
 use Rattle.sd_topotext.proofs.Printing.{params_made}
 use Rattle.sd_topotext.proofs.print.params_table.Goals as goal
 

@@ -3,7 +3,7 @@ use Rattle.std.specs.Prelude.{Vec}
 use Rattle.std.specs.declared.alloc.Global.{Global}
 use Rattle.std.proofs.lemmas.Str.{IsUtf8-string_bytes}
 use Rattle.toml.specs.Data.{Members, members_depth}
-use Rattle.sd_topo.specs.Topologies.{network}
+use Rattle.sd_plan.specs.topo.Topologies.{network}
 use Rattle.sd_topotext.specs.Meaning.{network_of}
 use Rattle.sd_topotext.specs.Reading.{tree_of}
 use Rattle.sd_topotext.specs.Versions.{with_version_two}

@@ -1,9 +1,9 @@
 use Rattle.std.proofs.Common.{sym, subst}
-use Rattle.sd_topo.specs.Topologies.{network}
-use Rattle.sd_domain.specs.declared.DomainId.{DomainId}
+use Rattle.sd_plan.specs.topo.Topologies.{network}
+use Rattle.sd_plan.specs.declared.domain.DomainId.{DomainId}
 use Rattle.sd_plan.specs.declared.indexed.IndexedPlan.{IndexedPlan}
-use Rattle.sd_checker.specs.CheckHit.Outages.{net_of, plan_of}
-use Rattle.sd_checker.specs.CheckLoop.Loops.{HasNoCycle}
+use Rattle.sd_checker.specs.check_hit.Outages.{net_of, plan_of}
+use Rattle.sd_checker.specs.check_loop.Loops.{HasNoCycle}
 use Rattle.sd_drill.proofs.drill.Drill.worst.Goals as goal
 
 pub bounds_under-requires-clause-acyclic : goal.bounds_under-requires-clause-acyclic

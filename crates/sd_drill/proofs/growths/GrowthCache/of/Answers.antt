@@ -1,6 +1,6 @@
 use Rattle.std.proofs.Common.{◌≡◌, ◌∙◌, ℕ, Option, Some, None, sym, subst, arith}
 use Rattle.std.proofs.lemmas.List.{get_or_default}
-use Rattle.sd_topo.specs.Topologies.{network}
+use Rattle.sd_plan.specs.topo.Topologies.{network}
 use Rattle.sd_drill.specs.Times.{IsGrowth, IsKnown, known_at}
 use Rattle.sd_drill.specs.declared.growths.Growth.{Growth}
 use Rattle.sd_drill.proofs.growths.GrowthCache.of.Goals as goal

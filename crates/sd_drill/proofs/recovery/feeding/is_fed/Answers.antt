@@ -1,6 +1,6 @@
 use Rattle.std.proofs.Common.{◌≡◌, ◌∙◌, true, sym, ap}
-use Rattle.sd_checker.specs.CheckHit.Outages.{net_of, plan_of}
-use Rattle.sd_checker.specs.CheckReach.Reach.{is_sound}
+use Rattle.sd_checker.specs.check_hit.Outages.{net_of, plan_of}
+use Rattle.sd_checker.specs.check_reach.Reach.{is_sound}
 use Rattle.sd_drill.specs.recovery.Hops.{next_of}
 use Rattle.sd_drill.proofs.recovery.Hearing.{decides_unsound, decides_end, decides_spared, decides_turned, next_is}
 use Rattle.sd_drill.proofs.recovery.feeding.is_fed.Goals as goal

@@ -1,6 +1,6 @@
 use Rattle.std.proofs.Common.{◌≡◌, ◌∙◌, ℕ, true, sym, subst}
 use Rattle.std.proofs.lemmas.Bool.{eq-eqb}
-use Rattle.sd_checker.specs.CheckHit.Outages.{net_of, plan_of}
+use Rattle.sd_checker.specs.check_hit.Outages.{net_of, plan_of}
 use Rattle.sd_plan.specs.Plans.{is_member}
 use Rattle.sd_plan.proofs.Rules.{keeps_rules, other_member}
 use Rattle.sd_drill.proofs.recovery.feeding.is_member.Goals as goal

@@ -1,5 +1,5 @@
 use Rattle.std.proofs.Common.{◌∙◌, sym, subst}
-use Rattle.sd_checker.specs.CheckHit.Outages.{net_of, plan_of}
+use Rattle.sd_checker.specs.check_hit.Outages.{net_of, plan_of}
 use Rattle.sd_plan.proofs.Rules.{keeps_rules}
 use Rattle.sd_drill.specs.recovery.Hops.{BothAre, IsRightHop}
 use Rattle.sd_drill.specs.declared.recovery.hops.Hops.{Hops}

@@ -1,6 +1,6 @@
 use Rattle.std.proofs.Common.{◌≡◌, ◌≤◌, ◌*◌, ◌^◌, Option, subst, ap, arith}
-use Rattle.sd_topo.specs.Network.{bounds_of}
-use Rattle.sd_checker.specs.CheckHit.Outages.{net_of, plan_of}
+use Rattle.sd_plan.specs.topo.Network.{bounds_of}
+use Rattle.sd_checker.specs.check_hit.Outages.{net_of, plan_of}
 use Rattle.sd_drill.specs.recovery.Reaches.{ReachesFrom, IsReachOf}
 use Rattle.sd_drill.specs.recovery.Walks.{IsWalk}
 use Rattle.sd_drill.specs.declared.recovery.reach.Reach.{Reach}

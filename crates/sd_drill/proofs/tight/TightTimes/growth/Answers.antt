@@ -1,8 +1,8 @@
 use Rattle.std.proofs.Common.{◌∙◌, ap, sym, subst, arith}
 use Rattle.sd_num.specs.declared.Rates.{Rates}
-use Rattle.sd_topo.specs.Limits.{IsRates}
-use Rattle.sd_topo.specs.Topologies.{network}
-use Rattle.sd_topo.proofs.Laws.{rates_law}
+use Rattle.sd_plan.specs.topo.Limits.{IsRates}
+use Rattle.sd_plan.specs.topo.Topologies.{network}
+use Rattle.sd_plan.proofs.topo.Laws.{rates_law}
 use Rattle.sd_drill.specs.ages.Ages.{IsOldest, ageing}
 use Rattle.sd_drill.proofs.tight.TightTimes.growth.Goals as goal
 

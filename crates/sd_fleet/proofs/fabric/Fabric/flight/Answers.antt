@@ -1,6 +1,6 @@
 -- What is found in the book is what the words on histories say.
 use Rattle.std.proofs.Common.{◌∙◌, ap}
-use Rattle.sd_msg.specs.Books.{found}
+use Rattle.sd_device.specs.msg.Books.{found}
 use Rattle.sd_history.specs.Steps.{flight_count}
 use Rattle.sd_history.proofs.flights.Looks.{look_is}
 use Rattle.sd_fleet.proofs.fabric.Fabric.flight.Goals as goal

@@ -1,7 +1,7 @@
 -- A fabric before any event is sound.
 use Rattle.std.proofs.Common.{◌≡◌, ℕ, length, refl, sym, ◌∙◌, ap}
-use Rattle.sd_topo.specs.Topologies.{network}
-use Rattle.sd_msg.specs.Books.{Size}
+use Rattle.sd_plan.specs.topo.Topologies.{network}
+use Rattle.sd_device.specs.msg.Books.{Size}
 use Rattle.sd_fleet.specs.Registers.{size_of}
 use Rattle.sd_fleet.proofs.FabricKeeping.{sound_first}
 use Rattle.sd_fleet.proofs.fabric.Fabric.new.Goals as goal

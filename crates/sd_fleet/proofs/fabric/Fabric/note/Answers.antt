@@ -1,8 +1,8 @@
 -- The parts of a step make the registers that follow, and what comes of it.
 use Rattle.std.proofs.Common.{◌≡◌, ◌≤◌, not, ◌&&◌, None, length, sym, ◌∙◌, ap, subst}
 use Rattle.std.specs.Prelude.{if◌then◌else◌}
-use Rattle.sd_topo.specs.Topologies.{network}
-use Rattle.sd_fleet_state.specs.membership.Memberships.{can_close_in}
+use Rattle.sd_plan.specs.topo.Topologies.{network}
+use Rattle.sd_world.specs.membership.Memberships.{can_close_in}
 use Rattle.sd_fleet.specs.Registers.{Registers, kept}
 use Rattle.sd_fleet.specs.Causes.{refusal_in}
 use Rattle.sd_fleet.specs.Outcomes.{first_number}

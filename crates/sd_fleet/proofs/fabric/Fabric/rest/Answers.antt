@@ -2,8 +2,8 @@
 use Rattle.std.proofs.Common.{◌≡◌, None, Some, false, arith, sym, subst}
 use Rattle.sd_num.specs.Lists.{at_place}
 use Rattle.sd_sched.specs.declared.Event.TheVariants as event
-use Rattle.sd_core.specs.declared.Effect.TheVariants.{Quiet}
-use Rattle.sd_fleet_state.specs.world.Registers.{is_open}
+use Rattle.sd_device.specs.declared.Effect.TheVariants.{Quiet}
+use Rattle.sd_world.specs.world.Registers.{is_open}
 use Rattle.sd_fleet.specs.Registers.{Registers, kept}
 use Rattle.sd_fleet.specs.Causes.{refusal_in}
 use Rattle.sd_fleet.specs.Doing.{replied}

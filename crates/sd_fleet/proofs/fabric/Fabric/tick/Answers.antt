@@ -1,13 +1,13 @@
 -- The parts of a tick make the registers that follow, and tell what was sent.
 use Rattle.std.proofs.Common.{◌≡◌, ◌≤◌, ◌++◌, ◌+◌, None, Some, false, List, length, filter, refl, arith, sym, ◌∙◌, ap, subst}
 use Rattle.sd_num.specs.Lists.{at_place}
-use Rattle.sd_msg.specs.declared.Flight.{Flight}
+use Rattle.sd_device.specs.declared.msg.Flight.{Flight}
 use Rattle.sd_sched.specs.declared.Event.TheVariants as event
 use Rattle.sd_sched.specs.declared.Event.{Event}
-use Rattle.sd_fleet_state.specs.declared.membership.AnswerSummary.{AnswerSummary}
-use Rattle.sd_fleet_state.specs.world.Registers.{is_open}
-use Rattle.sd_fleet_state.specs.membership.Memberships as memberships
-use Rattle.sd_fleet_state.proofs.membership.Observing.{same_answers}
+use Rattle.sd_world.specs.declared.membership.AnswerSummary.{AnswerSummary}
+use Rattle.sd_world.specs.world.Registers.{is_open}
+use Rattle.sd_world.specs.membership.Memberships as memberships
+use Rattle.sd_world.proofs.membership.Observing.{same_answers}
 use Rattle.sd_fleet.specs.Registers.{Registers, kept}
 use Rattle.sd_fleet.specs.Causes.{refusal_in}
 use Rattle.sd_fleet.specs.Doing.{replied}

@@ -1,5 +1,5 @@
 use Rattle.std.proofs.Common.{◌≡◌, ℕ, Option, Some, None, Result, Err, IfSome}
-use Rattle.sd_fleet.specs.History.declared.ApplyFault.{ApplyFault}
+use Rattle.sd_history.specs.declared.ApplyFault.{ApplyFault}
 use Rattle.sd_fleet.specs.declared.Outcome.{Outcome}
 use Rattle.sd_fleet.specs.Causes.{refusal_in}
 use Rattle.sd_fleet.proofs.fleet.Fleet.apply.Goals as goal

@@ -3,8 +3,8 @@ use Rattle.std.proofs.Common.{◌≡◌, ◌∙◌, None, sym}
 use Rattle.std.specs.Vec.{with_items}
 use Rattle.std.proofs.lemmas.List.{with_items_is}
 use Rattle.sd_sched.specs.declared.Event.TheVariants as event
-use Rattle.sd_fleet.specs.FleetState.membership.Standing.{summary}
-use Rattle.sd_fleet.specs.History.Nodes.{answers_of}
+use Rattle.sd_world.specs.membership.Standing.{summary}
+use Rattle.sd_history.specs.Nodes.{answers_of}
 use Rattle.sd_fleet.specs.Doing.{replied}
 use Rattle.sd_fleet.specs.Keeping.{outcome_keeping}
 use Rattle.sd_fleet.proofs.FabricKeeping.{reference_few}

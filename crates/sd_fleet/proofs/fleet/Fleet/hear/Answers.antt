@@ -4,11 +4,11 @@ use Rattle.std.specs.Vec.{with_items}
 use Rattle.std.proofs.lemmas.List.{with_items_is}
 use Rattle.sd_sched.specs.declared.Event.{Event}
 use Rattle.sd_sched.specs.declared.Event.TheVariants as event
-use Rattle.sd_topo.specs.Network.{Network}
-use Rattle.sd_fleet.specs.FleetState.world.Registers.{is_open}
-use Rattle.sd_fleet.specs.FleetState.membership.Memberships as membership
-use Rattle.sd_fleet.specs.FleetState.membership.Standing.{summary}
-use Rattle.sd_fleet.specs.History.Nodes.{answers_of}
+use Rattle.sd_plan.specs.topo.Network.{Network}
+use Rattle.sd_world.specs.world.Registers.{is_open}
+use Rattle.sd_world.specs.membership.Memberships as membership
+use Rattle.sd_world.specs.membership.Standing.{summary}
+use Rattle.sd_history.specs.Nodes.{answers_of}
 use Rattle.sd_fleet.specs.Registers.{kept}
 use Rattle.sd_fleet.specs.Doing.{replied}
 use Rattle.sd_fleet.specs.Keeping.{outcome_keeping}

@@ -1,7 +1,7 @@
 use Rattle.std.proofs.Common.{◌∙◌, subst, ◌<◌, length}
-use Rattle.sd_topo.specs.Network.{Network}
-use Rattle.sd_fleet.specs.History.Nodes.{steps_of}
-use Rattle.sd_fleet.proofs.FleetState.membership.Queries.{counted_is}
+use Rattle.sd_plan.specs.topo.Network.{Network}
+use Rattle.sd_history.specs.Nodes.{steps_of}
+use Rattle.sd_world.proofs.membership.Queries.{counted_is}
 use Rattle.sd_fleet.proofs.fleet.Fleet.is_counted.Goals as goal
 
 pub returns : goal.returns

@@ -1,5 +1,5 @@
 use Rattle.std.proofs.Common.{◌∙◌}
-use Rattle.sd_fleet.specs.History.Nodes.{steps_of}
+use Rattle.sd_history.specs.Nodes.{steps_of}
 use Rattle.sd_fleet.proofs.Room.{most_sent_is}
 use Rattle.sd_fleet.proofs.fleet.Fleet.most_sent.Goals as goal
 

@@ -1,6 +1,6 @@
 use Rattle.std.proofs.Common.{◌∙◌, ap, refl, length, None}
 use Rattle.std.proofs.lemmas.List.{length-replicate}
-use Rattle.sd_topo.specs.Topologies.{network}
+use Rattle.sd_plan.specs.topo.Topologies.{network}
 use Rattle.sd_fleet.specs.Nodes.{node_at}
 use Rattle.sd_fleet.proofs.Applying.{no_node, nodes_first}
 use Rattle.sd_fleet.proofs.fleet.Fleet.new.Goals as goal

@@ -1,5 +1,5 @@
 use Rattle.std.proofs.Common.{◌∙◌, ◌≢◌, ℕ, sym, subst}
-use Rattle.sd_fleet.specs.History.Nodes.{steps_of}
+use Rattle.sd_history.specs.Nodes.{steps_of}
 use Rattle.sd_fleet.proofs.Applying.{refused_fault, memory_fault, nodes_grown}
 use Rattle.sd_fleet.proofs.fleet.Fleet.prepare.Goals as goal
 

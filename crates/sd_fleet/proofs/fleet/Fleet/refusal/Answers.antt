@@ -1,5 +1,5 @@
 use Rattle.std.proofs.Common.{◌∙◌}
-use Rattle.sd_fleet.specs.History.Nodes.{steps_of}
+use Rattle.sd_history.specs.Nodes.{steps_of}
 use Rattle.sd_fleet.proofs.Refused.{refusal_is}
 use Rattle.sd_fleet.proofs.fleet.Fleet.refusal.Goals as goal
 

@@ -1,5 +1,5 @@
 -- Over the ends so far the message was sent.
-use Rattle.sd_topo.specs.Topologies.{network}
+use Rattle.sd_plan.specs.topo.Topologies.{network}
 use Rattle.sd_fleet.proofs.Adding.{SentOver}
 use Rattle.sd_fleet.proofs.messages.Router.send.Given as goal
 

@@ -1,6 +1,6 @@
 use Rattle.std.proofs.Common.{◌≡◌}
 use Rattle.sd_num.specs.Lists.{below}
-use Rattle.sd_fleet.specs.History.World.{Setting}
+use Rattle.sd_history.specs.World.{Setting}
 use Rattle.sd_gen.specs.Drafts.{Draft, each, try_if_up}
 use Rattle.sd_gen.specs.Turns.{event_by}
 use Rattle.sd_gen.specs.Standing.{StandsFor}

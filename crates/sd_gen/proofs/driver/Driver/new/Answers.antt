@@ -1,5 +1,5 @@
 use Rattle.std.proofs.Common.{[], ap, ◌∙◌, length}
-use Rattle.sd_topo.specs.Network.{Network}
+use Rattle.sd_plan.specs.topo.Network.{Network}
 use Rattle.sd_gen.proofs.Making.{begins}
 use Rattle.sd_gen.proofs.driver.Driver.new.Goals as goal
 

@@ -1,4 +1,4 @@
-use Rattle.sd_fleet.specs.History.Steps.{flight_count}
+use Rattle.sd_history.specs.Steps.{flight_count}
 use Rattle.sd_gen.proofs.Receiving.{received_next}
 use Rattle.sd_gen.proofs.driver.Driver.receive_next.Goals as goal
 

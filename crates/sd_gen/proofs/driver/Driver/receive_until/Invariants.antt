@@ -1,5 +1,5 @@
 use Rattle.std.proofs.Common.{◌-◌, ◌^◌}
-use Rattle.sd_fleet.specs.History.World.{Setting}
+use Rattle.sd_history.specs.World.{Setting}
 use Rattle.sd_gen.specs.Drafts.{Draft, receive_until}
 use Rattle.sd_gen.specs.Standing.{StandsFor}
 use Rattle.sd_gen.proofs.Receiving.{StillTo}

@@ -1,5 +1,5 @@
 use Rattle.sd_num.specs.Lists.{below}
-use Rattle.sd_fleet.specs.History.World.{Setting}
+use Rattle.sd_history.specs.World.{Setting}
 use Rattle.sd_gen.specs.Drafts.{Draft, each, try, start_of}
 use Rattle.sd_gen.specs.Standing.{StandsFor}
 use Rattle.sd_gen.proofs.driver.Driver.start_all.Given as goal

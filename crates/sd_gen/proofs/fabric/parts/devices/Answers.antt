@@ -1,5 +1,5 @@
 use Rattle.std.proofs.Common.{arith, ap, ◌∙◌, ◌≡◌, ◌+◌}
-use Rattle.sd_topo.specs.Seen.{devices_seen}
+use Rattle.sd_plan.specs.topo.Seen.{devices_seen}
 use Rattle.sd_topotext.proofs.Entries.{devices_added}
 use Rattle.sd_gen.specs.fabric.Fabrics.{device_named}
 use Rattle.sd_gen.specs.fabric.Numbered.{device_at}

@@ -1,5 +1,5 @@
 use Rattle.std.proofs.Common.{arith, ap, ◌∙◌, ◌≡◌, ◌*◌, refl}
-use Rattle.sd_topo.specs.Seen.{links_seen}
+use Rattle.sd_plan.specs.topo.Seen.{links_seen}
 use Rattle.sd_topotext.proofs.Entries.{links_added}
 use Rattle.sd_gen.specs.fabric.Numbered.{link_at}
 use Rattle.sd_gen.proofs.fabric.Numbering.{numbered}

@@ -1,5 +1,5 @@
 use Rattle.std.proofs.Common.{◌≡◌}
-use Rattle.sd_topo.specs.Seen.{links_seen}
+use Rattle.sd_plan.specs.topo.Seen.{links_seen}
 use Rattle.sd_gen.specs.fabric.Numbered.{link_at}
 use Rattle.sd_gen.proofs.fabric.Numbering.{numbered}
 use Rattle.sd_gen.proofs.fabric.parts.links.Given as goal

@@ -1,5 +1,5 @@
 use Rattle.std.proofs.Common.{arith, ap, ◌∙◌, ◌≡◌, refl}
-use Rattle.sd_topo.specs.Seen.{domains_seen}
+use Rattle.sd_plan.specs.topo.Seen.{domains_seen}
 use Rattle.sd_topotext.proofs.Entries.{domains_added}
 use Rattle.sd_gen.specs.fabric.Fabrics.{rack}
 use Rattle.sd_gen.proofs.fabric.Numbering.{numbered}

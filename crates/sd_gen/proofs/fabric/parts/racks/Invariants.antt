@@ -1,5 +1,5 @@
 use Rattle.std.proofs.Common.{◌≡◌}
-use Rattle.sd_topo.specs.Seen.{domains_seen}
+use Rattle.sd_plan.specs.topo.Seen.{domains_seen}
 use Rattle.sd_gen.specs.fabric.Fabrics.{rack}
 use Rattle.sd_gen.proofs.fabric.Numbering.{numbered}
 use Rattle.sd_gen.proofs.fabric.parts.racks.Given as goal

@@ -1,5 +1,5 @@
 use Rattle.std.proofs.Common.{arith, ◌∙◌, subst, sym}
-use Rattle.sd_topo.specs.Limits.{IsNetwork}
+use Rattle.sd_plan.specs.topo.Limits.{IsNetwork}
 use Rattle.sd_gen.proofs.fabric.Reading.{fabric_is_network, from_zero, parts_are}
 use Rattle.sd_gen.proofs.fabric.topology.fabric_topology.Goals as goal
 

@@ -1,6 +1,6 @@
 use Rattle.std.proofs.Common.{length, find, ap, ◌∙◌, arith}
 use Rattle.sd_num.specs.Lists.{below}
-use Rattle.sd_topo.specs.Topologies.{network}
+use Rattle.sd_plan.specs.topo.Topologies.{network}
 use Rattle.sd_plan.specs.IndexedPlan.{goes_over}
 use Rattle.sd_plan.proofs.Numbered.{length-numbered}
 use Rattle.sd_plan.proofs.Forest.{forest_of}

@@ -1,7 +1,7 @@
 use Rattle.std.proofs.Common.{◌≡◌, map, find}
 use Rattle.sd_num.specs.Lists.{below}
-use Rattle.sd_topo.specs.Network.{link_numbers}
-use Rattle.sd_topo.specs.Topologies.{network}
+use Rattle.sd_plan.specs.topo.Network.{link_numbers}
+use Rattle.sd_plan.specs.topo.Topologies.{network}
 use Rattle.sd_plan.specs.IndexedPlan.{goes_over}
 use Rattle.sd_plan.proofs.index.carried.all_carried.Given as goal
 

@@ -1,6 +1,6 @@
 use Rattle.std.proofs.Common.{◌≡◌, ◌+◌, [], length, map, replicate, subst, refl, sym, ap, ◌∙◌, arith}
-use Rattle.sd_topo.specs.Network.{device_numbers}
-use Rattle.sd_topo.specs.Topologies.{network}
+use Rattle.sd_plan.specs.topo.Network.{device_numbers}
+use Rattle.sd_plan.specs.topo.Topologies.{network}
 use Rattle.sd_plan.specs.Subtrees.{children_before, child_below}
 use Rattle.sd_plan.proofs.Numbered.{length-numbered}
 use Rattle.sd_plan.proofs.Listing.{rows_grown, rows_empty, children_grown, has_parent, written}

@@ -1,6 +1,6 @@
 use Rattle.std.proofs.Common.{◌≡◌, find, not, None}
 use Rattle.sd_num.specs.Lists.{below}
-use Rattle.sd_topo.specs.Topologies.{network}
+use Rattle.sd_plan.specs.topo.Topologies.{network}
 use Rattle.sd_plan.specs.Rules.{keeps}
 use Rattle.sd_plan.proofs.structure.Rule.first_failing.Given as goal
 

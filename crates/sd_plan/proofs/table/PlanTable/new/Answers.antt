@@ -1,5 +1,5 @@
 use Rattle.std.proofs.Common.{length, List, subst}
-use Rattle.sd_topo.specs.Topologies.{network}
+use Rattle.sd_plan.specs.topo.Topologies.{network}
 use Rattle.sd_plan.specs.Joining.{AreJoined}
 use Rattle.sd_plan.specs.declared.End.{End}
 use Rattle.sd_plan.proofs.Whole.{table_is_joined}

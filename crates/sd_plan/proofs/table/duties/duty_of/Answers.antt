@@ -1,4 +1,4 @@
-use Rattle.sd_topo.specs.Topologies.{network}
+use Rattle.sd_plan.specs.topo.Topologies.{network}
 use Rattle.sd_plan.proofs.Rules.{keeps_rules, both_end}
 use Rattle.sd_plan.proofs.table.duties.duty_of.Goals as goal
 

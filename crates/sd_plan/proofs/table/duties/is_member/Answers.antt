@@ -1,5 +1,5 @@
 use Rattle.std.proofs.Common.{◌∙◌}
-use Rattle.sd_topo.specs.Topologies.{network}
+use Rattle.sd_plan.specs.topo.Topologies.{network}
 use Rattle.sd_plan.proofs.Rules.{keeps_rules, other_member}
 use Rattle.sd_plan.proofs.table.duties.is_member.Goals as goal
 

@@ -1,9 +1,9 @@
 use Rattle.std.proofs.Common.{◌≡◌, ◌<◌, length, ap, ◌∙◌, arith}
 use Rattle.std.proofs.lemmas.Result.{on_ok_weaker}
-use Rattle.sd_topo.specs.Network.{link_of}
-use Rattle.sd_topo.specs.Limits.{IsLink}
-use Rattle.sd_topo.specs.Topologies.{network}
-use Rattle.sd_topo.proofs.Laws.{link_law}
+use Rattle.sd_plan.specs.topo.Network.{link_of}
+use Rattle.sd_plan.specs.topo.Limits.{IsLink}
+use Rattle.sd_plan.specs.topo.Topologies.{network}
+use Rattle.sd_plan.proofs.topo.Laws.{link_law}
 use Rattle.sd_plan.specs.Tables.{ends_before}
 use Rattle.sd_plan.proofs.Numbered.{length-numbered}
 use Rattle.sd_plan.proofs.Over.{rows_more}

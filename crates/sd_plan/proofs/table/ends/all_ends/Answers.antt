@@ -1,5 +1,5 @@
 use Rattle.std.proofs.Common.{◌∙◌}
-use Rattle.sd_topo.specs.Topologies.{network}
+use Rattle.sd_plan.specs.topo.Topologies.{network}
 use Rattle.sd_plan.proofs.Over.{none_before}
 use Rattle.sd_plan.proofs.table.ends.all_ends.Goals as goal
 

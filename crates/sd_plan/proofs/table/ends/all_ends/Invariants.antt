@@ -1,6 +1,6 @@
 use Rattle.std.proofs.Common.{◌≡◌, map}
-use Rattle.sd_topo.specs.Network.{device_numbers}
-use Rattle.sd_topo.specs.Topologies.{network}
+use Rattle.sd_plan.specs.topo.Network.{device_numbers}
+use Rattle.sd_plan.specs.topo.Topologies.{network}
 use Rattle.sd_plan.specs.Tables.{ends_before}
 use Rattle.sd_plan.proofs.table.ends.all_ends.Given as goal
 

@@ -1,6 +1,6 @@
 use Rattle.std.proofs.Common.{◌≡◌, map, not, length, ap, ◌∙◌, arith}
 use Rattle.sd_num.specs.Lists.{below, has}
-use Rattle.sd_topo.specs.Topologies.{network}
+use Rattle.sd_plan.specs.topo.Topologies.{network}
 use Rattle.sd_plan.proofs.Numbered.{length-numbered}
 use Rattle.sd_planner.specs.Usable.{is_usable, takes_part}
 use Rattle.sd_planner.specs.Gathered.{over_links}

@@ -1,6 +1,6 @@
 use Rattle.std.proofs.Common.{◌≡◌, [], length, map, replicate, subst, refl, sym, ◌∙◌}
-use Rattle.sd_topo.specs.Network.{device_numbers}
-use Rattle.sd_topo.specs.Topologies.{network}
+use Rattle.sd_plan.specs.topo.Network.{device_numbers}
+use Rattle.sd_plan.specs.topo.Topologies.{network}
 use Rattle.sd_planner.specs.Gathered.{over_before}
 use Rattle.sd_plan.proofs.Listing.{rows_empty}
 use Rattle.sd_planner.proofs.present.joining.neighbours_by_link.Goals as goal

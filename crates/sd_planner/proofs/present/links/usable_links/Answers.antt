@@ -1,6 +1,6 @@
 use Rattle.std.proofs.Common.{ap, ◌∙◌, not, ◌++◌, ◌∷◌, [], sym, length, map, arith}
 use Rattle.sd_num.specs.Lists.{has, below}
-use Rattle.sd_topo.specs.Topologies.{network}
+use Rattle.sd_plan.specs.topo.Topologies.{network}
 use Rattle.sd_plan.proofs.Numbered.{length-numbered, numbered_more}
 use Rattle.sd_planner.specs.Usable.{is_usable, takes_part}
 use Rattle.sd_planner.proofs.Flags.{flags_usable}

@@ -1,6 +1,6 @@
 use Rattle.std.proofs.Common.{◌≡◌, map}
 use Rattle.sd_num.specs.Lists.{below}
-use Rattle.sd_topo.specs.Topologies.{network}
+use Rattle.sd_plan.specs.topo.Topologies.{network}
 use Rattle.sd_planner.specs.Usable.{is_usable}
 use Rattle.sd_planner.proofs.present.links.usable_links.Given as goal
 

@@ -1,6 +1,6 @@
 use Rattle.std.proofs.Common.{◌≡◌, drop, []}
 use Rattle.serde_json.specs.View.{items_view}
-use Rattle.sd_topo.specs.Topologies.{network}
+use Rattle.sd_plan.specs.topo.Topologies.{network}
 use Rattle.sd_plantext.specs.Counted.{names_of}
 use Rattle.sd_plantext.specs.Meaning.{names_from}
 use Rattle.sd_plantext.proofs.read.names.listed.Given as goal

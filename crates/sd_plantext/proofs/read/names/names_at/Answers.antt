@@ -1,6 +1,6 @@
 use Rattle.std.proofs.Common.{◌∙◌}
 use Rattle.serde_json.specs.View.{view, items_view}
-use Rattle.sd_topo.specs.Topologies.{network}
+use Rattle.sd_plan.specs.topo.Topologies.{network}
 use Rattle.sd_plantext.specs.Counted.{names_of}
 use Rattle.sd_plantext.proofs.Sound.{names_are}
 use Rattle.sd_plantext.proofs.read.names.names_at.Goals as goal

@@ -1,7 +1,7 @@
 use Rattle.std.proofs.Common.{◌<◌, ◌+◌, ◌∷◌, length, drop, ◌∙◌, ap, sym, arith}
 use Rattle.std.proofs.lemmas.List.{drop_more}
 use Rattle.serde_json.specs.declared.value.Value.{Value}
-use Rattle.sd_topo.specs.Topologies.{network}
+use Rattle.sd_plan.specs.topo.Topologies.{network}
 use Rattle.sd_plantext.proofs.Rows.{filled_within, rows_fail}
 use Rattle.sd_plantext.proofs.read.rows.all_rows.Goals as goal
 

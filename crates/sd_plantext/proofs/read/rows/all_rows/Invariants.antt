@@ -1,7 +1,7 @@
 use Rattle.std.proofs.Common.{◌≡◌, ◌+◌, length, drop}
 use Rattle.std.specs.Prelude.{vec_len}
 use Rattle.serde_json.specs.View.{items_view}
-use Rattle.sd_topo.specs.Topologies.{network}
+use Rattle.sd_plan.specs.topo.Topologies.{network}
 use Rattle.sd_plantext.specs.Counted.{filled}
 use Rattle.sd_plantext.specs.Meaning.{rows_from, no_rows}
 use Rattle.sd_plantext.proofs.read.rows.all_rows.Given as goal

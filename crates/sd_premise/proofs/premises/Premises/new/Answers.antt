@@ -1,10 +1,10 @@
 use Rattle.std.proofs.Common.{ℕ, ◌<◌, ◌^◌, [], List, length, refl, sym, ap, ◌∙◌, subst, arith}
-use Rattle.sd_topo.specs.Network.{Network}
-use Rattle.sd_topo.specs.Topologies.{network}
-use Rattle.sd_plan.specs.Domain.Failing.{HasRoomFor}
+use Rattle.sd_plan.specs.topo.Network.{Network}
+use Rattle.sd_plan.specs.topo.Topologies.{network}
+use Rattle.sd_plan.specs.domain.Failing.{HasRoomFor}
 use Rattle.sd_plan.specs.declared.Plan.{Plan}
-use Rattle.sd_fleet_state.specs.membership.Plans.{AreSound}
-use Rattle.sd_premise_renewal.specs.Progressing.{HasDevices}
+use Rattle.sd_world.specs.membership.Plans.{AreSound}
+use Rattle.sd_monitors.specs.renewal.Progressing.{HasDevices}
 use Rattle.sd_premise.proofs.premises.Premises.new.Goals as goal
 
 pub invariant_of-result : goal.invariant_of-result

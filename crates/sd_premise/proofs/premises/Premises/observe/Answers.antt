@@ -1,7 +1,7 @@
 use Rattle.std.proofs.Common.{◌∷◌, refl, sym, ◌∙◌}
 use Rattle.sd_history.specs.World.{Seen}
-use Rattle.sd_premise_clocks.specs.Sights.{sight_of}
-use Rattle.sd_premise_loss.specs.rounds.Standing.{IsShown}
+use Rattle.sd_monitors.specs.clocks.Sights.{sight_of}
+use Rattle.sd_monitors.specs.loss.rounds.Standing.{IsShown}
 use Rattle.sd_premise.proofs.Following.{follows}
 use Rattle.sd_premise.proofs.Judging.{answered, breaks_with}
 use Rattle.sd_premise.proofs.premises.Premises.observe.Goals as goal

@@ -1,6 +1,6 @@
 use Rattle.std.proofs.Common.{◌≡◌, ◌≤◌, false, None, Some, length, Option, option_map, refl, subst, sym, ap, ◌∙◌}
-use Rattle.sd_topo.specs.Network.{Network}
-use Rattle.sd_msg.specs.declared.Flight.{Flight}
+use Rattle.sd_plan.specs.topo.Network.{Network}
+use Rattle.sd_device.specs.declared.msg.Flight.{Flight}
 use Rattle.sd_sched.specs.declared.Event.TheVariants.{Recv}
 use Rattle.sd_sched.specs.Events.{reference_of}
 use Rattle.sd_sched.specs.Honesty.{clock_set}
@@ -8,11 +8,11 @@ use Rattle.sd_history.specs.World.{Seen}
 use Rattle.sd_history.specs.Premises.{newly}
 use Rattle.sd_history.specs.Refusals.{makes_some}
 use Rattle.sd_history.specs.Things.{failure_of}
-use Rattle.sd_fleet_state.specs.world.Registers.{registers_after}
-use Rattle.sd_premise_clocks.specs.Drifts.{reading_of, IsReading}
-use Rattle.sd_premise_clocks.proofs.Skipping.{start_skips}
-use Rattle.sd_premise_loss.specs.rounds.Standing.{IsShown}
-use Rattle.sd_premise_renewal.proofs.Skipping.{domain_skips, renewal_skips_receipt}
+use Rattle.sd_world.specs.world.Registers.{registers_after}
+use Rattle.sd_monitors.specs.clocks.Drifts.{reading_of, IsReading}
+use Rattle.sd_monitors.proofs.clocks.Skipping.{start_skips}
+use Rattle.sd_monitors.specs.loss.rounds.Standing.{IsShown}
+use Rattle.sd_monitors.proofs.renewal.Skipping.{domain_skips, renewal_skips_receipt}
 use Rattle.sd_premise.specs.Calm.{IsCalmReceipt}
 use Rattle.sd_premise.specs.Worlds.{world_after}
 use Rattle.sd_premise.proofs.Following.{follows}

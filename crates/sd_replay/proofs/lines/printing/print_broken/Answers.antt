@@ -1,4 +1,4 @@
-use Rattle.sd_topo.specs.Topologies.{network}
+use Rattle.sd_plan.specs.topo.Topologies.{network}
 use Rattle.sd_replay.specs.lines.Printed.{printed}
 use Rattle.sd_replay.proofs.lines.Bytes.{premise_by_premise}
 use Rattle.sd_replay.proofs.lines.printing.print_broken.Goals as goal

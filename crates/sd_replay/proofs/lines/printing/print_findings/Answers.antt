@@ -1,7 +1,7 @@
 use Rattle.std.specs.Prelude.{[]}
 use Rattle.std.proofs.Common.{sym}
 use Rattle.sd_num.specs.Lists.{map_or}
-use Rattle.sd_topo.specs.Topologies.{network}
+use Rattle.sd_plan.specs.topo.Topologies.{network}
 use Rattle.sd_history.specs.Lines.{broken_lines, report_lines}
 use Rattle.sd_replay.specs.lines.Findings.{line_bytes, loop_found, roots_found}
 use Rattle.sd_replay.proofs.lines.Bytes.{four_parts}

@@ -1,6 +1,6 @@
 use Rattle.std.proofs.Common.{◌≤◌, ℕ, List, length, arith, subst, sym, ap, ◌∙◌}
 use Rattle.std.proofs.lemmas.List.{length-append}
-use Rattle.sd_topo.specs.Topologies.{network}
+use Rattle.sd_plan.specs.topo.Topologies.{network}
 use Rattle.sd_replay.specs.lines.Printed.{printed}
 use Rattle.sd_replay.proofs.lines.Names.{name_short}
 use Rattle.sd_replay.proofs.lines.printing.push_name.Goals as goal

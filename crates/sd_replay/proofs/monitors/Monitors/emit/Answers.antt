@@ -2,7 +2,7 @@
 use Rattle.std.proofs.Common.{◌≤◌, List, length, refl, sym, subst}
 use Rattle.std.proofs.Props.{props}
 use Rattle.std.proofs.Math.Logic.{∥∥₁_elim}
-use Rattle.sd_msg.specs.declared.Flight.{Flight}
+use Rattle.sd_device.specs.declared.msg.Flight.{Flight}
 use Rattle.sd_premise.specs.Calm.{IsCalmTick, Sees}
 use Rattle.sd_premise.specs.Standing as premises
 use Rattle.sd_replay.proofs.Quick.{asks, device_there, looks}

@@ -1,6 +1,6 @@
 -- Nothing was seen, and no device counts.
 use Rattle.std.proofs.Common.{length, sym, ap, ◌∙◌}
-use Rattle.sd_topo.specs.Network.{Network}
+use Rattle.sd_plan.specs.topo.Network.{Network}
 use Rattle.sd_replay.proofs.ParentTable.{first_parent_table}
 use Rattle.sd_replay.proofs.monitors.Monitors.new.Goals as goal
 

@@ -1,10 +1,10 @@
 -- The event happens in the fleet, is looked at, is noted and is told.
 use Rattle.std.proofs.Common.{◌≡◌, ◌∙◌, ◌+◌, ◌++◌, ◌∷◌, [], ℕ, List, Option, Some, MatchOption, refl, sym, ap, subst}
 use Rattle.std.proofs.Math.Logic.{∥∥₁_map}
-use Rattle.sd_topo.specs.Topologies.{network}
-use Rattle.sd_clock.specs.declared.Report.{Report}
-use Rattle.sd_msg.specs.Observed.{ReportAt}
-use Rattle.sd_msg.specs.Observing.{report_at}
+use Rattle.sd_plan.specs.topo.Topologies.{network}
+use Rattle.sd_num.specs.declared.clock.Report.{Report}
+use Rattle.sd_device.specs.msg.Observed.{ReportAt}
+use Rattle.sd_device.specs.msg.Observing.{report_at}
 use Rattle.sd_sched.specs.Events.{reference_of}
 use Rattle.sd_history.specs.Nodes.{steps_of}
 use Rattle.sd_fleet.proofs.Refused.{refusal_is}

@@ -1,9 +1,9 @@
 use Rattle.std.proofs.Common.{List, subst, sym}
-use Rattle.sd_topo.specs.Network.{Each}
-use Rattle.sd_topo.specs.Topologies.{network}
+use Rattle.sd_plan.specs.topo.Network.{Each}
+use Rattle.sd_plan.specs.topo.Topologies.{network}
 use Rattle.sd_plan.specs.declared.Plan.{Plan}
 use Rattle.sd_plan.specs.Plans.{Fits}
-use Rattle.sd_proof_safety.specs.Checker.Verdicts.{IsAccepted}
+use Rattle.sd_checker.specs.Verdicts.{IsAccepted}
 use Rattle.sd_replay.proofs.replay.Replay.new.Goals as goal
 
 pub over-requires-clause-fit : goal.over-requires-clause-fit

@@ -1,7 +1,7 @@
 use Rattle.std.proofs.Common.{[], refl, sym, ◌∙◌, subst}
 use Rattle.sd_history.specs.World.{Setting}
-use Rattle.sd_topo.specs.Topologies.{network}
-use Rattle.sd_premise.specs.FleetState.membership.Plans.{AreSound}
+use Rattle.sd_plan.specs.topo.Topologies.{network}
+use Rattle.sd_world.specs.membership.Plans.{AreSound}
 use Rattle.sd_replay.proofs.Going.{are_sound, first_stands}
 use Rattle.sd_replay.proofs.replay.Replay.over.Goals as goal
 

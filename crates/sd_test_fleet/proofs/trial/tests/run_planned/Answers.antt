@@ -1,4 +1,4 @@
-use Rattle.sd_test_fleet_kit.specs.Topo.Topologies.{network}
+use Rattle.sd_plan.specs.topo.Topologies.{network}
 use Rattle.sd_test_fleet_kit.proofs.examples.Followed.{followed_as}
 use Rattle.sd_test_fleet.proofs.trial.tests.run_planned.Goals as goal
 

@@ -1,5 +1,5 @@
 use Rattle.std.proofs.Common.{refl}
-use Rattle.sd_topo.specs.Topologies.{network}
+use Rattle.sd_plan.specs.topo.Topologies.{network}
 use Rattle.sd_test_fleet_kit.proofs.examples.Followed.{followed_as}
 use Rattle.sd_test_fleet_kit.proofs.examples.fleets.fleet_over.Goals as goal
 

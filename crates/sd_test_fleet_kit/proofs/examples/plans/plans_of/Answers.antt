@@ -1,5 +1,5 @@
 use Rattle.std.proofs.Common.{arith}
-use Rattle.sd_topo.specs.Topologies.{network}
+use Rattle.sd_plan.specs.topo.Topologies.{network}
 use Rattle.sd_test_fleet_kit.proofs.examples.Followed.{followed_more}
 use Rattle.sd_test_fleet_kit.proofs.examples.plans.plans_of.Goals as goal
 

@@ -1,7 +1,7 @@
 use Rattle.std.proofs.Common.{◌≡◌, length}
-use Rattle.sd_checker.specs.Topo.Network.{Each}
-use Rattle.sd_checker.specs.Topo.Topologies.{network}
-use Rattle.sd_checker.specs.Plan.Plans.{Fits}
+use Rattle.sd_plan.specs.topo.Network.{Each}
+use Rattle.sd_plan.specs.topo.Topologies.{network}
+use Rattle.sd_plan.specs.Plans.{Fits}
 use Rattle.sd_checker.specs.Verdicts.{IsAccepted}
 use Rattle.sd_test_replay.proofs.tests.accepted.accepted_plans.Given as goal
 

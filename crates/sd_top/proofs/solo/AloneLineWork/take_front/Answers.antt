@@ -1,5 +1,5 @@
 use Rattle.std.proofs.Common.{take}
-use Rattle.sd_cmd_files.proofs.Stream.Windows.{ends_at}
+use Rattle.sd_io.proofs.stream.Windows.{ends_at}
 use Rattle.sd_top.proofs.solo.AloneLineWork.take_front.Goals as goal
 
 pub returns-in-Ok-clause-ends : goal.returns-in-Ok-clause-ends

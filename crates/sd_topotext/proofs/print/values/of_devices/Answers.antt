@@ -1,7 +1,7 @@
 use Rattle.std.proofs.Common.{ap, ◌∙◌}
 use Rattle.toml.specs.Data.{string}
-use Rattle.sd_topo.specs.Network.{device_names, name_at}
-use Rattle.sd_topo.specs.Topologies.{network}
+use Rattle.sd_plan.specs.topo.Network.{device_names, name_at}
+use Rattle.sd_plan.specs.topo.Topologies.{network}
 use Rattle.sd_topotext.proofs.Printing.{items_more}
 use Rattle.sd_topotext.proofs.print.values.of_devices.Goals as goal
 

@@ -1,8 +1,8 @@
 use Rattle.std.proofs.Common.{◌≡◌, map, take}
 use Rattle.toml.specs.Data.{string}
 use Rattle.toml.specs.View.{items_of, items_view}
-use Rattle.sd_topo.specs.Network.{link_names, name_at}
-use Rattle.sd_topo.specs.Topologies.{network}
+use Rattle.sd_plan.specs.topo.Network.{link_names, name_at}
+use Rattle.sd_plan.specs.topo.Topologies.{network}
 use Rattle.sd_topotext.proofs.print.values.of_links.Given as goal
 
 abbrev pub invariant-loop-l : goal.invariant-loop-l

@@ -1,5 +1,5 @@
 use Rattle.toml.specs.View.{table_view, items_view}
-use Rattle.sd_topo.specs.Seen.{names_seen}
+use Rattle.sd_plan.specs.topo.Seen.{names_seen}
 use Rattle.sd_topotext.proofs.Sound.{members_are}
 use Rattle.sd_topotext.proofs.read.domains.members_at.Goals as goal
 

@@ -1,6 +1,6 @@
 use Rattle.std.proofs.Common.{ℕ, List, ◌∙◌, subst}
 use Rattle.std.specs.List.Sorted.{IsPermutation}
-use Rattle.sd_topo.proofs.Ascending.{sorted_ascending}
+use Rattle.sd_plan.proofs.topo.Ascending.{sorted_ascending}
 use Rattle.sd_topotext.proofs.read.domains.sorted.Goals as goal
 
 pub returns-in-Ok-sort-clause-ok : goal.returns-in-Ok-sort-clause-ok

@@ -1,6 +1,6 @@
 use Rattle.std.proofs.Common.{◌≡◌, drop, []}
 use Rattle.toml.specs.View.{items_view}
-use Rattle.sd_topo.specs.Seen.{names_seen}
+use Rattle.sd_plan.specs.topo.Seen.{names_seen}
 use Rattle.sd_topotext.specs.Meaning.{each_from, one_more}
 use Rattle.sd_topotext.proofs.read.names.listed.Given as goal
 

@@ -1,6 +1,6 @@
 use Rattle.std.proofs.Common.{arith, rules, subst, sym, List, ℕ, set as put}
 use Rattle.std.proofs.lemmas.Grind.{common_steps}
-use Rattle.sd_checker.specs.CheckHit.Outages.{net_of, plan_of}
+use Rattle.sd_checker.specs.check_hit.Outages.{net_of, plan_of}
 use Rattle.sd_drill.specs.recovery.Searches.{IsSearch}
 use Rattle.sd_drill.specs.declared.recovery.marks.Mark.TheVariants as mark
 use Rattle.sd_drill.proofs.recovery.Searching.{search_entered}

@@ -1,5 +1,5 @@
 use Rattle.std.proofs.Common.{List, sym, subst}
-use Rattle.sd_checker.specs.CheckHit.Outages.{net_of, plan_of}
+use Rattle.sd_checker.specs.check_hit.Outages.{net_of, plan_of}
 use Rattle.sd_drill.specs.recovery.Searches.{IsSettled, mark_at}
 use Rattle.sd_drill.specs.declared.recovery.marks.Mark.{Mark}
 use Rattle.sd_drill.proofs.recovery.Searching.{settled_off}

@@ -1,5 +1,5 @@
 use Rattle.std.proofs.Common.{◌≡◌, ◌≢◌, length}
-use Rattle.sd_checker.specs.CheckHit.Outages.{net_of, plan_of}
+use Rattle.sd_checker.specs.check_hit.Outages.{net_of, plan_of}
 use Rattle.sd_drill.specs.recovery.Searches.{IsSearch, NoneNewer, mark_at, search_left}
 use Rattle.sd_drill.specs.declared.recovery.marks.Mark.TheVariants as mark
 use Rattle.sd_drill.proofs.recovery.search.Recoveries.settle_from.Given as goal

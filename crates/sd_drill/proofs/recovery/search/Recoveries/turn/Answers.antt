@@ -1,7 +1,7 @@
 use Rattle.std.proofs.Common.{◌≡◌, ◌∙◌, ℕ, List, Some, None, ap, sym, subst}
-use Rattle.sd_checker.specs.CheckHit.Outages.{net_of, plan_of}
+use Rattle.sd_checker.specs.check_hit.Outages.{net_of, plan_of}
 use Rattle.sd_plan.proofs.Rules.{keeps_rules}
-use Rattle.sd_checker.specs.CheckLoop.Loops.{hops_of}
+use Rattle.sd_checker.specs.check_loop.Loops.{hops_of}
 use Rattle.sd_drill.specs.recovery.Hops.{listed, BothAre}
 use Rattle.sd_drill.specs.recovery.Searches.{Leads, IsSettled, first_new, mark_at}
 use Rattle.sd_drill.specs.declared.recovery.marks.Mark.{Mark}

@@ -1,6 +1,6 @@
 use Rattle.std.proofs.Common.{◌≡◌, length}
-use Rattle.sd_topo.specs.Places.{domain_of}
-use Rattle.sd_topo.specs.Topologies.{network}
+use Rattle.sd_plan.specs.topo.Places.{domain_of}
+use Rattle.sd_plan.specs.topo.Topologies.{network}
 use Rattle.sd_planner.specs.Listed.{ListUnder}
 use Rattle.sd_planner.proofs.backups.domain_lists.DomainLists.new.Given as goal
 

@@ -1,9 +1,9 @@
 use Rattle.std.proofs.Common.{◌≡◌, true, length, ap, subst, arith}
 use Rattle.sd_num.specs.Lists.{has}
 use Rattle.sd_num.proofs.Shared.{has_within}
-use Rattle.sd_topo.specs.Places.{domain_of}
-use Rattle.sd_topo.specs.Topologies.{network}
-use Rattle.sd_topo.proofs.Laws.{domain_law}
+use Rattle.sd_plan.specs.topo.Places.{domain_of}
+use Rattle.sd_plan.specs.topo.Topologies.{network}
+use Rattle.sd_plan.proofs.topo.Laws.{domain_law}
 use Rattle.sd_planner.proofs.backups.things.Things.add_domain.Goals as goal
 
 pub set_flags-requires : goal.set_flags-requires

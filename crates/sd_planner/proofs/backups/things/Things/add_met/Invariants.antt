@@ -1,4 +1,4 @@
-use Rattle.sd_topo.specs.Topologies.{network}
+use Rattle.sd_plan.specs.topo.Topologies.{network}
 use Rattle.sd_planner.specs.Things.{AddsAll, met_device, met_link}
 use Rattle.sd_planner.proofs.backups.things.Things.add_met.Given as goal
 

@@ -1,5 +1,5 @@
 use Rattle.std.proofs.Common.{◌+◌, ◌≤◌, arith}
-use Rattle.sd_twoway.specs.Joints.{count_of, joint_at}
+use Rattle.sd_commands.specs.exchanges.Joints.{count_of, joint_at}
 use Rattle.sd_test_texts.proofs.sched.tests.exchanges.the_spans_of_a_link_are_joined.Goals as goal
 
 pub add-requires-3-clause-room : goal.add-requires-3-clause-room

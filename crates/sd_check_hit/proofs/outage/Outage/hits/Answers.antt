@@ -1,9 +1,0 @@
-use Rattle.std.proofs.Common.{◌∙◌}
-use Rattle.sd_check_hit.specs.Outages.{net_of, plan_of}
-use Rattle.sd_check_hit.proofs.HitList.{hit_by_place}
-use Rattle.sd_check_hit.proofs.outage.Outage.hits.Goals as goal
-
-pub returns : goal.returns
-returns c =
-    let o = c.args.self.now in
-    c.is_some.ensures ∙ hit_by_place (net_of o) (plan_of o) o.domain c.place_of.result o.hit.now c.args.d o.hits c.place_of.ensures

@@ -1,8 +1,0 @@
-use Rattle.std.proofs.Common.{◌≡◌, ℕ, take, if◌then◌else◌}
-use Rattle.sd_num.specs.Lists.{has}
-use Rattle.sd_check_loop.specs.Markings.{mark_at}
-use Rattle.sd_check_loop.specs.declared.marking.Mark.TheVariants as mark
-use Rattle.sd_check_loop.proofs.marking.mark_endless.Given as goal
-
-abbrev pub invariant-loop-i : goal.invariant-loop-i
-invariant-loop-i l = (k : ℕ) → mark_at l.marks k ≡ (if has (take l.i-index l.places) k then mark.Endless else mark_at l.initial.marks k)

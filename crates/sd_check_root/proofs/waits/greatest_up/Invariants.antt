@@ -1,8 +1,0 @@
-use Rattle.std.proofs.Common.{◌≡◌, ◌≤◌, ◌+◌, ◌*◌, ◌^◌}
-use Rattle.sd_num.specs.Lists.{greatest}
-use Rattle.sd_topo.specs.Topologies.{network}
-use Rattle.sd_check_root.proofs.Extremes.{ups}
-use Rattle.sd_check_root.proofs.waits.greatest_up.Given as goal
-
-abbrev pub invariant-loop-d : goal.invariant-loop-d
-invariant-loop-d l = record { is : l.greatest ≡ greatest (ups (network l.topo) l.x l.d); bound : l.greatest ≤ 2 * l.x + 2 ^ 40 }

@@ -1,0 +1,6 @@
+pub mod Loops
+pub mod Answered
+pub mod Graphs
+pub mod Markings
+pub mod Shown
+pub mod Trails

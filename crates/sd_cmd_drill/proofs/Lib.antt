@@ -1,4 +1,0 @@
-pub mod Prefixes
-pub mod Ranges
-mod Names
-pub mod Membership

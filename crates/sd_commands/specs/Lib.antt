@@ -1,0 +1,4 @@
+pub mod exchanges
+pub mod replay
+pub mod solo
+pub mod twoway

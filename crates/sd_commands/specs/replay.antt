@@ -1,0 +1,11 @@
+pub mod Reasons
+pub mod Reasoned
+pub mod Replays
+pub mod Loaded
+pub mod Writes
+pub mod Early
+pub mod Runs
+pub mod Starting
+pub mod Doing
+pub mod Telling
+pub mod Promises

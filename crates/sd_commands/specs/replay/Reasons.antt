@@ -1,0 +1,33 @@
+-- Why a line of a schedule is refused, as it is printed.
+use Rattle.std.specs.Prelude.{ℕ, List, ◌++◌, codes, decimal}
+use Rattle.sd_sched.specs.declared.LineFault.{LineFault}
+use Rattle.sd_sched.specs.declared.LineFault.TheVariants.{UnknownWord, FieldCount, Number}
+use Rattle.sd_history.specs.declared.ApplyFault.{ApplyFault}
+use Rattle.sd_history.specs.declared.ApplyFault.TheVariants as apply
+
+-- the line is none of a schedule
+abbrev pub line_reason : LineFault → List ℕ
+line_reason UnknownWord = codes "UnknownWord"
+line_reason FieldCount = codes "FieldCount"
+line_reason (Number field) = codes "Number " ++ decimal field
+
+-- the fleet refuses its event
+abbrev pub apply_name : ApplyFault → List ℕ
+apply_name apply.UnknownDevice = codes "UnknownDevice"
+apply_name apply.UnknownLink = codes "UnknownLink"
+apply_name apply.DeadDevice = codes "DeadDevice"
+apply_name apply.DeadLink = codes "DeadLink"
+apply_name apply.UnknownMessage = codes "UnknownMessage"
+apply_name apply.SpentMessage = codes "SpentMessage"
+apply_name apply.WrongDevice = codes "WrongDevice"
+apply_name apply.TimeFalls = codes "TimeFalls"
+apply_name apply.CounterFalls = codes "CounterFalls"
+apply_name apply.NotStarted = codes "NotStarted"
+apply_name apply.StartedTwice = codes "StartedTwice"
+apply_name apply.NoPlanLeft = codes "NoPlanLeft"
+apply_name apply.WindowOrder = codes "WindowOrder"
+apply_name apply.AfterEnd = codes "AfterEnd"
+apply_name apply.NotFailed = codes "NotFailed"
+apply_name apply.NotMember = codes "NotMember"
+apply_name apply.TooManyEvents = codes "TooManyEvents"
+apply_name apply.Memory = codes "Memory"

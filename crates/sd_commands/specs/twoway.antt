@@ -1,0 +1,5 @@
+pub mod Judged
+pub mod Twoways
+pub mod Promises
+pub mod Tallies
+pub mod Doing

@@ -1,4 +1,0 @@
-mod Rows
-pub mod Ends
-pub mod Joining
-pub mod Laws

@@ -1,6 +1,0 @@
--- What lines of logs say.
-pub mod Entries
-pub mod Then
-pub mod Lines
-pub mod Merging
-pub mod Reasons

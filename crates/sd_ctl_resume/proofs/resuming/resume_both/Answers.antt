@@ -1,4 +1,0 @@
-use Rattle.sd_ctl_resume.proofs.resuming.resume_both.Goals as goal
-
-pub returns-clause-makes : goal.returns-clause-makes
-returns-clause-makes g c = c.resume_beside-made.ensures.makes c.in_ok-one.ensures

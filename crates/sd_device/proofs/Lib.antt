@@ -1,0 +1,9 @@
+pub mod Receiving
+pub mod Reached
+pub mod Ticks
+pub mod Stands
+pub mod Keeping
+pub mod Orderly
+pub mod Exactness
+pub mod Rebasing
+pub mod Summing

@@ -1,0 +1,12 @@
+pub mod Calls
+pub mod Steps
+pub mod Exact
+pub mod Living
+pub mod Words
+pub mod Lives
+pub mod Rules
+pub mod Limits
+pub mod Standing
+pub mod Planless
+pub mod Rebases
+pub mod msg

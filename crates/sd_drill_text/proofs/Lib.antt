@@ -1,0 +1,6 @@
+pub mod Prefixes
+pub mod Ranges
+mod Names
+pub mod Membership
+pub mod Commands
+pub mod Existing

@@ -1,0 +1,12 @@
+use Rattle.std.proofs.Common.{arith}
+use Rattle.std.proofs.lemmas.List.{length-map}
+use Rattle.sd_plan.specs.topo.Network.{link_names}
+use Rattle.sd_plan.specs.topo.Topologies.{network}
+use Rattle.sd_drill_text.proofs.Names.{name_short}
+use Rattle.sd_drill_text.proofs.lines.link_name.Goals as goal
+
+pub returns-clause-short : goal.returns-clause-short
+returns-clause-short c =
+    let net = network c.args.topo.now in
+    rw c.link_name.ensures (name_short (link_names net) c.args.l
+    (omega (arith, c.requires, length-map net.links (λ link. link.name))) c.args.topo.now.is_network.names.1)

@@ -1,0 +1,11 @@
+pub mod Adding
+pub mod Writes
+pub mod Kinds
+pub mod Endings
+pub mod Printing
+pub mod Rooms
+pub mod Ready
+pub mod Pages
+pub mod Steps
+pub mod Commands
+pub mod Drilled

@@ -1,0 +1,4 @@
+pub mod Loading
+pub mod Keeping
+pub mod Shared
+pub mod Single

@@ -1,0 +1,12 @@
+pub mod Texts
+pub mod Inputs
+pub mod Reasons
+pub mod Statuses
+pub mod Stops
+pub mod Answering
+pub mod Single
+pub mod Loads
+pub mod Writes
+pub mod planfiles
+pub mod work
+pub mod edge

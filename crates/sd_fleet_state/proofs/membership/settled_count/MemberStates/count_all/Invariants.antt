@@ -1,6 +1,0 @@
-use Rattle.std.proofs.Common.{◌≡◌}
-use Rattle.sd_fleet_state.specs.membership.Counts.{count_below, seen_by}
-use Rattle.sd_fleet_state.proofs.membership.settled_count.MemberStates.count_all.Given as goal
-
-abbrev pub invariant-loop-d : goal.invariant-loop-d
-invariant-loop-d l = l.settled_count ≡ count_below (seen_by l.self) l.d

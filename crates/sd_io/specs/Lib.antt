@@ -1,0 +1,2 @@
+pub mod outside
+pub mod stream

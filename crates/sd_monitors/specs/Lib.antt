@@ -1,0 +1,3 @@
+pub mod clocks
+pub mod loss
+pub mod renewal

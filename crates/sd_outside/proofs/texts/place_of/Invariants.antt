@@ -1,7 +1,0 @@
-use Rattle.std.proofs.Common.{◌≡◌, drop}
-use Rattle.sd_outside.specs.Texts.{files_seen, text_in}
-use Rattle.sd_outside.proofs.texts.place_of.Given as goal
-
--- the files so far have other names
-abbrev pub invariant-loop-place : goal.invariant-loop-place
-invariant-loop-place l = text_in (files_seen l.files) l.name ≡ text_in (files_seen (drop l.place l.files)) l.name

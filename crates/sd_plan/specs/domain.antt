@@ -1,0 +1,9 @@
+pub mod Domains
+pub mod Lone
+pub mod NumberSets
+pub mod NumberSetView
+pub mod Failures
+pub mod Things
+pub mod FailureView
+pub mod Within
+pub mod Failing

@@ -1,8 +1,0 @@
-use Rattle.std.proofs.Common.{map, ap, ◌∙◌}
-use Rattle.sd_premise_clocks.specs.declared.queue.Mark.{Mark}
-use Rattle.sd_premise_clocks.proofs.Queueing.{numbers_replicate}
-use Rattle.sd_premise_clocks.proofs.queue.Queue.new.Goals as goal
-
-pub returns-in-Ok-with_capacity : goal.returns-in-Ok-with_capacity
-returns-in-Ok-with_capacity c = ap (map (λ (m : Mark). m.number)) (c.in-Ok.ensures.items_if_clones_equal (λ y same. same))
-    ∙ numbers_replicate c.args.places _

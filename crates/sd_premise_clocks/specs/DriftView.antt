@@ -1,7 +1,0 @@
--- What contracts see of the monitor of drift.
-use Rattle.sd_premise_clocks.specs.Drifts.{DriftKept}
-use Rattle.sd_premise_clocks.specs.declared.drift.DriftMonitor.TheInside.{Inside}
-
--- its fields
-abbrev pub drift_kept : Inside → DriftKept
-drift_kept m = record { lives = m.lives.items; holds = m.holds }

@@ -1,4 +1,0 @@
-use Rattle.sd_premise_loss.proofs.flights.runs.put.Goals as goal
-
-pub returns-clause-beside : goal.returns-clause-beside
-returns-clause-beside c t r = c.in-Ok.ensures.updates.0 (t, r)

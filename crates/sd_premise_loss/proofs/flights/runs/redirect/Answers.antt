@@ -1,4 +1,0 @@
-use Rattle.sd_premise_loss.proofs.flights.runs.redirect.Goals as goal
-
-pub returns-clause-beside : goal.returns-clause-beside
-returns-clause-beside c t r = ((c.get_mut.follows.holds c.args.end).3 c.requires).0 (t, r)

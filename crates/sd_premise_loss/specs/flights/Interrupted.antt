@@ -1,9 +1,0 @@
--- Which flights are interrupted, told by one number for each device and link.
-use Rattle.std.specs.Prelude.{ℕ, Bool, ◌||◌, nat_le}
-use Rattle.sd_topo.specs.declared.Thing.{Thing}
-use Rattle.sd_topo.specs.declared.Thing.TheVariants as thing
-use Rattle.sd_premise_loss.specs.declared.flights.WaitingFlight.{WaitingFlight}
-
--- a failure of its sender, its receiver or its link interrupted the flight
-abbrev pub is_interrupted : (Thing → ℕ) → WaitingFlight → Bool
-is_interrupted to f = nat_le f.number (to (thing.Device f.sender)) || nat_le f.number (to (thing.Device f.receiver)) || nat_le f.number (to (thing.Link f.link))

@@ -1,6 +1,0 @@
-//! The premise of loss: what its monitor keeps of flights and of spoiled rounds (`flights`), and the
-//! monitor itself (`rounds`). `sd_premise` stands on it.
-#![tactic(auto)]
-
-pub mod flights;
-pub mod rounds;

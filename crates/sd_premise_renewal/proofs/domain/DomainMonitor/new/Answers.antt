@@ -1,7 +1,0 @@
-use Rattle.std.proofs.Common.{refl, sym, ap, ◌∙◌}
-use Rattle.sd_domain.specs.Failures.{nothing_in}
-use Rattle.sd_premise_renewal.proofs.Failing.{domain_begins}
-use Rattle.sd_premise_renewal.proofs.domain.DomainMonitor.new.Goals as goal
-
-pub returns-clause-stands : goal.returns-clause-stands
-returns-clause-stands c setting net = domain_begins setting _ (c.in_ok-failed.ensures ∙ ap nothing_in (sym net)) refl

@@ -1,7 +1,0 @@
--- What contracts see of the monitor of failures.
-use Rattle.sd_premise_renewal.specs.Domains.{DomainKept}
-use Rattle.sd_premise_renewal.specs.declared.domain.DomainMonitor.TheInside.{Inside}
-
--- its fields
-abbrev pub domain_kept : Inside → DomainKept
-domain_kept m = record { failed = m.failed; holds = m.holds }

@@ -1,7 +1,0 @@
--- What contracts see of the monitor of renewals.
-use Rattle.sd_premise_renewal.specs.Renewals.{RenewalKept}
-use Rattle.sd_premise_renewal.specs.declared.renewal.RenewalMonitor.TheInside.{Inside}
-
--- its fields
-abbrev pub renewal_kept : Inside → RenewalKept
-renewal_kept m = record { progress = m.progress; holds = m.holds }

@@ -1,0 +1,14 @@
+pub mod Listing
+pub mod Members
+pub mod Passing
+pub mod Keeping
+pub mod Looking
+pub mod Standing
+pub mod Found
+pub mod Happening
+pub mod Losing
+pub mod Laws
+pub mod Entering
+pub mod Working
+pub mod Recordings
+pub mod Lawful

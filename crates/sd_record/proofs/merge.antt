@@ -1,0 +1,12 @@
+pub mod Merges
+pub mod Order
+pub mod Putting
+pub mod Settling
+pub mod Keeping
+pub mod Picking
+pub mod Popping
+pub mod Turning
+pub mod Growth
+pub mod Queueing
+pub mod Working
+pub mod Laws

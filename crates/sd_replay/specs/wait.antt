@@ -1,0 +1,5 @@
+pub mod Waits
+pub mod Printed
+pub mod Waiting
+pub mod WaitsView
+pub mod Standing

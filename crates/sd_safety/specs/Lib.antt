@@ -1,0 +1,12 @@
+pub mod behind
+pub mod commits
+pub mod entering
+pub mod fallbacks
+pub mod frame
+pub mod invariant
+pub mod messages
+pub mod moves
+pub mod rounds
+pub mod silences
+pub mod timers
+pub mod windows

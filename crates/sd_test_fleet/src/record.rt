@@ -1,0 +1,3 @@
+//! The worked triangle, recorded from the lines of its logs.
+#[cfg(test)]
+mod tests;

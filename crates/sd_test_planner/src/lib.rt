@@ -1,5 +1,0 @@
-//! Greedy plans, and how devices are placed for them.
-#![tactic(auto)]
-
-#[cfg(test)]
-mod tests;

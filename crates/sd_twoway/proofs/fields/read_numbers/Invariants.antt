@@ -1,5 +1,0 @@
-use Rattle.sd_twoway.proofs.Fieldwise.{ReadTo}
-use Rattle.sd_twoway.proofs.fields.read_numbers.Given as goal
-
-abbrev pub invariant-loop-place : goal.invariant-loop-place
-invariant-loop-place l = ReadTo l.behind l.numbers l.refused l.left l.place

@@ -1,8 +1,0 @@
-pub mod Rows
-pub mod Sorting
-pub mod Rising
-pub mod Below
-pub mod Ends
-pub mod Worsts
-pub mod Standing
-pub mod Texts

@@ -1,6 +1,0 @@
--- No device has a mark yet.
-use Rattle.sd_watch.proofs.Marking.{fresh}
-use Rattle.sd_watch.proofs.loops.first_loop.Goals as goal
-
-pub first_by_marks-requires-clause-new : goal.first_by_marks-requires-clause-new
-first_by_marks-requires-clause-new c = fresh 4096
