@@ -1,3 +1,3 @@
-//! Tests that compare the checker with a plain slow program.
+//! The conditions that the checker asks of a plan.
 #[cfg(test)]
 mod tests;

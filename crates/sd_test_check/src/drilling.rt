@@ -1,3 +1,3 @@
-//! Tests that compare the drill with a plain slow program.
+//! The ages of the drill.
 #[cfg(test)]
 mod tests;

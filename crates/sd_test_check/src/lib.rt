@@ -1,9 +1,6 @@
-//! The checker and the drill beside plain slow programs (`plain`), over many small networks; and
-//! greedy plans, searched plans and how devices are placed for them (`planner`).
+//! Tests of single calls below `check`, `plan`, `drill` and `search`: conditions, places, ages and drafts.
 #![tactic(auto)]
 
 mod checking;
 mod drilling;
-#[cfg(test)]
-mod plain;
 pub mod planner;

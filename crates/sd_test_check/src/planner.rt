@@ -1,3 +1,3 @@
-//! Greedy plans, and how devices are placed for them.
+//! How devices are placed for greedy plans, and drafts of plans that are searched for.
 #[cfg(test)]
 mod tests;

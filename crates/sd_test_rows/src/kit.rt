@@ -1,5 +1,4 @@
-//! What worked runs of the program share: texts in memory, one run of words over them, and the
-//! usage line.
+//! One run of a program over texts in memory, and where the outside fails in it.
 
 ghost use Rattle.std.specs.Prelude.{◌≡◌, ◌≤◌, false, IfOk};
 
@@ -7,23 +6,44 @@ use sd_io::outside::{MemShelf, MemSink};
 use sd_num::NoMemory;
 use sd_top::{Status, run};
 use std::alloc::{AllocError, Global};
+use std::process::Abort;
+use std::test::Fail;
 
-/// What is written for words that are no command's.
-pub const USAGE: &str =
-    "usage: sundial solo SCHEDULE | plan TOPOLOGY | check TOPOLOGY PLAN | renew TOPOLOGY PLAN ABSENT | replay TOPOLOGY PLAN.. SCHEDULE | case NUMBER LEAVES SPINES | migrate TOPOLOGY | order TOPOLOGY PLAN.. SCHEDULE | twoway TOPOLOGY EXCHANGES | drill TOPOLOGY PLAN BASE HOLD\n";
+/// A run: its words, the texts under their names, and what it writes and answers where nothing
+/// fails.
+#[derive(Clone, Copy)]
+pub(crate) struct Case<'a> {
+    /// Whether it is one of the second program, `sundialctl`.
+    pub(crate) ctl: bool,
+    pub(crate) words: &'a [&'a str],
+    pub(crate) texts: &'a [(&'a str, &'a str)],
+    pub(crate) output: &'a str,
+    pub(crate) status: Status,
+}
+
+/// How a shelf lends texts, and where it and a sink fail.
+#[derive(Clone, Copy)]
+pub(crate) struct Outside<'a> {
+    /// A read gives at most this many bytes.
+    pub(crate) piece: usize,
+    /// The calls of the shelf that fail, counted from 1.
+    pub(crate) calls: &'a [u64],
+    /// The writes that fail, counted from 1, and how many bytes each keeps.
+    pub(crate) writes: &'a [(u64, usize)],
+}
 
 /// What a run has answered, and where it has written.
 #[derive(Drop)]
-pub struct Ran {
-    pub status: Status,
-    pub out: MemSink,
+struct Ran {
+    status: Status,
+    out: MemSink,
 }
 
 /// A shelf that holds these texts under their names and lends them in pieces of at most `piece`
-/// bytes. Its calls whose numbers are listed fail, counted from 1.
-pub fn shelf_of(
+/// bytes. Its calls whose numbers are listed fail.
+fn shelf_of(
     alloc: Global,
-    texts: &[(&str, &[u8])],
+    texts: &[(&str, &str)],
     piece: usize,
     failing: &[u64],
 ) -> Result<MemShelf, AllocError>
@@ -34,7 +54,7 @@ pub fn shelf_of(
     for text in texts {
         files.push((
             String::from_str(alloc, text.0)?,
-            Vec::from_slice(alloc, text.1)?,
+            Vec::from_slice(alloc, text.1.as_bytes())?,
         ))?;
     }
     Ok(MemShelf::new(files, piece, Vec::from_slice(alloc, failing)?))
@@ -57,36 +77,71 @@ fn sink_of(alloc: Global, failing: &[(u64, usize)]) -> Result<MemSink, AllocErro
     }
 }
 
-/// Runs the words over a shelf and a sink of 10,000 bytes. A write whose number is listed, counted
-/// from 1, keeps this many bytes and fails.
+/// Runs the words of a case over a shelf and a sink of 10,000 bytes.
 ///
-/// Nothing is promised here of what the run answers: a row compares that, and its proof need not go
+/// Nothing is promised here of what the run answers: a test compares that, and its proof need not go
 /// through all that `run` promises.
-pub fn run_words(
+fn run_words(
     alloc: Global,
-    words: &[&str],
+    case: &Case<'_>,
     shelf: &mut MemShelf,
     failing: &[(u64, usize)],
 ) -> Result<Ran, AllocError>
     requires { shelf.old.begun ≡ false }
 {
-    let list = list_of(alloc, words)?;
+    let list = list_of(alloc, case.words)?;
     let mut out = sink_of(alloc, failing)?;
-    let status = run(alloc, list.as_slice(), shelf, &mut out);
+    let status = if case.ctl {
+        sd_ctl_top::run(alloc, list.as_slice(), shelf, &mut out)
+    } else {
+        run(alloc, list.as_slice(), shelf, &mut out)
+    };
     Ok(Ran { status, out })
 }
 
-/// The same of the second program, `sundialctl`.
-pub fn run_ctl_words(
-    alloc: Global,
-    words: &[&str],
-    shelf: &mut MemShelf,
-    failing: &[(u64, usize)],
-) -> Result<Ran, AllocError>
-    requires { shelf.old.begun ≡ false }
+/// A run writes and answers what is due, and leaves at least this many bytes of the text that it
+/// began last.
+pub(crate) fn assert_leaves(
+    rt: &(impl Abort + AllocGlobal),
+    case: &Case<'_>,
+    outside: Outside<'_>,
+    due: (&str, Status),
+    least: usize,
+) -> Result<(), Fail>
+    requires { 1 ≤ outside.piece }
 {
-    let list = list_of(alloc, words)?;
-    let mut out = sink_of(alloc, failing)?;
-    let status = sd_ctl_top::run(alloc, list.as_slice(), shelf, &mut out);
-    Ok(Ran { status, out })
+    let Outside {
+        piece,
+        calls,
+        writes,
+    } = outside;
+    let (output, status) = due;
+    let words = case.words;
+    let mut shelf = shelf_of(rt.alloc(), case.texts, piece, calls)?;
+    let ran = run_words(rt.alloc(), case, &mut shelf, writes)?;
+    let wrote = std::str::from_utf8(ran.out.bytes());
+    assert_eq!(rt;
+        wrote,
+        Ok(output),
+        "{words:?} in pieces of {piece}, {calls:?}, {writes:?}"
+    );
+    assert_eq!(rt;
+        ran.status,
+        status,
+        "{words:?} in pieces of {piece}, {calls:?}, {writes:?}"
+    );
+    assert!(rt; shelf.left().len() >= least);
+    Ok(())
+}
+
+/// A run writes and answers what is due.
+pub(crate) fn assert_ran(
+    rt: &(impl Abort + AllocGlobal),
+    case: &Case<'_>,
+    outside: Outside<'_>,
+    due: (&str, Status),
+) -> Result<(), Fail>
+    requires { 1 ≤ outside.piece }
+{
+    assert_leaves(rt, case, outside, due, 0)
 }

@@ -1,23 +1,11 @@
-//! Worked runs of both programs, over a shelf and a sink in memory.
+//! Runs of both programs over a shelf and a sink in memory, which give texts in pieces and fail.
 #![tactic(auto)]
 
 #[cfg(test)]
-mod case;
-#[cfg(test)]
-mod ctl;
-#[cfg(test)]
-mod drill;
+mod cases;
 #[cfg(test)]
 mod kit;
 #[cfg(test)]
-mod order;
-#[cfg(test)]
-mod plans;
-#[cfg(test)]
-mod replay;
-#[cfg(test)]
-mod runs;
-#[cfg(test)]
 mod tests;
 #[cfg(test)]
-mod twoway;
+mod texts;

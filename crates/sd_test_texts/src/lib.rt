@@ -1,5 +1,5 @@
-//! Tests of texts: topologies, plans, schedules and their words, and listed domains; and of one
-//! device alone, which takes the events of a schedule.
+//! Tests of texts: topologies, plans, schedules and their words, spans of exchanges, and listed
+//! domains.
 #![tactic(auto)]
 
 mod domain;
@@ -7,5 +7,4 @@ mod plantext;
 #[cfg(test)]
 mod same;
 mod sched;
-mod solo;
 mod topotext;

@@ -1,189 +1,130 @@
-//! The checker beside a plain slow program, on networks and plans made by counting and by hand.
-ghost use Rattle.sd_plan.specs.Plans.{Fits};
+//! The four conditions on domains, each asked by itself over a square with one diagonal, which is read.
+ghost use Rattle.std.specs.Prelude.{◌≡◌};
+ghost use Rattle.sd_plan.specs.domain.Lone.{IsDomain};
+ghost use Rattle.sd_plan.specs.Examples as examples;
+ghost use Rattle.sd_plan.specs.Examples.{IsSquare};
 ghost use Rattle.sd_plan.specs.topo.Topologies.{network};
 
-mod cycles;
-mod single;
-mod worked;
-
-use crate::plain::{
-    Change, Plain, Said, Setup, Shape, counted_case, plan_of, said_by, topology_of,
-};
-use sd_checker::{Verdict, accepted_line, check, refused_line};
+use sd_checker::check_loop::loop_breach;
+use sd_checker::check_reach::{domain_breach, reach_breach};
+use sd_checker::check_root::root_breach;
 use sd_num::NoMemory;
-use sd_plan::Plan;
-use sd_plan::topo::Topology;
-use std::alloc::{AllocError, Global};
+use sd_plan::domain::DomainId::{self, Link, Listed};
+use sd_plan::topo::{Thing, Topology};
+use sd_plan::{DeviceList, Plan};
+use sd_test_examples::{square, square_plan};
+use std::alloc::Global;
 use std::process::Abort;
 use std::test::Fail;
-use worked::{WORKED, Worked};
 
-/// How many verdicts there were of each kind.
-#[derive(Debug, Default, Drop)]
-struct Tally {
-    accepted: u32,
-    structure: u32,
-    ancestor: u32,
-    timing: u32,
-    root: u32,
-    loops: u32,
-    domain: u32,
-    reach: u32,
-}
-
-impl Tally {
-    fn add(&mut self, said: &Said) {
-        let count = match said {
-            Said::Accepted => &mut self.accepted,
-            Said::Structure(_, _) => &mut self.structure,
-            Said::Ancestor(_) => &mut self.ancestor,
-            Said::Timing(_) => &mut self.timing,
-            Said::Root(_, _) => &mut self.root,
-            Said::Loop(_, _) => &mut self.loops,
-            Said::Domain(_, _) => &mut self.domain,
-            Said::Reach(_, _) => &mut self.reach,
-        };
-        *count = count.saturating_add(1);
-    }
-
-    /// Whether each kind came often enough.
-    fn is_ample(&self) -> bool {
-        self.accepted >= 128
-            && self.structure >= 423
-            && self.ancestor >= 35
-            && self.timing >= 158
-            && self.root >= 116
-            && self.loops >= 68
-            && self.domain >= 36
-            && self.reach >= 36
-    }
-}
-
-/// What is said of a case.
-#[derive(Drop)]
-struct Judged {
-    /// By the checker, as a line.
-    line: String,
-    /// By the checker.
-    said: Said,
-    /// By the slow program.
-    slow: Said,
-}
-
-/// The line of a verdict.
-fn line_of(alloc: Global, topo: &Topology, verdict: &Verdict) -> Result<String, AllocError> {
-    match verdict {
-        Verdict::Accepted => accepted_line(alloc, topo),
-        Verdict::Refused(breach) => refused_line(alloc, topo, 1, breach),
-    }
-}
-
-/// What the checker says of a plan. The verdict promises nothing here: it is compared.
-fn verdict_of(alloc: Global, topo: &Topology, plan: &Plan) -> Result<Verdict, NoMemory>
-    requires { Fits (network topo.now) plan.now }
-{
-    check(alloc, topo, plan)
-}
-
-/// What the slow program says of a plan.
-fn slowly(alloc: Global, topo: &Topology, plan: &Plan) -> Result<Said, AllocError> {
-    let plain = Plain::of(alloc, topo, plan)?;
-    let judged = plain.judged();
-    drop(plain);
-    judged
-}
-
-/// The verdict, beside what the slow program says.
-fn beside(
+/// The thing at which a domain of the square breaks the root condition.
+#[tactic(auto, using(crate::proofs::checking::Samples::square_fits, crate::proofs::checking::Samples::square_structured))]
+fn at_root(
     alloc: Global,
     topo: &Topology,
-    verdict: &Verdict,
-    slow: Said,
-) -> Result<Judged, AllocError> {
-    Ok(Judged {
-        line: line_of(alloc, topo, verdict)?,
-        said: said_by(alloc, verdict)?,
-        slow,
-    })
-}
-
-/// Has the checker and the slow program judge a plan.
-fn judge_plan(alloc: Global, topo: &Topology, plan: &Plan) -> Result<Judged, Fail>
-    requires { Fits (network topo.now) plan.now }
+    plan: &Plan,
+    domain: DomainId,
+) -> Result<Option<Thing>, NoMemory>
+    requires square { IsSquare (network topo.now) }
+    requires plan { plan.now ≡ examples.square_plan }
+    requires domain { IsDomain (network topo.now) domain }
 {
-    let slow = slowly(alloc, topo, plan)?;
-    let verdict = verdict_of(alloc, topo, plan)?;
-    Ok(beside(alloc, topo, &verdict, slow)?)
+    root_breach(alloc, topo, plan, domain)
 }
 
-/// Has the checker and the slow program judge the plan of a case over its network.
-fn judge_over(alloc: Global, topo: &Topology, setup: &Setup) -> Result<Judged, Fail> {
-    let plan = plan_of(alloc, topo, setup)?;
-    let judged = judge_plan(alloc, topo, &plan);
-    drop(plan);
-    judged
+/// The cycle that it may bring about.
+#[tactic(auto, using(crate::proofs::checking::Samples::square_fits, crate::proofs::checking::Samples::square_structured))]
+fn cycle(
+    alloc: Global,
+    topo: &Topology,
+    plan: &Plan,
+    domain: DomainId,
+) -> Result<Option<DeviceList>, NoMemory>
+    requires square { IsSquare (network topo.now) }
+    requires plan { plan.now ≡ examples.square_plan }
+    requires domain { IsDomain (network topo.now) domain }
+{
+    loop_breach(alloc, topo, plan, domain)
 }
 
-/// Has the checker and the slow program judge the texts of a case.
-fn judge(alloc: Global, setup: &Setup) -> Result<Judged, Fail> {
-    let topo = topology_of(alloc, setup)?;
-    let judged = judge_over(alloc, &topo, setup);
+/// The device that it deserts.
+#[tactic(auto, using(crate::proofs::checking::Samples::square_fits, crate::proofs::checking::Samples::square_structured))]
+fn deserted(
+    alloc: Global,
+    topo: &Topology,
+    plan: &Plan,
+    domain: DomainId,
+) -> Result<Option<u32>, NoMemory>
+    requires square { IsSquare (network topo.now) }
+    requires plan { plan.now ≡ examples.square_plan }
+    requires domain { IsDomain (network topo.now) domain }
+{
+    domain_breach(alloc, topo, plan, domain)
+}
+
+/// The chain of a device that it starves.
+#[tactic(auto, using(crate::proofs::checking::Samples::square_fits, crate::proofs::checking::Samples::square_structured))]
+fn chain(
+    alloc: Global,
+    topo: &Topology,
+    plan: &Plan,
+    domain: DomainId,
+) -> Result<Option<DeviceList>, NoMemory>
+    requires square { IsSquare (network topo.now) }
+    requires plan { plan.now ≡ examples.square_plan }
+    requires domain { IsDomain (network topo.now) domain }
+{
+    reach_breach(alloc, topo, plan, domain)
+}
+
+/// Both links of the tray bring about a cycle, and starve its devices.
+fn assert_tray(rt: &(impl Abort + AllocGlobal), topo: &Topology, plan: &Plan) -> Result<(), Fail>
+    requires square { IsSquare (network topo.now) }
+    requires plan { plan.now ≡ examples.square_plan }
+{
+    let alloc = rt.alloc();
+    assert!(rt; topo.domains() == 1);
+    assert!(rt; at_root(alloc, topo, plan, Listed(0))?.is_none());
+    let Some(round) = cycle(alloc, topo, plan, Listed(0))? else {
+        panic!(rt; "both links may fail, and no cycle is shown");
+    };
+    assert_eq!(rt; round.as_slice(), [2, 3].as_slice());
+    assert!(rt; deserted(alloc, topo, plan, Listed(0))?.is_none());
+    let Some(starved) = chain(alloc, topo, plan, Listed(0))? else {
+        panic!(rt; "both links may fail, and no chain is shown");
+    };
+    assert_eq!(rt; starved.as_slice(), [2, 3].as_slice());
+    Ok(())
+}
+
+/// One of them alone breaks no condition.
+fn assert_link(rt: &(impl Abort + AllocGlobal), topo: &Topology, plan: &Plan) -> Result<(), Fail>
+    requires square { IsSquare (network topo.now) }
+    requires plan { plan.now ≡ examples.square_plan }
+{
+    let alloc = rt.alloc();
+    assert!(rt; at_root(alloc, topo, plan, Link(1))?.is_none());
+    assert!(rt; cycle(alloc, topo, plan, Link(1))?.is_none());
+    assert!(rt; cycle(alloc, topo, plan, Link(3))?.is_none());
+    assert!(rt; deserted(alloc, topo, plan, Link(1))?.is_none());
+    assert!(rt; chain(alloc, topo, plan, Link(1))?.is_none());
+    Ok(())
+}
+
+fn assert_square(rt: &(impl Abort + AllocGlobal), topo: &Topology, plan: &Plan) -> Result<(), Fail>
+    requires square { IsSquare (network topo.now) }
+    requires plan { plan.now ≡ examples.square_plan }
+{
+    assert_tray(rt, topo, plan)?;
+    assert_link(rt, topo, plan)
+}
+
+#[test]
+fn conditions_of_a_square(rt: HostRuntime) -> Result<(), Fail> {
+    let plan = square_plan(rt.alloc())?;
+    let topo = square(rt.alloc())?;
+    let asserted = assert_square(&rt, &topo, &plan);
     drop(topo);
-    judged
-}
-
-/// Both say the same of a case that is made by counting.
-fn assert_counted(
-    rt: &(impl Abort + AllocGlobal),
-    case: u32,
-    tally: &mut Tally,
-) -> Result<(), Fail> {
-    let setup = counted_case(rt.alloc(), case)?;
-    let judged = judge(rt.alloc(), &setup)?;
-    assert_eq!(rt; judged.said, judged.slow, "case {case}");
-    tally.add(&judged.said);
-    Ok(())
-}
-
-#[test]
-fn counted_cases_agree(rt: HostRuntime) -> Result<(), Fail> {
-    let mut tally = Tally::default();
-    for case in 0..1000 {
-        assert_counted(&rt, case, &mut tally)?;
-    }
-    assert!(rt; tally.is_ample(), "{tally:?}");
-    Ok(())
-}
-
-/// A case by hand.
-fn setup_of(alloc: Global, shape: Shape, changes: &[Change]) -> Result<Setup, AllocError> {
-    let mut setup = Setup::of(alloc, shape)?;
-    for change in changes {
-        setup.change(*change)?;
-    }
-    Ok(setup)
-}
-
-/// The checker's line ends as is due, and the slow program says the same.
-fn assert_judged(rt: &impl Abort, judged: &Judged, line: &str) {
-    let said = judged.line.trim_end();
-    assert!(rt; said.ends_with(line), "{line} and not {said}");
-    assert_eq!(rt; judged.said, judged.slow, "{line}");
-}
-
-/// One case by hand.
-fn assert_worked(rt: &(impl Abort + AllocGlobal), case: &Worked) -> Result<(), Fail> {
-    let (shape, changes, line) = *case;
-    let setup = setup_of(rt.alloc(), shape, changes)?;
-    let judged = judge(rt.alloc(), &setup)?;
-    assert_judged(rt, &judged, line);
-    Ok(())
-}
-
-#[test]
-fn worked_cases_have_their_verdicts(rt: HostRuntime) -> Result<(), Fail> {
-    for case in &WORKED {
-        assert_worked(&rt, case)?;
-    }
-    Ok(())
+    drop(plan);
+    asserted
 }

@@ -1,6 +1,3 @@
-//! Greedy plans of small networks that are read.
-mod counted;
+//! Placing over topologies that are read, and drafts.
 mod drafts;
 mod places;
-mod plain;
-mod plans;

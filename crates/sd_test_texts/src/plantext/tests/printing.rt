@@ -1,31 +1,17 @@
-//! Plans that are printed, and what is printed read again, over two spines and three leaves.
-ghost use Rattle.std.specs.Prelude.{◌≡◌, Some, IfOk};
+//! Plans that are read and printed again, over two spines and three leaves.
+ghost use Rattle.std.specs.Prelude.{IfOk};
 ghost use Rattle.sd_plan.specs.topo.Topologies.{network};
-ghost use Rattle.sd_plan.specs.Examples as examples;
-ghost use Rattle.sd_plan.specs.Examples.{IsFabric};
 ghost use Rattle.sd_plan.specs.Plans.{Fits};
 
 use crate::same::assert_same;
 use sd_num::NoMemory;
+use sd_plan::Plan;
 use sd_plan::topo::Topology;
-use sd_plan::{Plan, PlanRow};
 use sd_plantext::{PlanFault, plan_text, read_plan};
-use sd_test_examples::{FABRIC, FABRIC_GREEDY, fabric, fabric_plan, topology_of};
+use sd_test_examples::{FABRIC, topology_of};
 use std::alloc::Global;
 use std::process::Abort;
 use std::test::Fail;
-
-/// The fabric's plan with the least waits.
-fn least_plan(alloc: Global) -> Result<Plan, NoMemory>
-    ensures { IfOk result (λ plan. plan ≡ examples.plan_with 0 1 712269454 712269454 3561917200
-        (examples.fabric_rows (Some (examples.hop 1 5)))) }
-{
-    let mut plan = fabric_plan(alloc)?;
-    plan.wait_first = 712_269_454;
-    plan.wait_second = 712_269_454;
-    plan.wait = 3_561_917_200;
-    Ok(plan)
-}
 
 /// The text of a plan. It promises nothing, so that no proof looks into the text.
 fn printed(alloc: Global, topo: &Topology, plan: &Plan) -> Result<Vec<u8>, NoMemory>
@@ -39,56 +25,6 @@ fn read(alloc: Global, topo: &Topology, text: &[u8]) -> Result<Plan, PlanFault>
     ensures { IfOk result (Fits (network topo.now)) }
 {
     read_plan(alloc, topo, text)
-}
-
-/// The text of the fabric's plan with the least waits.
-#[tactic(auto, using(crate::proofs::plantext::PrintedFabric::fabric_fits_timed))]
-fn least_text(alloc: Global, topo: &Topology, plan: &Plan) -> Result<Vec<u8>, NoMemory>
-    requires fabric { IsFabric (network topo.now) }
-    requires plan { plan.now ≡ examples.plan_with 0 1 712269454 712269454 3561917200
-        (examples.fabric_rows (Some (examples.hop 1 5))) }
-{
-    printed(alloc, topo, plan)
-}
-
-/// What is read is the fabric's plan with the least waits.
-fn assert_least(rt: &impl Abort, again: &Plan, rows: &[Option<PlanRow>]) {
-    assert_same(rt, again.root, 0);
-    assert_same(rt, again.backup_root, 1);
-    assert_same(rt, again.wait, 3_561_917_200);
-    assert_same(rt, again.rows.as_slice(), rows);
-}
-
-/// A plan that is read has these rows, and is printed as the same text.
-fn assert_reads_back(
-    rt: &(impl Abort + AllocGlobal),
-    topo: &Topology,
-    text: &[u8],
-    rows: &[Option<PlanRow>],
-) -> Result<(), Fail> {
-    let again = read(rt.alloc(), topo, text)?;
-    assert_least(rt, &again, rows);
-    let text_again = printed(rt.alloc(), topo, &again)?;
-    assert_same(rt, text_again.as_slice(), text);
-    Ok(())
-}
-
-/// The plan with the least waits is printed over the fabric, and read back.
-fn assert_printed(rt: &(impl Abort + AllocGlobal), topo: &Topology) -> Result<(), Fail>
-    requires { IsFabric (network topo.now) }
-{
-    let plan = least_plan(rt.alloc())?;
-    let text = least_text(rt.alloc(), topo, &plan)?;
-    assert_same(rt, text.as_slice(), FABRIC_GREEDY.as_bytes());
-    assert_reads_back(rt, topo, text.as_slice(), plan.rows.as_slice())
-}
-
-#[test]
-fn fabric_is_printed_and_read(rt: HostRuntime) -> Result<(), Fail> {
-    let topo = fabric(rt.alloc())?;
-    let asserted = assert_printed(&rt, &topo);
-    drop(topo);
-    asserted
 }
 
 /// A plan that leaves out a leaf and its links, with a row that has no backup, in another order.

@@ -1,6 +1,6 @@
-//! A line for each word and kind, and lines that are refused.
+//! A line for each word and kind.
 use crate::same::assert_same;
-use sd_sched::{Event, LineFault, first_field, line_text, read_line};
+use sd_sched::{Event, first_field, line_text, read_line};
 use std::process::Abort;
 use std::test::Fail;
 
@@ -122,34 +122,6 @@ static LINES: [(&str, Event); 16] = [
     ("end 1152921504606846976", Event::End { reference: 1 << 60 }),
 ];
 
-/// Lines that are refused, with their faults.
-static REFUSED: [(&[u8], LineFault); 24] = [
-    (b"", LineFault::UnknownWord),
-    (b" ", LineFault::UnknownWord),
-    (b" end 5", LineFault::UnknownWord),
-    (b"End 5", LineFault::UnknownWord),
-    (b"ends 5", LineFault::UnknownWord),
-    (b"\xff\xfe 1 2", LineFault::UnknownWord),
-    (b"tick\xc3\xa9 1 2 3", LineFault::UnknownWord),
-    (b"fail 5 thing 2", LineFault::UnknownWord),
-    (b"mend x devices 2", LineFault::UnknownWord),
-    (b"end", LineFault::FieldCount),
-    (b"end ", LineFault::Number(1)),
-    (b"end 5 ", LineFault::FieldCount),
-    (b"end  5", LineFault::FieldCount),
-    (b"fail 5 thing", LineFault::FieldCount),
-    (b"start 1 2 3 4 5 6 7 8", LineFault::FieldCount),
-    (b"ask 6000000 0 05", LineFault::Number(3)),
-    (b"ask 6000000 0 1152921504606846977", LineFault::Number(3)),
-    (b"ask 6000000 4294967296 05", LineFault::Number(2)),
-    (b"fail 5 link 4294967296", LineFault::Number(3)),
-    (b"mend -5 device x", LineFault::Number(1)),
-    (b"fix 1 2 3 4 1152921504606846977", LineFault::Number(5)),
-    (b"recv 1 2 3 \xc3\xa9", LineFault::Number(4)),
-    (b"tick 1 2 18446744073709551616", LineFault::Number(3)),
-    (b"lose 1\t2 3", LineFault::Number(1)),
-];
-
 #[test]
 fn reads_each_word(rt: HostRuntime) {
     for (line, event) in &LINES {
@@ -172,13 +144,6 @@ fn prints_each_event(rt: HostRuntime) -> Result<(), Fail> {
         assert_line(&rt, text.as_slice(), line);
     }
     Ok(())
-}
-
-#[test]
-fn refuses(rt: HostRuntime) {
-    for (line, fault) in &REFUSED {
-        assert_same(&rt, read_line(line), Err(*fault));
-    }
 }
 
 /// An event has this reference, device and counter.

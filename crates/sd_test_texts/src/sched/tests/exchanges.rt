@@ -1,65 +1,11 @@
-//! Spans beside a plain slow search over all honest runs, spans and lines worked out by hand.
-ghost use Rattle.std.specs.Prelude.{◌<◌, ◌≤◌, length};
+//! Spans beside a plain slow search over all honest runs, and spans that meet the bounds of a link.
+ghost use Rattle.std.specs.Prelude.{◌≤◌};
 
 use crate::same::assert_same;
 use sd_commands::exchanges::bounds::{is_inside, span};
-use sd_commands::exchanges::{
-    Exchange, ExchangeFault, ExchangeLine, ExchangeLineFault, Span, Spans, read_exchange,
-};
+use sd_commands::exchanges::{Exchange, Span};
 use sd_num::Rates;
 use sd_plan::topo::LinkEntry;
-use std::process::Abort;
-use std::test::Fail;
-
-/// 200 ppm and 1 ns, as most of the examples have.
-const USUAL: Rates = Rates {
-    ppm: 200,
-    grain: 1_000,
-};
-
-const BACKWARDS: Result<Span, ExchangeFault> = Err(ExchangeFault::Backwards);
-
-const IMPOSSIBLE: Result<Span, ExchangeFault> = Err(ExchangeFault::Impossible);
-
-const TOO_LARGE: Result<Span, ExchangeFault> = Err(ExchangeFault::TooLarge);
-
-/// The numbers of an exchange (its asymmetry and its four readings), and its span.
-static SPANS: [([u64; 5], Result<Span, ExchangeFault>); 9] = [
-    (
-        [0, 0, 5_000_000, 6_000_000, 2_400_000],
-        Ok(Span {
-            min: 698_660,
-            max: 701_340,
-        }),
-    ),
-    (
-        [1, 0, 5_000_000, 6_000_000, 2_400_000],
-        Ok(Span {
-            min: 698_660,
-            max: 701_340,
-        }),
-    ),
-    (
-        [100_000, 0, 5_000_000, 6_000_000, 2_400_000],
-        Ok(Span {
-            min: 648_660,
-            max: 751_340,
-        }),
-    ),
-    ([0, 7, 5, 5, 7], Ok(Span { min: 0, max: 500 })),
-    ([0, 7, 0, 1_000_000, 7], IMPOSSIBLE),
-    ([0, 7, 0, 0, 6], BACKWARDS),
-    ([0, 7, 8, 7, 9], BACKWARDS),
-    // Half of it is 10^12 ps, and the drift takes the greatest delay past that.
-    ([0, 0, 0, 0, 2_000_000_000_000], TOO_LARGE),
-    (
-        [0, 0, 0, 0, 1_999_600_000_000],
-        Ok(Span {
-            min: 999_600_039_000,
-            max: 999_999_960_500,
-        }),
-    ),
-];
 
 /// An exchange of these numbers.
 fn exchange([asym, t1, t2, t3, t4]: [u64; 5]) -> Exchange {
@@ -69,14 +15,6 @@ fn exchange([asym, t1, t2, t3, t4]: [u64; 5]) -> Exchange {
         t2,
         t3,
         t4,
-    }
-}
-
-#[test]
-fn spans_are_as_worked_out_by_hand(rt: HostRuntime) {
-    for (numbers, wanted) in &SPANS {
-        let x = exchange(*numbers);
-        assert_eq!(rt; span(USUAL, USUAL, x), *wanted, "{x:?}");
     }
 }
 
@@ -210,33 +148,6 @@ fn the_delays_of_all_honest_runs_lie_in_the_span(rt: HostRuntime) {
     assert_same(&rt, seen, wanted);
 }
 
-/// The spans of three links, of which the second has none.
-fn assert_joined(rt: &impl Abort, spans: &Spans)
-    requires { 2 < length spans.now }
-{
-    assert_same(rt, spans.get(0), Some((Span { min: 7, max: 7 }, 1)));
-    assert_same(rt, spans.get(1), None);
-    assert_same(rt, spans.get(2), Some((Span { min: 5, max: 12 }, 2)));
-}
-
-/// A link has no span.
-fn assert_none(rt: &impl Abort, spans: &Spans, link: u32)
-    requires { link < length spans.now }
-{
-    assert_same(rt, spans.get(link), None);
-}
-
-#[test]
-fn the_spans_of_a_link_are_joined(rt: HostRuntime) -> Result<(), Fail> {
-    let mut spans = Spans::new(rt.alloc(), 3)?;
-    assert_none(&rt, &spans, 2);
-    spans.add(2, Span { min: 5, max: 9 });
-    spans.add(0, Span { min: 7, max: 7 });
-    spans.add(2, Span { min: 6, max: 12 });
-    assert_joined(&rt, &spans);
-    Ok(())
-}
-
 /// Spans over a link from 3 to 9 one way and from 4 to 8 the other, and whether they are inside.
 static INSIDE: [(u64, u64, bool); 6] = [
     (4, 8, true),
@@ -263,73 +174,5 @@ fn a_span_is_inside_where_it_meets_the_bounds_of_both_directions(rt: HostRuntime
             max: *max,
         };
         assert_eq!(rt; is_inside(link, span), *inside, "{min} to {max}");
-    }
-}
-
-/// Lines, and how they are read.
-static LINES: [(&[u8], Result<ExchangeLine, ExchangeLineFault>); 17] = [
-    (
-        b"exchange 4294967295 1 1000000000000 1 2 3 1152921504606846976",
-        Ok(ExchangeLine::Exchange {
-            link: 4_294_967_295,
-            side: 1,
-            exchange: Exchange {
-                asym: 1_000_000_000_000,
-                t1: 1,
-                t2: 2,
-                t3: 3,
-                t4: 1 << 60,
-            },
-        }),
-    ),
-    (b"end", Ok(ExchangeLine::End)),
-    (b"end ", Err(ExchangeLineFault::FieldCount)),
-    (b"end 0", Err(ExchangeLineFault::FieldCount)),
-    (b"", Err(ExchangeLineFault::UnknownWord)),
-    (b"ends", Err(ExchangeLineFault::UnknownWord)),
-    (
-        b"exchanged 0 0 0 0 0 0 0",
-        Err(ExchangeLineFault::UnknownWord),
-    ),
-    (
-        b" exchange 0 0 0 0 0 0 0",
-        Err(ExchangeLineFault::UnknownWord),
-    ),
-    (b"exchange 0 0 0 0 0 0", Err(ExchangeLineFault::FieldCount)),
-    (
-        b"exchange 0 0 0 0 0 0 0 ",
-        Err(ExchangeLineFault::FieldCount),
-    ),
-    (
-        b"exchange x 0 0 0 0 0 0 0",
-        Err(ExchangeLineFault::FieldCount),
-    ),
-    (
-        b"exchange 4294967296 2 0 0 0 0 0",
-        Err(ExchangeLineFault::Number(1)),
-    ),
-    (
-        b"exchange 0 2 1000000000001 0 0 0 0",
-        Err(ExchangeLineFault::Number(2)),
-    ),
-    (
-        b"exchange 0 0 1000000000001 0 0 0 0",
-        Err(ExchangeLineFault::Number(3)),
-    ),
-    (b"exchange 0 0 0  0 0 0", Err(ExchangeLineFault::Number(4))),
-    (
-        b"exchange 0 0 0 0 00 0 0",
-        Err(ExchangeLineFault::Number(5)),
-    ),
-    (
-        b"exchange 0 0 0 0 0 0 1152921504606846977",
-        Err(ExchangeLineFault::Number(7)),
-    ),
-];
-
-#[test]
-fn lines_are_read_and_their_faults_named(rt: HostRuntime) {
-    for (line, wanted) in &LINES {
-        assert_eq!(rt; read_exchange(line), *wanted, "{line:?}");
     }
 }

@@ -1,3 +1,0 @@
-//! One device alone.
-#[cfg(test)]
-mod tests;
