@@ -134,7 +134,7 @@ def read_numbers(lines: Iterable[str], what: str, has_number: Callable[[OutputLi
         if not text.endswith("\n"):
             raise ToolError("it is cut short: its last line has no newline", source, number)
         if line is not None and line.kind == "done":
-            raise ToolError(f"a line behind the last one of {what}", source, number)
+            raise ToolError(f"a line after the last one of {what}", source, number)
         line = parse_line(text[:-1])
         if line is not None and line.kind.split(" ")[0] in ("refused", "input") and number == 1:
             raise NotComputed(line, text[:-1])

@@ -169,7 +169,7 @@ class Lines(unittest.TestCase):
             (RENEWED[:-1], "output:3: the output is cut short: its last line has no newline"),
             (RENEWED.replace("report 23", "raport 23"), "output:2: no line that sundial prints: 'raport 23 x 215400000 345440'"),
             ("", "the output is empty"),
-            (RENEWED.replace("report 23", "report 2"), "the output is out of order: line 2 comes behind line 22"),
+            (RENEWED.replace("report 23", "report 2"), "the output is out of order: line 2 comes after line 22"),
             (RENEWED.replace("report 22", "report 21"), "schedule:21: line 21 is no ask"),
             (RENEWED.replace("report 22 b", "report 22 x"), "schedule:22: the ask is of b, and the report of x"),
             (RENEWED.replace("report 23", "report 31"), "the schedule has no line 31"),
@@ -214,12 +214,12 @@ class Lines(unittest.TestCase):
 
     def test_lines_that_no_one_output_has(self):
         for text, reason in (
-            ("done 1 0\nreport 2 b 1 2\n", "a line behind the last one, which was done"),
-            ("refused plan 1 ancestor device b\ndone 1 0\n", "a line behind the last one, which was refused"),
-            ("agree 16 7\ndiffer time\n", "a line behind the last one, which was agree"),
+            ("done 1 0\nreport 2 b 1 2\n", "a line after the last one, which was done"),
+            ("refused plan 1 ancestor device b\ndone 1 0\n", "a line after the last one, which was refused"),
+            ("agree 16 7\ndiffer time\n", "a line after the last one, which was agree"),
             ("report 1 b 1 2\ndiffer time\n", "does not stand in the output of this command"),
             ("report 1 b 1 2\naccepted 1 1 1\n", "does not stand in the output of this command"),
-            ("report 2 b 1 2\nreport 1 b 1 2\n", "the output is out of order: line 1 comes behind line 2"),
+            ("report 2 b 1 2\nreport 1 b 1 2\n", "the output is out of order: line 1 comes after line 2"),
             ("report 1 b 1 2\ndone 5 2\n", "done says 2 reports, and 1 were read"),
             ("link rb 1 2 3 inside\ndone 5 2\n", "done says 2 links, and 1 were read"),
             ("bound device r x 5\nbound device r y 5\ndone 1 3\n", "done says 1 domains of 3 members, so 3 lines, and 2 were read"),

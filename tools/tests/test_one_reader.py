@@ -11,7 +11,7 @@ from support import DATA, PROGRAM, directory, needs_sundial, run, sundial
 from sundial_tools.network.main import main
 from sundial_tools.topology import parse_topology, read_topology, topology_text
 
-# TOML 1.1 lets a table go over several lines, and a comma stand behind its last key. TOML 1.0 does not.
+# TOML 1.1 lets a table go over several lines, and a comma follow its last key. TOML 1.0 does not.
 MODERN = """version = 1
 ppm = 200
 grain = 1000

@@ -27,7 +27,7 @@ NEEDED = (
 MORE_PLANS = {"straggler": ("longer.json",)}
 TWO_DOMAINS = ("8x3-two-roots", "8x3-ring-in-order")
 
-# What is accepted, the line behind it, and why that is refused.
+# What is accepted, the line after it, and why that is refused.
 REFUSALS = (
     ([], "tick 0 3 0", "UnknownDevice"),
     ([], "fail 0 device 3", "UnknownDevice"),

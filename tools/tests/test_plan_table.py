@@ -10,7 +10,7 @@ TRIANGLE = EXAMPLES / "triangle"
 
 
 def shown(topology, plan) -> "list[str]":
-    """What is written of a plan behind its own line."""
+    """What is written of a plan after its own line."""
     status, text, said = run("sundial-why", why.main, [topology, "--lines", plan])
     assert (status, said) == (0, ""), (status, said)
     return text.splitlines()[1:]

@@ -18,7 +18,7 @@ from sundial_tools.topology import parse_topology, read_topology
 PLANS = [DATA / "case-1.json", DATA / "case-2.json"]
 TRIANGLE_PLANS = [DATA / "triangle-1.json", DATA / "triangle-2.json"]
 
-# The worked renewal of docs/REPLAY.md.
+# The worked renewal of examples/triangle.
 RENEWAL = """start 0 0 0 0 500
 start 0 1 0 0 800000
 start 0 2 0 0 800000

@@ -744,7 +744,7 @@ class Drills(unittest.TestCase):
             ("".join(lines[:20] + lines[21:]), "out of order"),
             ("".join(lines[:10] + lines[11:]), "out of order"),
             (text.replace(lines[-1], "done 1 1\n"), "done says 1 1"),
-            (text + lines[0], "a line behind the last one"),
+            (text + lines[0], "a line after the last one"),
             ("".join(lines[:5]) + "bound listed\n", "no line of a drill"),
             ("input plan 1 NotJson\n", "sundial refused its input"),
             (
@@ -883,7 +883,7 @@ class Replays(unittest.TestCase):
             ("".join(lines[:-1]), "it has no line done"),
             ("", "cut short"),
             ("".join(lines[1:]), "done says"),
-            (text + lines[0], "a line behind the last one"),
+            (text + lines[0], "a line after the last one"),
             ("".join(lines[:3]) + "bounds listed\n", "no line of bounds"),
             (lines[0].replace(" r ", " y ", 1).replace(" r ", " y "), "the topology has no device"),
             (lines[0] + lines[0].replace("\n", "0\n"), "has two calm numbers"),

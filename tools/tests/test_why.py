@@ -243,12 +243,12 @@ class Why(unittest.TestCase):
         self.opening("r showed 160003200 at line 1, and 1 here", "input opening 4 Refused", [*self.OPENING[:3], "fix 160996780 0 1 161000000 32700"])
         self.opening("A replay refuses it too: Number 2.", "input schedule 17 Refused", self.OPENING, more="ask 160996780 r 161000000\n")
         self.opening("`sundial replay` names the reason", "input opening 3 Refused", self.OPENING)
-        self.says("Name its file for more behind /.", "input opening 3 Refused\n", TRIANGLE / "topology.toml")
+        self.says("Name its file for more after /.", "input opening 3 Refused\n", TRIANGLE / "topology.toml")
 
     # Merged logs
 
     def log(self, part, reason, *changed):
-        """The merged log of the logs of docs/RECORD.md with further lines behind its eighth."""
+        """The merged log of the logs of docs/RECORD.md with further lines after its eighth."""
         files = [LOGS / f"{name}.jsonl" for name in "rbx"]
         lines = run("sundial-record", record, [LOGS / "topology.toml", *files, "-p", LOGS / "plan.json", "--counters", "life", "--compact"])[1]
         text = "".join(f"{line}\n" for line in [*lines.splitlines()[:8], *changed])

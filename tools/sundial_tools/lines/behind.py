@@ -28,7 +28,7 @@ class Behind:
     def line(self, number: int) -> Optional[str]:
         """The line of that number, from 1, or None where the text has ended before it."""
         if number < self._number:
-            raise ToolError(f"the output is out of order: line {number} comes behind line {self._number}", self._source)
+            raise ToolError(f"the output is out of order: line {number} comes after line {self._number}", self._source)
         while self._number < number:
             text = next(self._lines, None)
             if text is None:

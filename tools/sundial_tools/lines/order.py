@@ -30,7 +30,7 @@ class Order:
     def take(self, line: OutputLine, number: int) -> None:
         first = line.kind.split(" ")[0]
         if self._last is not None and (self._last, first) != ("done", "waits"):
-            raise ToolError(f"a line behind the last one, which was {self._last}", self._source, number)
+            raise ToolError(f"a line after the last one, which was {self._last}", self._source, number)
         if line.kind in ALONE or first in ALONE:
             if self._family is not None:
                 raise self._mixed(line, number)
@@ -58,7 +58,7 @@ class Order:
         if at is None:
             return
         if at < self._line:
-            raise ToolError(f"the output is out of order: line {at} comes behind line {self._line}", self._source, number)
+            raise ToolError(f"the output is out of order: line {at} comes after line {self._line}", self._source, number)
         self._line = at
 
     def _counted(self, line: OutputLine, number: int) -> None:

@@ -115,7 +115,7 @@ class ReplayReader:
         self._replay.refusal = f"input schedule {number} {self._next[1].fields['reason']}"
         self._advance()
         if self._next is not None:
-            raise self._wrong("a line behind the refusal of the schedule")
+            raise self._wrong("a line after the refusal of the schedule")
         return True
 
     def _event(self, number: int, event: Event) -> None:

@@ -28,7 +28,7 @@ class Hooks:
         return True
 
     def is_late(self, line: int) -> bool:
-        """Whether a cut is wished so much that a premise may be named anew behind it."""
+        """Whether a cut is wished so much that a premise may be named again after it."""
         return False
 
 

@@ -22,7 +22,7 @@ NONBLOCK: int = getattr(os, "SPLICE_F_NONBLOCK", 0)
 MOST_SPLICED = 1 << 20
 MOST_LINE = 1 << 16
 MOST_WAITING = 1 << 12
-# What a log is called when it was rotated, behind its name: .1, or -20261201.
+# What a log is called when it was rotated, after its name: .1, or -20261201.
 ROTATED = re.compile(r"[.-]\d[\d.:TZ_-]*")
 
 
@@ -34,7 +34,7 @@ class Bad(NamedTuple):
 
 
 class Waiting(NamedTuple):
-    """An event that may come next, and the lines behind it that are no events."""
+    """An event that may come next, and the lines after it that are no events."""
 
     event: LogEvent
     place: Place

@@ -174,12 +174,12 @@ class Watch(Hooks):
         return status
 
     def pause(self) -> int:
-        """All that was read is told. A later run goes on behind it. Answers the status of the replay so far."""
+        """All that was read is written. A later run goes on after it. Answers the status of the replay so far."""
         self._feed_replay(f"end {self._feed.schedule_last}\n")
         return self.finish()
 
     def stop(self) -> None:
-        """Lets all go. What was told stays, and a later run goes on behind it."""
+        """Lets all go. What was written stays, and a later run goes on after it."""
         self._replaying.kill()
         self._close()
 

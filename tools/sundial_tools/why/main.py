@@ -128,7 +128,7 @@ class Why:
         elif what == "exchanges" and self.exchanges:
             yield from self.exchanges.say(line.fields["line"], reason)
         else:
-            how = {"absent": " by --absent", "opening": f" behind {BETWEEN}"}.get(what, "")
+            how = {"absent": " by --absent", "opening": f" after {BETWEEN}"}.get(what, "")
             yield f"The {what} is refused. Name its file for more{how}."
 
     def _refused(self, line: OutputLine) -> Iterator[str]:
