@@ -3,6 +3,7 @@
 import json
 import os
 import unittest
+from collections import Counter
 from unittest import mock
 
 from support import EXAMPLES, PROGRAM, SEARCH, directory, needs_sundial, run, sundial
@@ -84,7 +85,7 @@ class Search(unittest.TestCase):
             status, _, err = self.searched(path, "--search", "7", plan=EXAMPLES / "fabric" / "plan-2.json")
             self.assertEqual((status, err), (0, ""))
             absent = [json.loads(line) for line in (path / "absent").read_text().splitlines()]
-        self.assertEqual(len(absent), 46)
+        self.assertEqual(len(absent), 46 + 3 * 42)
         self.assertTrue(all("spine1" in said["absent_devices"] for said in absent))
 
     def test_the_search_is_asked_where_renew_finds_no_plan(self):
@@ -92,7 +93,8 @@ class Search(unittest.TestCase):
             status, out, err = self.searched(path, "--search", "7", "--base", "2us", "--hold", "3us")
             self.assertEqual((status, err), (0, ""))
             words = (path / "words").read_text().splitlines()
-        self.assertEqual((len(words), set(words)), (46, {"2000000 3000000 1 7"}))
+        # (one that finds nothing is asked with four seeds)
+        self.assertEqual(Counter(words), {f"2000000 3000000 {seed} 7": 46 if seed == 1 else 42 for seed in range(1, 5)})
         lines = {line.split("  ")[0]: line for line in out.splitlines()}
         # (rack1 lists the three links of leaf1, too)
         self.assertEqual(out.splitlines()[-1], "0 of 46 losses can be planned again, and 4 more by a search; eps for BASE 2 us and HOLD 3 us")

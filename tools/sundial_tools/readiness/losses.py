@@ -16,7 +16,8 @@ from sundial_tools.things import Named, all_named, left_without
 from sundial_tools.topology import Topology
 
 DONE, REFUSED = 0, 1
-SEED = "1"
+# The seeds that a search is asked with, up to the first with which it finds a plan.
+SEEDS = ("1", "2", "3", "4")
 
 
 class Bound(NamedTuple):
@@ -125,11 +126,20 @@ class Losses:
         refusal, roots = _asked([self._program, "renew", *self._files, path])
         then = Next(refusal, roots)
         if refusal and self._search is not None:
-            words = ["renew", *self._files, path, *self._words, SEED, str(self._search.steps)]
-            why, roots = _asked([self._search.program, *words])
-            then = Next(refusal, roots, True, why)
+            then = self._searched(refusal, path, self._search)
         os.unlink(path)
         return cut_off, then
+
+
+    def _searched(self, refusal: str, path: str, search: Search) -> Next:
+        """What a search finds, by some seed. What it says is that of the first one where it finds nothing."""
+        said = ""
+        for seed in SEEDS:
+            why, roots = _asked([search.program, "renew", *self._files, path, *self._words, seed, str(search.steps)])
+            if not why:
+                return Next(refusal, roots, True)
+            said = said or why
+        return Next(refusal, (), True, said)
 
 
 def _asked(words: List[str]) -> Tuple[str, Tuple[str, ...]]:
