@@ -9,7 +9,7 @@ def row(name: str, network: str, plan: str, output: str, status: int = 0) -> Row
 
 
 ROWS = [
-    row("the triangle", TRIANGLE, FIRST, BOUNDED),
+    row("the triangle", TRIANGLE, FIRST, "".join(BOUNDED) + "done 6 3\n"),
     row("a short wait", FABRIC, SHORT_WAIT, SHORT, 1),
     row("a topology as plan", TRIANGLE, TRIANGLE, "input plan 1 NotJson\n", 3),
     Row("the greatest budget", "bounds topology plan 1152921504606846976 1152921504606846976",

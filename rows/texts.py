@@ -140,12 +140,14 @@ DRILLED = tuple(
 )
 TIGHT = {"r": 4160603, "b": 4160603, "x": 4460603}
 CALM = {"r": 1516436, "b": 1816436, "x": 1816436}
-BOUNDED = "".join(
-    f"nobound {domain} {name} {CALM[name]}\n" if domain == f"device {name}"
-    else f"bounds {domain} {name} {bound} {TIGHT[name]} {CALM[name]}\n"
+BOUNDED = tuple(
+    "".join(
+        f"nobound {domain} {name} {CALM[name]}\n" if domain == f"device {name}"
+        else f"bounds {domain} {name} {bound} {TIGHT[name]} {CALM[name]}\n"
+        for name, bound in BOUNDS.items()
+    )
     for domain in DOMAINS
-    for name, bound in BOUNDS.items()
-) + "done 6 3\n"
+)
 
 # Words that are no command's.
 USAGE = (
