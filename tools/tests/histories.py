@@ -24,6 +24,10 @@ WORDS = {
     "stage": 4, "mend": 4, "end": 0.3,
 }
 ACCEPTED, PLAN_REFUSED = 0, 1
+# Parts of schedules: two devices start, tick before the first round, and take its first message.
+TWO = "start 0 0 0 0 500,start 0 1 0 0 500,"
+LATER = "tick 80000000 0 80000000,tick 80000000 1 80000000"
+ENTERED = "tick 100000000 0 100000000,recv 100700000 1 100700000 1"
 
 
 class Given(NamedTuple):
@@ -105,7 +109,7 @@ class Tail:
         if self.hurries and draw.random() < 0.5:
             if history.stage is None:
                 return draw.choice(("stage", "recv", "tick"))
-            return draw.choice(("seal", "recv", "tick") if history.in_window("commit") else ("give", "give", "give", "commit", "join"))
+            return draw.choice(("seal", "recv", "tick") if history.in_window("commit") else ("give", "give", "give", "commit", "join", "mend"))
         return draw.choices(list(WORDS), list(WORDS.values()))[0]
 
     def message(self):
@@ -242,23 +246,36 @@ def triangle(number):
     return gone_on(topology, texts, events, draw)
 
 
-def joining(number):
-    """The same of a network with a second link between r and b, whose first plan leaves x out: x joins, or starts too late."""
-    draw = random.Random(number)
+def doubled(links):
+    """The triangle with second links beside these."""
     text = (DATA / "triangle.toml").read_text()
-    topology = parse_topology(text + text[text.index("[[link]]") : text.index("[[link]]", text.index("[[link]]") + 1)].replace('"rb"', '"rb2"'))
-    whole = json.loads((DATA / "triangle-1.json").read_text())
-    whole["rows"][0].update(backup="r", backup_link="rb2")
-    small = {**whole, "absent_devices": ["x"], "rows": whole["rows"][:1]}
-    schedule = ["start 0 0 0 0 500", "start 0 1 0 0 500", "stage 0", "join 0 2 0 0 500", "give 0 0", "give 0 1", "give 0 2"]
-    schedule += ["commit 0 0 0", "tick 80000000 0 80000000", "tick 80000000 1 80000000", "tick 80000000 2 80000000"]
-    schedule += ["tick 100000000 0 100000000", "recv 100700000 1 100700000 1", "recv 100700000 2 100700000 2"]
-    without_x = [line for line in schedule if line.split()[:3:2] not in (["join", "2"], ["tick", "2"], ["recv", "2"]) and line != "give 0 2"]
-    sealed = [f"seal 100700000 {device}" for device in (0, 1, 2)]
-    schedule, sealed = draw.choice(((schedule, sealed), (schedule, sealed), (without_x, sealed[:2])))
-    events = [parse_event(line) for line in (schedule + sealed)[: draw.randint(2, len(schedule + sealed))]]
-    texts = [json.dumps(it) for it in (small, whole, small, whole)]
-    return gone_on(topology, texts, events, draw)
+    blocks = [block for block in text.split("[[link]]")[1:] for name in links if f'"{name}"' in block]
+    more = [block.replace(f'"{name}"', f'"{name}2"') for name, block in zip(links, blocks)]
+    return parse_topology(text + "".join(f"\n[[link]]{block}" for block in more))
+
+
+def row(device, parent, link, backup, backup_link):
+    return {"device": device, "parent": parent, "link": link, "backup": backup, "backup_link": backup_link}
+
+
+def joining(number):
+    """The same of a network where plans leave a device out: x joins, or starts too late, or r is left out and goes on."""
+    draw = random.Random(number)
+    topology = doubled(("rb", "bx"))
+    first, second = row("b", "r", "rb", "r", "rb2"), row("x", "r", "rx", "b", "bx")
+    whole = {**json.loads((DATA / "triangle-1.json").read_text()), "rows": [first, second]}
+    small = {**whole, "absent_devices": ["x"], "rows": [first]}
+    other = {**whole, "root": "b", "backup_root": "x", "absent_devices": ["r"], "rows": [row("x", "b", "bx", "b", "bx2")]}
+    schedule, plans = draw.choice((
+        (f"{TWO} stage 0,join 0 2 0 0 500,give 0 0,give 0 1,give 0 2,commit 0 0 0,{LATER},tick 80000000 2 80000000,{ENTERED},"
+         "recv 100700000 2 100700000 2,seal 100700000 0,seal 100700000 1,seal 100700000 2", (small, whole, small, other)),
+        (f"{TWO} stage 0,give 0 0,give 0 1,commit 0 0 0,{LATER},{ENTERED},seal 100700000 0,seal 100700000 1", (small, whole, small, whole)),
+        (f"{TWO} start 0 2 0 0 500,stage 0,give 0 1,give 0 2,commit 0 1 0,{LATER},tick 80000000 2 80000000,tick 100000000 1 100000000,"
+         "recv 100700000 2 100700000 1,seal 100700000 1,seal 100700000 2", (whole, other, whole, small)),
+    ))
+    lines = [line.strip() for line in schedule.split(",")]
+    events = [parse_event(line) for line in lines[: draw.randint(2, len(lines))] if line]
+    return gone_on(topology, [json.dumps(it) for it in plans], events, draw)
 
 
 def gone_on(topology, texts, events, draw):
