@@ -28,6 +28,13 @@ ACCEPTED, PLAN_REFUSED = 0, 1
 TWO = "start 0 0 0 0 500,start 0 1 0 0 500,"
 LATER = "tick 80000000 0 80000000,tick 80000000 1 80000000"
 ENTERED = "tick 100000000 0 100000000,recv 100700000 1 100700000 1"
+# A device that was mended joins, and hears a message of the plan in force, which is none of its own.
+MENDED = (f"{TWO} start 0 2 0 0 500,fail 0 device 2,stage 0,mend 0 device 2,join 0 2 0 0 500,{LATER},tick 80000000 2 80000000,"
+          "tick 100000000 0 100000000,recv 100700000 2 100700000 2,ask 100700000 2 100700000,end 100700000")
+# A device starts after a renewal, and hears a message of the plan that is then in force.
+LATE = (f"{TWO} stage 0,give 0 0,give 0 1,commit 0 0 0,{LATER},{ENTERED},seal 100700000 0,seal 100700000 1,"
+        "start 100700000 2 0 100700000 500,tick 180000000 0 180000000,tick 180000000 1 180000000,tick 180000000 2 79300000,"
+        "tick 200000000 0 200000000,recv 200700000 2 100000000 6,ask 200700000 2 100000000,end 200700000")
 
 
 class Given(NamedTuple):
@@ -258,13 +265,17 @@ def row(device, parent, link, backup, backup_link):
     return {"device": device, "parent": parent, "link": link, "backup": backup, "backup_link": backup_link}
 
 
+def with_x_and_without():
+    """Two plans of the triangle with a second link between r and b. The second leaves x out."""
+    rows = [row("b", "r", "rb", "r", "rb2"), row("x", "r", "rx", "b", "bx")]
+    whole = {**json.loads((DATA / "triangle-1.json").read_text()), "rows": rows}
+    return whole, {**whole, "absent_devices": ["x"], "rows": rows[:1]}
+
+
 def joining(number):
     """The same of a network where plans leave a device out: x joins, or starts too late, or r is left out and goes on."""
     draw = random.Random(number)
-    topology = doubled(("rb", "bx"))
-    first, second = row("b", "r", "rb", "r", "rb2"), row("x", "r", "rx", "b", "bx")
-    whole = {**json.loads((DATA / "triangle-1.json").read_text()), "rows": [first, second]}
-    small = {**whole, "absent_devices": ["x"], "rows": [first]}
+    topology, whole, small = doubled(("rb", "bx")), *with_x_and_without()
     other = {**whole, "root": "b", "backup_root": "x", "absent_devices": ["r"], "rows": [row("x", "b", "bx", "b", "bx2")]}
     schedule, plans = draw.choice((
         (f"{TWO} stage 0,join 0 2 0 0 500,give 0 0,give 0 1,give 0 2,commit 0 0 0,{LATER},tick 80000000 2 80000000,{ENTERED},"
@@ -445,6 +456,10 @@ def by_hand():
     schedules = [[*before, line] for before, line, _ in REFUSALS] + [[*lines, f"end {lines[-1].split()[1]}"] for lines, _ in PREMISES]
     schedules += [BASE, STARTS]
     yield from (Given(topology, texts, [line + "\n" for line in lines]) for lines in schedules)
+    whole, small = with_x_and_without()
+    for plans, schedule in (((whole, whole), MENDED), ((small, whole), LATE)):
+        lines = [line.strip() + "\n" for line in schedule.split(",")]
+        yield Given(topology_text(doubled(("rb",))), [json.dumps(it) for it in plans], lines)
 
 
 def given_of(numbers, program, path):
