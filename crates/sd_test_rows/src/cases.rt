@@ -346,51 +346,117 @@ pub(crate) static CALLS: [Calls<'static>; 15] = [
     },
 ];
 
-/// A run, a write that fails, how many bytes that keeps, and of how many bytes the front is that is
-/// written. A write after the last does not fail.
-pub(crate) static WRITES: [(Case<'static>, u64, usize, usize, Status); 44] = [
-    (SOLO, 1, 3, 3, Status::SinkFault),
-    (SOLO, 1, 9, 9, Status::SinkFault),
-    (SOLO, 2, 3, 27, Status::SinkFault),
-    (CHECK, 1, 0, 0, Status::SinkFault),
-    (CHECK, 1, 7, 7, Status::SinkFault),
-    (CHECK, 1, 16, 16, Status::SinkFault),
-    (PLAN, 1, 0, 0, Status::SinkFault),
-    (PLAN, 1, 7, 7, Status::SinkFault),
-    (PLAN, 1, 16, 16, Status::SinkFault),
-    (RENEW, 1, 0, 0, Status::SinkFault),
-    (RENEW, 1, 7, 7, Status::SinkFault),
-    (RENEW, 1, 16, 16, Status::SinkFault),
-    (MIGRATE_AGAIN, 1, 0, 0, Status::SinkFault),
-    (MIGRATE_AGAIN, 1, 9, 9, Status::SinkFault),
-    (RENEWED, 1, 3, 3, Status::SinkFault),
-    (RENEWED, 2, 3, 32, Status::SinkFault),
-    (RENEWED, 3, 3, 61, Status::SinkFault),
-    (ORDER, 1, 23, 23, Status::SinkFault),
-    (ORDER, 3, 27, 111, Status::SinkFault),
-    (ORDER, 4, 3, 139, Status::SinkFault),
-    (ORDER, 5, 0, 145, Status::SinkFault),
-    (TWOWAY, 1, 0, 0, Status::SinkFault),
-    (TWOWAY, 1, 7, 7, Status::SinkFault),
-    (TWOWAY, 2, 4, 35, Status::SinkFault),
-    (TWOWAY, 3, 6, 61, Status::SinkFault),
-    (DRILL, 1, 0, 0, Status::SinkFault),
-    (DRILL, 1, 8, 8, Status::SinkFault),
-    (DRILL, 2, 0, 69, Status::SinkFault),
-    (DRILL, 7, 7, 430, Status::SinkFault),
-    (CASE, 1, 9, 9, Status::SinkFault),
-    (SEARCH, 1, 3, 3, Status::SinkFault),
-    (BOUNDS, 1, 7, 7, Status::SinkFault),
-    (BOUNDS, 2, 7, 118, Status::SinkFault),
-    (RESUME, 1, 6, 6, Status::SinkFault),
-    (RECORD, 2, 5, 23, Status::SinkFault),
-    (MERGE, 1, 0, 0, Status::SinkFault),
-    (MERGE, 2, 0, 10, Status::SinkFault),
-    (MERGE, 3, 0, 30, Status::SinkFault),
-    (MERGE, 4, 0, 40, Status::SinkFault),
-    (CHECK, 2, 0, 16, Status::Done),
-    (PLAN, 2, 0, 457, Status::Done),
-    (RENEW, 2, 0, 386, Status::Done),
-    (CASE, 2, 0, 25, Status::Done),
-    (MERGE, 5, 0, 46, Status::SinkFault),
+/// A run, and writes of it that fail: which, how many bytes it keeps, of how many bytes the front is
+/// that is written, and the status. A write after the last does not fail.
+#[derive(Clone, Copy)]
+pub(crate) struct Writes<'a> {
+    pub(crate) case: Case<'a>,
+    pub(crate) fails: &'a [(u64, usize, usize, Status)],
+}
+
+pub(crate) static WRITES: [Writes<'static>; 15] = [
+    Writes {
+        case: SOLO,
+        fails: &[
+            (1, 3, 3, Status::SinkFault),
+            (1, 9, 9, Status::SinkFault),
+            (2, 3, 27, Status::SinkFault),
+        ],
+    },
+    Writes {
+        case: CHECK,
+        fails: &[
+            (1, 0, 0, Status::SinkFault),
+            (1, 7, 7, Status::SinkFault),
+            (1, 16, 16, Status::SinkFault),
+            (2, 0, 16, Status::Done),
+        ],
+    },
+    Writes {
+        case: PLAN,
+        fails: &[
+            (1, 0, 0, Status::SinkFault),
+            (1, 7, 7, Status::SinkFault),
+            (1, 16, 16, Status::SinkFault),
+            (2, 0, 457, Status::Done),
+        ],
+    },
+    Writes {
+        case: RENEW,
+        fails: &[
+            (1, 0, 0, Status::SinkFault),
+            (1, 7, 7, Status::SinkFault),
+            (1, 16, 16, Status::SinkFault),
+            (2, 0, 386, Status::Done),
+        ],
+    },
+    Writes {
+        case: MIGRATE_AGAIN,
+        fails: &[(1, 0, 0, Status::SinkFault), (1, 9, 9, Status::SinkFault)],
+    },
+    Writes {
+        case: RENEWED,
+        fails: &[
+            (1, 3, 3, Status::SinkFault),
+            (2, 3, 32, Status::SinkFault),
+            (3, 3, 61, Status::SinkFault),
+        ],
+    },
+    Writes {
+        case: ORDER,
+        fails: &[
+            (1, 23, 23, Status::SinkFault),
+            (3, 27, 111, Status::SinkFault),
+            (4, 3, 139, Status::SinkFault),
+            (5, 0, 145, Status::SinkFault),
+        ],
+    },
+    Writes {
+        case: TWOWAY,
+        fails: &[
+            (1, 0, 0, Status::SinkFault),
+            (1, 7, 7, Status::SinkFault),
+            (2, 4, 35, Status::SinkFault),
+            (3, 6, 61, Status::SinkFault),
+        ],
+    },
+    Writes {
+        case: DRILL,
+        fails: &[
+            (1, 0, 0, Status::SinkFault),
+            (1, 8, 8, Status::SinkFault),
+            (2, 0, 69, Status::SinkFault),
+            (7, 7, 430, Status::SinkFault),
+        ],
+    },
+    Writes {
+        case: CASE,
+        fails: &[(1, 9, 9, Status::SinkFault), (2, 0, 25, Status::Done)],
+    },
+    Writes {
+        case: SEARCH,
+        fails: &[(1, 3, 3, Status::SinkFault)],
+    },
+    Writes {
+        case: BOUNDS,
+        fails: &[(1, 7, 7, Status::SinkFault), (2, 7, 118, Status::SinkFault)],
+    },
+    Writes {
+        case: RESUME,
+        fails: &[(1, 6, 6, Status::SinkFault)],
+    },
+    Writes {
+        case: RECORD,
+        fails: &[(2, 5, 23, Status::SinkFault)],
+    },
+    Writes {
+        case: MERGE,
+        fails: &[
+            (1, 0, 0, Status::SinkFault),
+            (2, 0, 10, Status::SinkFault),
+            (3, 0, 30, Status::SinkFault),
+            (4, 0, 40, Status::SinkFault),
+            (5, 0, 46, Status::SinkFault),
+        ],
+    },
 ];

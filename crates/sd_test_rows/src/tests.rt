@@ -2,7 +2,7 @@
 
 ghost use Rattle.std.specs.Prelude.{◌≤◌};
 
-use crate::cases::{CALLS, Calls, PIECES, WRITES};
+use crate::cases::{CALLS, Calls, PIECES, WRITES, Writes};
 use crate::kit::{Case, Outside, assert_leaves, assert_ran};
 use sd_test_examples::TRIANGLE;
 use sd_top::Status;
@@ -34,6 +34,11 @@ fn long_text(alloc: Global, front: &str, byte: &str, count: u32) -> Result<Strin
     Ok(text)
 }
 
+/// A topology and another text under their names.
+fn texts_of<'a>(topology: &'a str, text: &'a str) -> [(&'a str, &'a str); 2] {
+    [("topology", topology), ("file", text)]
+}
+
 /// A run of `solo` or `twoway` over a text that is refused, of which at least this much is left.
 fn assert_refused(
     rt: &(impl Abort + AllocGlobal),
@@ -44,10 +49,11 @@ fn assert_refused(
 ) -> Result<(), Fail>
     requires { 1 ≤ outside.piece }
 {
+    let texts = texts_of(TRIANGLE, text);
     let case = Case {
         ctl: false,
         words,
-        texts: &[("topology", TRIANGLE), ("file", text)],
+        texts: &texts,
         output: "",
         status: Status::InputRefused,
     };
@@ -103,10 +109,9 @@ fn reads_no_further_than_a_refused_line_needs(rt: HostRuntime) -> Result<(), Fai
 
 /// A run makes this many calls of the shelf. Where one fails it writes nothing, or this if it is
 /// past the silent ones.
-fn assert_calls_fail(rt: &(impl Abort + AllocGlobal), row: Calls<'_>) -> Result<(), Fail>
-    requires { 1 ≤ row.piece }
+fn assert_calls_fail(rt: &(impl Abort + AllocGlobal), row: &Calls<'_>) -> Result<(), Fail>
+    requires { 1 ≤ row.now.piece }
 {
-    let case = row.case;
     for call in 1..=row.calls {
         let outside = Outside {
             piece: row.piece,
@@ -114,36 +119,48 @@ fn assert_calls_fail(rt: &(impl Abort + AllocGlobal), row: Calls<'_>) -> Result<
             writes: &[],
         };
         let output = if call <= row.silent { "" } else { row.late };
-        assert_ran(rt, &case, outside, (output, Status::ShelfFault))?;
+        assert_ran(rt, &row.case, outside, (output, Status::ShelfFault))?;
     }
     let outside = Outside {
         piece: row.piece,
         calls: &[row.calls.saturating_add(1)],
         writes: &[],
     };
-    assert_ran(rt, &case, outside, (case.output, case.status))
+    assert_ran(rt, &row.case, outside, (row.case.output, row.case.status))
 }
 
 #[test]
 fn each_call_of_the_shelf_fails(rt: HostRuntime) -> Result<(), Fail> {
     for row in &CALLS {
         if row.piece >= 1 {
-            assert_calls_fail(&rt, *row)?;
+            assert_calls_fail(&rt, row)?;
         }
+    }
+    Ok(())
+}
+
+/// Where a write fails, what it keeps and all before it is written.
+fn assert_writes_fail(rt: &(impl Abort + AllocGlobal), row: &Writes<'_>) -> Result<(), Fail> {
+    for (write, kept, length, status) in row.fails {
+        let outside = Outside {
+            piece: 8192,
+            calls: &[],
+            writes: &[(*write, *kept)],
+        };
+        let front = row
+            .case
+            .output
+            .get(..*length)
+            .ok_or("the output is shorter")?;
+        assert_ran(rt, &row.case, outside, (front, *status))?;
     }
     Ok(())
 }
 
 #[test]
 fn a_front_is_written_where_a_write_fails(rt: HostRuntime) -> Result<(), Fail> {
-    for (case, write, kept, length, status) in &WRITES {
-        let outside = Outside {
-            piece: 8192,
-            calls: &[],
-            writes: &[(*write, *kept)],
-        };
-        let front = case.output.get(..*length).ok_or("the output is shorter")?;
-        assert_ran(&rt, case, outside, (front, *status))?;
+    for row in &WRITES {
+        assert_writes_fail(&rt, row)?;
     }
     Ok(())
 }
