@@ -5,7 +5,7 @@ use Rattle.std.proofs.Math.Nat.{mul-sub, mul-le-mul_right, mul_comm, add-mul, on
 use Rattle.std.proofs.lemmas.Grind.{div_ceil_times}
 use Rattle.std.specs.Int.{div_ceil}
 use Rattle.sd_num.specs.declared.Rates.{Rates}
-use Rattle.sd_num.specs.Numbers.{low, grow}
+use Rattle.sd_num.specs.Numbers.{grow}
 use Rattle.sd_device_c.specs.Ports.{IsWait}
 
 -- a multiple that is below the next one
