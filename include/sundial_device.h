@@ -53,7 +53,7 @@
  *
  * Answers. Each call answers SUNDIAL_DONE exactly where it could be made. Every other answer
  * names what was wrong, and then the call has changed nothing. Where several things were wrong, it
- * names one of them.
+ * names one of them. The calls that say 1 or 0 are always made: sundial_port_takes and sundial_in_time.
  *
  * Memory and threads. Pointers are not null, aligned, and to initialised memory. No object that a
  * call may write overlaps another object of that call. Calls on different devices may run at once.
@@ -248,6 +248,13 @@ struct sundial_device {
     uint8_t sealed;
 };
 
+/* A link over which messages come to a device: whether its host may hand on what comes. One that was never
+ * opened takes nothing, so zeros are a good beginning. Its counter is that of the device. */
+struct sundial_port {
+    struct sundial_wide clear; /* the counter from which on it takes what comes, where the flag is set */
+    uint8_t is_open;
+};
+
 SUNDIAL_ASSERT(sizeof(struct sundial_wide) == 16);
 SUNDIAL_ASSERT(offsetof(struct sundial_wide, high) == 8);
 SUNDIAL_ASSERT(sizeof(struct sundial_rates) == 16);
@@ -293,6 +300,8 @@ SUNDIAL_ASSERT(offsetof(struct sundial_device, has_duty) == 296);
 SUNDIAL_ASSERT(offsetof(struct sundial_device, has_given) == 297);
 SUNDIAL_ASSERT(offsetof(struct sundial_device, mode) == 298);
 SUNDIAL_ASSERT(offsetof(struct sundial_device, sealed) == 299);
+SUNDIAL_ASSERT(sizeof(struct sundial_port) == 24);
+SUNDIAL_ASSERT(offsetof(struct sundial_port, is_open) == 16);
 
 /* Whether the struct holds a device. Call it on a struct that was kept over a restart.
  * Faults: NO_DEVICE. */
@@ -379,6 +388,35 @@ uint32_t sundial_receive(struct sundial_device *device, uint32_t link,
  * Faults: NO_DEVICE, COUNTER_FELL, ESTIMATE_TOO_GREAT. */
 uint32_t sundial_rebase(struct sundial_device *device, uint64_t counter, uint64_t *lowered);
 
+/* The same, of the device and of this many ports, from `ports` on, which is not null: each port then takes at
+ * the lower counters exactly what it would have taken. On a fault the ports stay as they are, too.
+ * Faults: NO_DEVICE, COUNTER_FELL, ESTIMATE_TOO_GREAT. */
+uint32_t sundial_rebase_with_ports(struct sundial_device *device, struct sundial_port *ports, size_t count,
+                                   uint64_t counter, uint64_t *lowered);
+
+/* The device starts or joins while the link works, or the link works again, while the counter shows this. The
+ * edge is the way over the link by the device's duty, or by the duty that it is about to be given; the rates
+ * are those of its oscillator. From now on the port takes what comes once more than 2 * (mid + half) ps have
+ * surely passed by those rates, at the least counter at which that is sure.
+ * Faults: NO_DUTY (mid or half over 10^12), RATES_TOO_GREAT. */
+uint32_t sundial_port_open(struct sundial_port *port, const struct sundial_edge *edge,
+                           const struct sundial_rates *rates, uint64_t counter);
+
+/* The link is down: the port takes nothing until it is opened. */
+void sundial_port_close(struct sundial_port *port);
+
+/* 1 where a message that came while the counter showed this may be given to sundial_receive, and 0 where it is
+ * to be dropped: then it counts as lost. What a port takes was sent after its opening, over any rebase, as long
+ * as no message is brought that was on its way for more than 2 * (mid + half) ps, and the oscillator keeps its
+ * rates. */
+uint32_t sundial_port_takes(const struct sundial_port *port, uint64_t counter);
+
+/* Whether a device that was kept may go on after a pause: 1 where surely no more than `tick` ps have passed since its
+ * latest tick, by an oscillator with these rates, and else 0. The hardware's counter showed `ticked` then, or at the
+ * start or join where that is later, and shows `hardware` now. It may have begun again after 2^64 - 1, once. With rates
+ * past their limits the answer is 0. */
+uint32_t sundial_in_time(const struct sundial_rates *rates, uint64_t tick, uint64_t ticked, uint64_t hardware);
+
 /* What the device takes the reference time for while its counter shows this, and by how much it may
  * be off, in ps (event `ask`). The counter is as for a commit.
  * Faults: NO_DEVICE, COUNTER_FELL, ESTIMATE_TOO_GREAT. */
@@ -462,72 +500,6 @@ SUNDIAL_INLINE uint32_t sundial_age(const struct sundial_device *device, uint64_
     uint32_t answer = sundial_report(device, counter, &report);
     if (answer == SUNDIAL_DONE)
         *age = counter - device->estimate.at;
-    return answer;
-}
-
-/* By how much the counter has to advance after a start, a join or a mend of the link until no older
- * message can come over this edge: then twice its greatest delay, mid + half, has surely passed. The
- * oscillator has these rates. All numbers are within their limits. */
-SUNDIAL_INLINE uint64_t sundial_clear_after(const struct sundial_edge *edge, const struct sundial_rates *rates)
-{
-    uint64_t passes = 2 * (edge->mid + edge->half) + rates->grain + 2;
-    /* (a counter is at most 100000 ppm fast: so nine tenths of what it shows pass, less the grain) */
-    return passes + passes / 9 + 1;
-}
-
-/* A link over which messages come to a device, as its host sees it: whether it takes what comes. One
- * that was never opened takes nothing, so zeros are a good beginning. Its counters are those of the
- * device. Keep the ports beside the device. After a restore they go on as they were. */
-struct sundial_port {
-    uint64_t since; /* the counter at its opening, or at a later rebase */
-    uint64_t left;  /* by how much the counter has to advance from there until no older message can come */
-    uint8_t is_open;
-};
-
-/* The device starts or joins while the link works, or the link works again. The edge is the way over it
- * by the device's duty, or by the duty that it is about to be given. */
-SUNDIAL_INLINE void sundial_port_open(struct sundial_port *port, const struct sundial_edge *edge,
-                                     const struct sundial_rates *rates, uint64_t counter)
-{
-    port->since = counter;
-    port->left = sundial_clear_after(edge, rates);
-    port->is_open = 1;
-}
-
-/* The link is down. */
-SUNDIAL_INLINE void sundial_port_close(struct sundial_port *port)
-{
-    port->is_open = 0;
-}
-
-/* By how much the counter has advanced since the opening or the later rebase. */
-SUNDIAL_INLINE uint64_t sundial_port_passed(const struct sundial_port *port, uint64_t counter)
-{
-    return counter < port->since ? 0 : counter - port->since;
-}
-
-/* 1 where a message that came while the counter showed this may be given to sundial_receive, and 0
- * where it is to be dropped: it counts as lost. */
-SUNDIAL_INLINE int sundial_port_takes(const struct sundial_port *port, uint64_t counter)
-{
-    return port->is_open != 0 && sundial_port_passed(port, counter) >= port->left;
-}
-
-/* sundial_rebase of the device and of all its ports: after it each port takes what it would have taken.
- * Faults: those of a rebase. Then nothing is changed. */
-SUNDIAL_INLINE uint32_t sundial_rebase_with_ports(struct sundial_device *device, struct sundial_port *ports,
-                                                 size_t count, uint64_t counter, uint64_t *lowered)
-{
-    uint64_t by = 0;
-    uint32_t answer = sundial_rebase(device, counter, &by);
-    if (answer != SUNDIAL_DONE)
-        return answer;
-    for (size_t i = 0; i < count; i++) {
-        uint64_t passed = sundial_port_passed(&ports[i], counter);
-        ports[i].left = ports[i].left < passed ? 0 : ports[i].left - passed;
-        ports[i].since = counter - by;
-    }
-    *lowered = by;
     return answer;
 }
 

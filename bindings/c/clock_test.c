@@ -273,8 +273,9 @@ static void counters(void)
     struct sundial_clock_now before, after;
     uint64_t raw = sundial_clock_raw(), lowered = 0;
     struct sundial_clock_mapping mapping = {raw - 1000 * SECOND, 0, 0}, kept = mapping;
-    struct sundial_port port = {sundial_clock_counter(&mapping, raw), 9000 * SECOND, 1};
-    struct sundial_device device = started(port.since, 5 * SECOND * 1000, 1000);
+    uint64_t begin = sundial_clock_counter(&mapping, raw);
+    struct sundial_port port = {{begin + 9000 * SECOND, 0}, 1};
+    struct sundial_device device = started(begin, 5 * SECOND * 1000, 1000);
     expect(sundial_clock_create(page_of("counters"), &LASTING, &writer) == 0 && sundial_clock_open(path, &reader) == 0, "no page");
     expect(sundial_clock_publish(&writer, &device, sundial_clock_counter(&mapping, raw), raw) == SUNDIAL_CLOCK_GOOD
                && sundial_clock_read(&reader, SECOND, &before) == SUNDIAL_CLOCK_GOOD, "before a rebase");
@@ -286,7 +287,7 @@ static void counters(void)
     expect(sundial_clock_rebase(&mapping, &device, &port, 1, raw, &lowered) == SUNDIAL_DONE && lowered >= 999 * SECOND * 1000, "a rebase");
     expect(sundial_clock_counter(&mapping, raw) + lowered == sundial_clock_counter(&kept, raw)
                && sundial_clock_counter(&mapping, raw + 777) + lowered == sundial_clock_counter(&kept, raw + 777), "a lowered mapping");
-    expect(port.since == sundial_clock_counter(&mapping, raw), "a lowered port");
+    expect(port.clear.low + lowered == begin + 9000 * SECOND && port.clear.high == 0, "a lowered port");
     expect_refused(&writer, &device, sundial_clock_counter(&kept, raw), raw, SUNDIAL_CLOCK_APART, "a counter that was not lowered");
     expect(sundial_clock_publish(&writer, &device, sundial_clock_counter(&mapping, raw), raw) == SUNDIAL_CLOCK_GOOD, "after a rebase");
     expect(sundial_clock_read(&reader, SECOND, &after) == SUNDIAL_CLOCK_GOOD && after.earliest >= before.earliest

@@ -49,7 +49,7 @@ struct node {
     uint64_t changed_at; /* a reference time: that of its begin at first */
     uint64_t next_tick;
     uint64_t lowered; /* by how much rebases lowered its counter, in all */
-    uint64_t clear_at[LINKS]; /* the counter from which no older message can come over the link */
+    struct sundial_port ports[LINKS];
     int is_up;
 };
 
@@ -175,15 +175,16 @@ static void power_up(struct node *node)
 }
 
 /* From now on the device drops what comes over the link, until no older message can. All links delay alike. */
-static void clear(struct node *node, uint32_t link)
+static void open_port(struct node *node, uint32_t link)
 {
-    node->clear_at[link] = counter_of(node) + sundial_clear_after(&DUTIES[0][L0].primary, &DUTIES[0][L0].rates);
+    check(sundial_port_open(&node->ports[link], &DUTIES[0][L0].primary, &DUTIES[0][L0].rates, lowered(node, counter_of(node))),
+          "port_open");
 }
 
-static void clear_all(struct node *node)
+static void open_ports(struct node *node)
 {
     for (uint32_t link = 0; link < LINKS; link++)
-        clear(node, link);
+        open_port(node, link);
 }
 
 static void start(uint32_t number)
@@ -191,7 +192,7 @@ static void start(uint32_t number)
     struct node *node = &nodes[number];
     uint64_t eps = number == S0 ? ROOT_EPS : EPS;
     power_up(node);
-    clear_all(node);
+    open_ports(node);
     uint64_t counter = counter_of(node), clock = clock_within(eps);
     check(sundial_start(&node->device, &DUTIES[0][number], counter, clock, eps), "start");
     recorded(sundial_record_start(recorder_of(number), now, number, counter, clock, eps));
@@ -201,7 +202,7 @@ static void join(uint32_t number)
 {
     struct node *node = &nodes[number];
     power_up(node);
-    clear_all(node);
+    open_ports(node);
     uint64_t counter = counter_of(node), clock = clock_within(EPS);
     check(sundial_join(&node->device, &DUTIES[0][number].rates, counter, clock, EPS), "join");
     recorded(sundial_record_join(recorder_of(number), now, number, counter, clock, EPS));
@@ -210,7 +211,7 @@ static void join(uint32_t number)
 static void rebase(struct node *node, uint64_t counter)
 {
     uint64_t by = 0;
-    check(sundial_rebase(&node->device, lowered(node, counter), &by), "rebase");
+    check(sundial_rebase_with_ports(&node->device, node->ports, LINKS, lowered(node, counter), &by), "rebase");
     node->lowered += by;
 }
 
@@ -240,7 +241,7 @@ static void receive(struct flight *flight)
     flight->is_used = 0;
     if (!node->is_up || is_down[flight->link])
         return;
-    if (counter < node->clear_at[flight->link]) {
+    if (!sundial_port_takes(&node->ports[flight->link], lowered(node, counter))) {
         dropped++; /* (it may be older than the start, the join or the failure of the link) */
         return;
     }
@@ -361,8 +362,8 @@ static void repair(void)
     recorded(sundial_record_stage(recorder_of(OPERATOR), now));
     recorded(sundial_record_mend_link(recorder_of(OPERATOR), now, S2_L0));
     is_down[S2_L0] = 0;
-    clear(&nodes[S2], S2_L0);
-    clear(&nodes[L0], S2_L0);
+    open_port(&nodes[S2], S2_L0);
+    open_port(&nodes[L0], S2_L0);
     held.comes_at = now + LEAST_DELAY;
     *free_place() = held;
     recorded(sundial_record_mend_device(recorder_of(OPERATOR), now, S0));

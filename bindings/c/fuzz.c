@@ -21,7 +21,7 @@
 
 #include "sundial_device.h"
 
-enum { ANSWERS = 11, CALLS = 17 };
+enum { ANSWERS = 11, REBASE_WITH_PORTS = 17, PORT_OPEN, PORT_CLOSE, PORT_TAKES, IN_TIME, CALLS, PORTS = 3 };
 
 static const uint64_t FEWEST = 200000; /* calls, on a machine that is busy too */
 
@@ -33,7 +33,8 @@ static const struct {
     {"commit", 0x513},     {"seal", 0x003},      {"fix", 0x013},      {"tick", 0x193},
     {"receive", 0x213},    {"start_wide", 0x045}, {"join_wide", 0x049}, {"fix_wide", 0x053},
     {"rebase", 0x093},     {"report", 0x093},    {"parent", 0x003},   {"acts", 0x003},
-    {"epoch", 0x003},
+    {"epoch", 0x003},      {"rebase_with_ports", 0x093}, {"port_open", 0x00d}, {"port_close", 0x001},
+    {"port_takes", 0x003}, {"in_time", 0x003}, /* (these two answer 1 or 0) */
 };
 
 static uint64_t word, calls, seed;
@@ -175,6 +176,12 @@ static struct sundial_message message(void)
     return made;
 }
 
+static struct sundial_port port(void)
+{
+    struct sundial_port made = {wide(), (uint8_t)below(2)};
+    return made;
+}
+
 static void say(const char *what)
 {
     fprintf(stderr, "fuzz: seed %" PRIu64 ", call %" PRIu64 ", %s: %s\n", seed, calls, CALL[call].name,
@@ -192,6 +199,10 @@ static void faulted(int signal)
     _exit(1);
 }
 
+struct ports {
+    struct sundial_port all[PORTS];
+};
+
 struct rooms {
     struct sundial_device *device;
     struct sundial_duty *duty;
@@ -205,6 +216,7 @@ struct rooms {
     uint64_t *lowered;
     uint8_t *acts;
     uint32_t *epoch;
+    struct ports *ports;
 };
 
 struct numbers {
@@ -231,13 +243,19 @@ static uint32_t made_of(const struct rooms *at, const struct numbers *n)
     case 13: return sundial_report(at->device, n->counter, at->report);
     case 14: return sundial_parent(at->device, at->parent);
     case 15: return sundial_acts(at->device, at->acts);
-    default: return sundial_epoch(at->device, at->epoch);
+    case 16: return sundial_epoch(at->device, at->epoch);
+    case REBASE_WITH_PORTS:
+        return sundial_rebase_with_ports(at->device, at->ports->all, PORTS, n->counter, at->lowered);
+    case PORT_OPEN: return sundial_port_open(at->ports->all, &at->duty->primary, at->rates, n->counter);
+    case PORT_CLOSE: sundial_port_close(at->ports->all); return SUNDIAL_DONE;
+    case PORT_TAKES: return sundial_port_takes(at->ports->all, n->counter);
+    default: return sundial_in_time(at->rates, n->eps, n->clock, n->counter);
     }
 }
 
 static int changes_device(void)
 {
-    return call >= 1 && call <= 12;
+    return (call >= 1 && call <= 12) || call == REBASE_WITH_PORTS;
 }
 
 /* The counter: most often where a device of these counters takes it. */
@@ -256,7 +274,7 @@ static void copy_all(unsigned char *to, const struct rooms *at)
 {
 #define COPY(field) memcpy(to, at->field, sizeof *at->field), to += sizeof *at->field
     COPY(device), COPY(duty), COPY(rates), COPY(message), COPY(clock), COPY(eps), COPY(effect);
-    COPY(report), COPY(parent), COPY(lowered), COPY(acts), COPY(epoch);
+    COPY(report), COPY(parent), COPY(lowered), COPY(acts), COPY(epoch), COPY(ports);
 #undef COPY
 }
 
@@ -264,7 +282,7 @@ static void put_back(const unsigned char *from, const struct rooms *at)
 {
 #define COPY(field) memcpy(at->field, from, sizeof *at->field), from += sizeof *at->field
     COPY(device), COPY(duty), COPY(rates), COPY(message), COPY(clock), COPY(eps), COPY(effect);
-    COPY(report), COPY(parent), COPY(lowered), COPY(acts), COPY(epoch);
+    COPY(report), COPY(parent), COPY(lowered), COPY(acts), COPY(epoch), COPY(ports);
 #undef COPY
 }
 
@@ -273,6 +291,7 @@ enum {
           + sizeof(struct sundial_message) + sizeof(struct sundial_effect)
           + sizeof(struct sundial_clock_report) + sizeof(struct sundial_optional_parent)
           + 2 * sizeof(struct sundial_wide) + sizeof(uint64_t) + sizeof(uint8_t) + sizeof(uint32_t)
+          + sizeof(struct ports)
 };
 
 /* Flags are 1 or 0 and nothing else, and a device acts, or has a parent, by its mode. */
@@ -282,6 +301,8 @@ static int is_told(const struct rooms *at)
     case 7: case 8: return at->effect->sends <= 1;
     case 14: return at->parent->has_parent <= 1 && (at->parent->has_parent == 0 || at->device->mode <= SUNDIAL_BACKUP);
     case 15: return *at->acts == (at->device->mode == SUNDIAL_ACTING ? 1 : 0);
+    case PORT_OPEN: return at->ports->all[0].is_open == 1;
+    case PORT_CLOSE: return at->ports->all[0].is_open == 0;
     default: return 1;
     }
 }
@@ -298,6 +319,8 @@ static void one_call(const struct rooms *at)
     *at->message = message();
     *at->clock = wide();
     *at->eps = wide();
+    for (int i = 0; i < PORTS; i++)
+        at->ports->all[i] = port();
     n.counter = counter_for(at->device);
     n.clock = number();
     n.eps = number();
@@ -317,7 +340,7 @@ static void one_call(const struct rooms *at)
                                             + sizeof *at->clock + sizeof *at->eps;
     if (memcmp(before + given, after + given, taken) != 0)
         say("it changed what it was given to read");
-    if (answer == SUNDIAL_DONE && sundial_made(at->device) != SUNDIAL_DONE)
+    if (answer == SUNDIAL_DONE && call <= REBASE_WITH_PORTS && sundial_made(at->device) != SUNDIAL_DONE)
         say("what it left is no device");
     if (answer == SUNDIAL_DONE && !is_told(at))
         say("it tells another thing than the device");
@@ -343,7 +366,7 @@ static int missing(void)
 {
     int none = 0;
     for (int i = 0; i < CALLS; i++) {
-        printf("%-10s", CALL[i].name);
+        printf("%-17s", CALL[i].name);
         for (int answer = 0; answer < ANSWERS; answer++) {
             if ((CALL[i].answers >> answer & 1) == 0)
                 continue;
@@ -371,7 +394,7 @@ int main(int count, char **words)
         room(sizeof *at.device), room(sizeof *at.duty),   room(sizeof *at.rates),
         room(sizeof *at.message), room(sizeof *at.clock), room(sizeof *at.eps),
         room(sizeof *at.effect), room(sizeof *at.report), room(sizeof *at.parent),
-        room(sizeof *at.lowered), room(sizeof *at.acts),  room(sizeof *at.epoch),
+        room(sizeof *at.lowered), room(sizeof *at.acts),  room(sizeof *at.epoch), room(sizeof *at.ports),
     };
     while (seconds() - begun < wanted || (wanted >= 3 && calls < FEWEST))
         for (int i = 0; i < 4096; i++)

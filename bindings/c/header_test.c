@@ -1,10 +1,11 @@
-/* What the header computes by itself, beside numbers of 128 bits and at each edge.
+/* What the header computes by itself, the ports and the pauses, beside numbers of 128 bits and at each edge.
  *
  *     header_test
  *
  * - The ends of an interval and the end of a commit wait, where halves of 64 bits carry and borrow.
  * - How the device takes part, and the age of its estimate: from its clock and not from its latest message.
- * - Which messages a port takes: across rebases, at the end of a counter, and by a counter that fell.
+ * - Which messages a port takes: from the least counter at which older ones are sure to be lost, across rebases, at the end
+ *   of a counter, and by a counter that fell.
  * - A call that answers a fault writes nothing. */
 #include <inttypes.h>
 #include <stdio.h>
@@ -118,20 +119,66 @@ static void copies(void)
     expect(sundial_receive(&device, 2, &message, 4600, &effect) == SUNDIAL_DONE && effect.sends == 0, "the third copy");
 }
 
+/* Whether more than twice the greatest delay has surely passed while the counter advanced by this much. */
+static int is_clear(const struct sundial_edge *edge, const struct sundial_rates *rates, uint64_t advance)
+{
+    wide_number drifted = ((wide_number)advance * rates->ppm + 999999) / 1000000 + rates->grain;
+    return advance > drifted + 2 * (wide_number)(edge->mid + edge->half);
+}
+
+static void waits(void)
+{
+    const uint64_t sizes[] = {0, 1, 999, 1000000, UINT64_C(999999999999), UINT64_C(1000000000000)};
+    const uint32_t parts[] = {0, 1, 200, 99999, 100000};
+    for (size_t i = 0; i < 6 * 6 * 6 * 5; i++) {
+        struct sundial_edge edge = {sizes[i % 6], sizes[i / 6 % 6], 0, 0};
+        struct sundial_rates rates = {sizes[i / 36 % 6], parts[i / 216]};
+        struct sundial_port port = {{0, 0}, 0};
+        expect(sundial_port_open(&port, &edge, &rates, 0) == SUNDIAL_DONE && port.clear.high == 0 && port.is_open == 1
+                   && is_clear(&edge, &rates, port.clear.low) && !is_clear(&edge, &rates, port.clear.low - 1),
+               "the wait of a port");
+    }
+    struct sundial_port port = {{7, 7}, 7}, kept = port;
+    struct sundial_edge mid = {UINT64_C(1000000000001), 0, 0, 0}, half = {0, UINT64_C(1000000000001), 0, 0}, good = {0, 0, 0, 0};
+    struct sundial_rates grain = {UINT64_C(1000000000001), 0}, ppm = {0, 100001}, even = {0, 0};
+    expect(sundial_port_open(&port, &mid, &even, 0) == SUNDIAL_NO_DUTY && sundial_port_open(&port, &half, &even, 0) == SUNDIAL_NO_DUTY
+               && sundial_port_open(&port, &good, &grain, 0) == SUNDIAL_RATES_TOO_GREAT
+               && sundial_port_open(&port, &good, &ppm, 0) == SUNDIAL_RATES_TOO_GREAT
+               && number(port.clear) == number(kept.clear) && port.is_open == kept.is_open,
+           "an opening past the limits");
+}
+
+/* The latest counter at which a pause is in time, also where the hardware's counter began again. */
+static void pauses(void)
+{
+    const uint64_t tick = 40000000, at[] = {0, 7, UINT64_MAX - 1000, UINT64_MAX};
+    const uint32_t parts[] = {0, 1, 200, 100000};
+    for (size_t i = 0; i < 16; i++) {
+        struct sundial_rates rates = {1000, parts[i / 4]}, past = {1000, 100001};
+        uint64_t ticked = at[i % 4], pause = tick - 1000;
+        while ((wide_number)pause + ((wide_number)pause * rates.ppm + 999999) / 1000000 + 1000 > tick)
+            pause--;
+        expect(sundial_in_time(&rates, tick, ticked, ticked) == 1 && sundial_in_time(&rates, tick, ticked, ticked + pause) == 1
+                   && sundial_in_time(&rates, tick, ticked, ticked + pause + 1) == 0
+                   && sundial_in_time(&rates, tick, ticked, ticked - 1) == 0 && sundial_in_time(&past, tick, ticked, ticked) == 0,
+               "a pause");
+    }
+}
+
 static void ports_at(uint64_t begin)
 {
     struct sundial_duty duty = duty_of(SUNDIAL_ORDINARY);
     struct sundial_device device = {0}, nothing = {0};
-    struct sundial_port ports[3], kept[3], zero = {0, 0, 0};
-    const uint64_t after = sundial_clear_after(&duty.primary, &duty.rates);
+    struct sundial_port ports[3], kept[3], zero = {{0, 0}, 0};
+    expect(sundial_port_open(&zero, &duty.primary, &duty.rates, 0) == SUNDIAL_DONE, "a port");
+    const uint64_t after = zero.clear.low;
     uint64_t by = 7, again = 7;
     expect(sundial_start(&device, &duty, begin, 0, 0) == SUNDIAL_DONE, "a start");
     memset(ports, 0, sizeof ports);
     expect(!sundial_port_takes(&ports[0], begin), "a port that was never opened");
-    sundial_port_open(&ports[0], &duty.primary, &duty.rates, begin);
-    sundial_port_open(&ports[1], &duty.primary, &duty.rates, begin);
+    for (int i = 0; i < 3; i++)
+        expect(sundial_port_open(&ports[i], &duty.primary, &duty.rates, begin) == SUNDIAL_DONE, "a port");
     sundial_port_close(&ports[1]);
-    sundial_port_open(&ports[2], &duty.primary, &duty.rates, begin);
     memcpy(kept, ports, sizeof ports);
     expect(sundial_rebase_with_ports(&nothing, ports, 3, begin, &by) == SUNDIAL_NO_DEVICE && by == 7
                && memcmp(kept, ports, sizeof ports) == 0,
@@ -159,11 +206,12 @@ static void ports_at(uint64_t begin)
         }
         uint64_t counter = begin - by + 3 * after;
         expect(sundial_rebase_with_ports(&lowered, ports, 3, counter, &again) == SUNDIAL_DONE
-                   && sundial_port_takes(&ports[0], counter - again) && ports[0].left == 0,
+                   && sundial_port_takes(&ports[0], counter - again) && !sundial_port_takes(&ports[1], counter - again),
                "a port that is rebased long after");
     }
-    sundial_port_open(&zero, &duty.primary, &duty.rates, begin);
-    expect(memcmp(&zero.since, &kept[0].since, 2 * sizeof zero.since) == 0, "a port that is opened again");
+    expect(sundial_port_open(&zero, &duty.primary, &duty.rates, begin) == SUNDIAL_DONE
+               && number(zero.clear) == (wide_number)begin + after && number(kept[0].clear) == number(zero.clear),
+           "a port that is opened again");
 }
 
 int main(void)
@@ -171,6 +219,8 @@ int main(void)
     intervals();
     queries();
     copies();
+    waits();
+    pauses();
     const uint64_t at[] = {0, 1, 5000, 30000, UINT64_C(1) << 60, UINT64_MAX - 60000, UINT64_MAX - 10000, UINT64_MAX - 1};
     for (size_t i = 0; i < sizeof at / sizeof at[0]; i++)
         ports_at(at[i]);

@@ -79,7 +79,15 @@ int main()
     expect(sundial_rebase(&device, 650, &lowered) == SUNDIAL_DONE && lowered == 620
                && sundial_report(&device, 650 - lowered, &report) == SUNDIAL_DONE && report.clock.low == 5010,
            "rebase");
-    expect(sundial_clear_after(&duty.primary, &duty.rates) > 2 * 10 + 1000, "clear_after");
+    sundial_port port = {};
+    expect(!sundial_port_takes(&port, 700)
+               && sundial_port_open(&port, &duty.primary, &duty.rates, 700) == SUNDIAL_DONE && !sundial_port_takes(&port, 1700)
+               && sundial_rebase_with_ports(&device, &port, 1, 700, &lowered) == SUNDIAL_DONE
+               && sundial_port_takes(&port, 2000 - lowered),
+           "a port");
+    expect(sundial_in_time(&duty.rates, 100000, 700, 9700) == 1 && sundial_in_time(&duty.rates, 100000, 700, 99700) == 0, "in_time");
+    sundial_port_close(&port);
+    expect(!sundial_port_takes(&port, 2000), "a closed port");
     expect(sundial_join(&device, &duty.rates, 700, 5000, 10) == SUNDIAL_DONE, "join");
 
     sundial_wide clock = {5000, 1}, eps = {10, 0};

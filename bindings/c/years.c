@@ -6,8 +6,7 @@
  * - A root that is rebased each day reports the right clock after 5 years.
  * - Two devices are given the same random calls. The second is rebased before each of them, so that
  *   its counters start again near 0. Both answer, send and report the same.
- * - A device takes a message of before its start, and sends it on: so its host has to drop it. After what
- *   sundial_clear_after says twice the greatest delay has passed by any oscillator.
+ * - A device takes a message of before its start, and sends it on: so its host has to drop it.
  * - A rebased root whose commit takes up another ppm reports another eps: the condition of a rebase
  *   is needed.
  *
@@ -116,29 +115,6 @@ static void older_than_the_start(void)
     expect(sundial_start(&below, &other, PERIOD + 1000, PERIOD + 1000, 0) == SUNDIAL_DONE, "a later start below it");
     expect(sundial_receive(&below, 0, &sent.message, PERIOD + 7000, &relayed) == SUNDIAL_DONE && relayed.sends != 0,
            "no device knows when a message was sent");
-}
-
-/* While the counter advances by this much, at least so much passes by this oscillator. */
-static uint64_t least_passed(uint64_t counter, const struct sundial_rates *rates)
-{
-    uint64_t drifted = counter / 1000000 * rates->ppm + counter % 1000000 * rates->ppm / 1000000 + 1 + rates->grain;
-    return counter > drifted ? counter - drifted : 0;
-}
-
-static void clear_of_older_messages(void)
-{
-    const uint64_t sizes[] = {0, 1, 999, 1000000, SECOND - 1, SECOND};
-    const uint32_t parts[] = {0, 1, 200, 99999, 100000};
-    for (size_t mid = 0; mid < 6; mid++)
-        for (size_t half = 0; half < 6; half++)
-            for (size_t grain = 0; grain < 6; grain++)
-                for (size_t part = 0; part < 5; part++) {
-                    struct sundial_edge edge = {sizes[mid], sizes[half], 0, 0};
-                    struct sundial_rates rates = {sizes[grain], parts[part]};
-                    uint64_t after = sundial_clear_after(&edge, &rates), twice = 2 * (edge.mid + edge.half);
-                    expect(least_passed(after, &rates) > twice, "a link is not clear yet");
-                    expect(after <= (twice + rates.grain) / 9 * 10 + 20, "a link is clear already");
-                }
 }
 
 /* Two devices with one life: the second is rebased. */
@@ -294,7 +270,6 @@ int main(int count, char **words)
     across_rounds_and_counters();
     rebased_each_day();
     older_than_the_start();
-    clear_of_older_messages();
     another_ppm();
     for (made = 1; made <= HISTORIES; made++)
         history();

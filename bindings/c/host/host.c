@@ -189,7 +189,7 @@ static void open_port(uint32_t at, uint64_t raw)
     for (int plan = 0; plan < MOST_PLANS; plan++) {
         const struct sundial_edge *edge = edge_over(&duties[plan], links[at].number);
         if (edge != NULL)
-            sundial_port_open(&ports[at], edge, &duties[plan].rates, counter_of(raw));
+            made(sundial_port_open(&ports[at], edge, &duties[plan].rates, counter_of(raw)), "port_open");
     }
 }
 
@@ -330,13 +330,10 @@ static void send_on(const struct sundial_effect *effect, uint64_t raw)
     }
 }
 
-/* The counters that it keeps fall, and the mapping with them. What a port was opened at may be in the present: then later. */
+/* The counters that it keeps fall, and the mapping with them. */
 static void rebase(uint64_t raw)
 {
     uint64_t by = 0;
-    for (uint32_t i = 0; i < link_count; i++)
-        if (ports[i].since > counter_of(raw))
-            return;
     if (raw - rebased < rebase_every
         || !made(sundial_clock_rebase(&mapping, &device, ports, link_count, raw, &by), "rebase"))
         return;

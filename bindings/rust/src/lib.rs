@@ -119,65 +119,48 @@ impl Report {
     }
 }
 
-impl Edge {
-    /// By how much the counter has to advance after a start, a join or a mend of the link until no
-    /// older message can come over this edge. A [`Port`] counts it. The oscillator has these rates.
-    pub fn clear_after(&self, rates: &Rates) -> u64 {
-        let passes = 2 * (self.mid + self.half) + rates.grain + 2;
-        // (a counter is at most 100000 ppm fast: so nine tenths of what it shows pass, less the grain)
-        passes + passes / 9 + 1
-    }
-}
-
 /// A link over which messages come to a device, as its host sees it: whether it takes what comes.
 ///
-/// One that was never opened takes nothing. Its counters are those of the device, so
-/// [`Device::rebase_with_ports`] lowers them too. Keep the ports beside the device. After a restore
-/// they go on as they were.
+/// One that was never opened takes nothing. Its counter is that of the device, so
+/// [`Device::rebase_with_ports`] lowers it too. Keep the ports beside the device. After a restore they
+/// go on as they were.
 ///
 /// ```
 /// use sundial_device::{Edge, Port, Rates};
 ///
 /// let (edge, rates) = (Edge { mid: 7, half: 3, parent: 0, link: 0 }, Rates { grain: 5, ppm: 200 });
 /// let mut port = Port::default();
-/// port.open(&edge, &rates, 1_000);
-/// assert!(!port.takes(1_020));
-/// assert!(port.takes(1_000 + edge.clear_after(&rates)));
+/// port.open(&edge, &rates, 1_000)?;
+/// assert!(!port.takes(1_026));
+/// assert!(port.takes(1_027)); // 27 ps later more than 2 * (7 + 3) ps have surely passed
+/// # Ok::<(), sundial_device::Fault>(())
 /// ```
 #[derive(Clone, Copy, Debug, Default, PartialEq, Eq)]
-pub struct Port {
-    since: u64,
-    left: u64,
-    is_open: bool,
-}
+#[repr(transparent)]
+pub struct Port(raw::Port);
 
 impl Port {
     /// The device starts or joins while the link works, or the link works again. The edge is the way
-    /// over it by the device's duty, or by the duty that it is about to be given.
-    pub fn open(&mut self, edge: &Edge, rates: &Rates, counter: u64) {
-        *self = Port { since: counter, left: edge.clear_after(rates), is_open: true };
+    /// over it by the device's duty, or by the duty that it is about to be given. Faults: `NoDuty`,
+    /// `RatesTooGreat`.
+    pub fn open(&mut self, edge: &Edge, rates: &Rates, counter: u64) -> Result<(), Fault> {
+        done(unsafe { raw::sundial_port_open(&mut self.0, edge, rates, counter) })
     }
 
     /// The link is down.
     pub fn close(&mut self) {
-        self.is_open = false;
+        unsafe { raw::sundial_port_close(&mut self.0) }
     }
 
     /// Whether it was opened, and not closed since.
     pub fn is_open(&self) -> bool {
-        self.is_open
+        self.0.is_open != 0
     }
 
     /// Whether a message that came while the counter showed this may be given to
     /// [`Device::receive`]. Otherwise drop it: it counts as lost.
     pub fn takes(&self, counter: u64) -> bool {
-        self.is_open && counter.saturating_sub(self.since) >= self.left
-    }
-
-    /// The counter, which shows this, is lowered by so much.
-    fn lower(&mut self, counter: u64, by: u64) {
-        self.left = self.left.saturating_sub(counter.saturating_sub(self.since));
-        self.since = counter - by;
+        unsafe { raw::sundial_port_takes(&self.0, counter) != 0 }
     }
 }
 
@@ -254,6 +237,12 @@ impl Device {
         Ok(Device(kept))
     }
 
+    /// Whether a device that was kept may go on after a pause: surely no more than `tick` ps have passed
+    /// since its latest tick, when the hardware's counter showed `ticked`.
+    pub fn is_in_time(rates: &Rates, tick: u64, ticked: u64, hardware: u64) -> bool {
+        unsafe { raw::sundial_in_time(rates, tick, ticked, hardware) != 0 }
+    }
+
     /// Its numbers, to be kept.
     pub fn kept(&self) -> raw::Device {
         self.0
@@ -298,10 +287,9 @@ impl Device {
     /// The same, of the device and of all its ports: after it each port takes what it would have taken.
     /// Faults: those of a rebase.
     pub fn rebase_with_ports(&mut self, ports: &mut [Port], counter: u64) -> Result<u64, Fault> {
-        let lowered = self.rebase(counter)?;
-        for port in ports {
-            port.lower(counter, lowered);
-        }
+        let mut lowered = 0;
+        let first = ports.as_mut_ptr().cast();
+        done(unsafe { raw::sundial_rebase_with_ports(&mut self.0, first, ports.len(), counter, &mut lowered) })?;
         Ok(lowered)
     }
 

@@ -177,6 +177,15 @@ plain!(
         sealed: u8,
     }
 );
+plain!(
+    /// A link over which messages come to a device: whether its host may hand on what comes.
+    Port 24 {
+        /// The counter from which on it takes what comes, in ps. Read where `is_open` is not 0.
+        clear: Wide,
+        /// Not 0 where the link works, and the device runs.
+        is_open: u8,
+    }
+);
 
 // Each reference is to initialised memory of its own, which is all that the calls ask.
 extern "C" {
@@ -226,6 +235,22 @@ extern "C" {
     ) -> u32;
     /// It lowers the counters that it keeps.
     pub fn sundial_rebase(device: &mut Device, counter: u64, lowered: &mut u64) -> u32;
+    /// The same, of the device and of as many ports from the first one on.
+    pub fn sundial_rebase_with_ports(
+        device: &mut Device,
+        ports: *mut Port,
+        count: usize,
+        counter: u64,
+        lowered: &mut u64,
+    ) -> u32;
+    /// The link works, and the device runs.
+    pub fn sundial_port_open(port: &mut Port, edge: &Edge, rates: &Rates, counter: u64) -> u32;
+    /// The link is down.
+    pub fn sundial_port_close(port: &mut Port);
+    /// 1 where the device may be given what comes, and else 0.
+    pub fn sundial_port_takes(port: &Port, counter: u64) -> u32;
+    /// 1 where it may go on after a pause, and else 0.
+    pub fn sundial_in_time(rates: &Rates, tick: u64, ticked: u64, hardware: u64) -> u32;
     /// What it takes the reference time for.
     pub fn sundial_report(device: &Device, counter: u64, report: &mut Report) -> u32;
     /// Whom it follows.

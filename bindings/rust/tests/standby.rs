@@ -67,16 +67,25 @@ fn names_what_is_wrong() {
     assert_eq!(Fault::Unknown(77).to_string(), "the library answered 77");
 }
 
-/// While the counter advances so far, more than twice the greatest delay passes by the fastest
-/// oscillator. Without it a device takes a message of before its start.
+/// By how much a counter has to advance until more than twice the greatest delay has surely passed.
+fn wait(edge: &Edge, rates: &Rates) -> u64 {
+    let least = 2 * (edge.mid + edge.half) + rates.grain + 1;
+    (least * 1_000_000).div_ceil(1_000_000 - u64::from(rates.ppm))
+}
+
+/// A port takes nothing until more than twice the greatest delay has passed by the fastest oscillator.
+/// Without it a device takes a message of before its start.
 #[test]
 fn clear_of_older_messages() {
     const MOST: u64 = 1_000_000_000_000;
     for mid in [0, 7, MOST] {
         for grain in [0, 1_000, MOST] {
             let edge = Edge { mid, half: 3, parent: 0, link: 0 };
-            let after = edge.clear_after(&Rates { grain, ppm: 100_000 });
-            assert!(after - after / 10 - grain > 2 * (mid + 3));
+            let rates = Rates { grain, ppm: 100_000 };
+            let after = wait(&edge, &rates);
+            let mut port = Port::default();
+            port.open(&edge, &rates, 0).unwrap();
+            assert!(port.takes(after) && !port.takes(after - 1));
         }
     }
     let old = Message {
@@ -86,7 +95,11 @@ fn clear_of_older_messages() {
         epoch: 1,
     };
     let mut device = Device::start(&standby(), 120, 120, 500).unwrap();
-    assert!(125 < 120 + standby().primary.clear_after(&standby().rates));
+    let mut port = Port::default();
+    port.open(&standby().primary, &standby().rates, 120).unwrap();
+    assert!(!port.takes(125));
+    let past = Edge { mid: 1_000_000_000_001, half: 3, parent: 0, link: 0 };
+    assert_eq!(port.open(&past, &standby().rates, 120), Err(Fault::NoDuty));
     assert!(device.receive(0, &old, 125).unwrap().is_some());
 }
 
@@ -111,13 +124,13 @@ fn equal_where_no_call_differs() {
 #[test]
 fn ports_across_rebases() {
     let rates = standby().rates;
-    let after = edge(0, 0).clear_after(&rates);
+    let after = wait(&edge(0, 0), &rates);
     for begin in [1_000_000, u64::MAX - after - 1, u64::MAX - after / 2] {
         let mut device = Device::start(&standby(), begin, 0, 500).unwrap();
         let mut ports = [Port::default(); 3];
         assert!(!ports[0].takes(begin) && !ports[0].is_open());
-        ports[0].open(&edge(0, 0), &rates, begin);
-        ports[1].open(&edge(0, 0), &rates, begin);
+        ports[0].open(&edge(0, 0), &rates, begin).unwrap();
+        ports[1].open(&edge(0, 0), &rates, begin).unwrap();
         ports[1].close();
         let not_lowered = ports[0];
         let lowered = device.rebase_with_ports(&mut ports, begin + after / 3).unwrap();

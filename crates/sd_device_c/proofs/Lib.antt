@@ -1,2 +1,5 @@
 pub mod Owing
 pub mod Repeats
+pub mod Waiting
+pub mod Lowering
+pub mod Pausing

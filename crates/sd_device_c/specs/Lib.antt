@@ -2,3 +2,5 @@ pub mod Plain
 pub mod Faults
 pub mod Owed
 pub mod Answers
+pub mod Ports
+pub mod Pauses

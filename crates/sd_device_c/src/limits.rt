@@ -11,7 +11,7 @@ use sd_plan::{Duty, Edge};
 const MOST_PPM: u32 = 100_000;
 
 /// A second, in ps.
-const SECOND: u64 = 1_000_000_000_000;
+pub(crate) const SECOND: u64 = 1_000_000_000_000;
 
 #[inline(always)]
 pub(crate) fn is_rates(rates: &Rates) -> bool

@@ -115,3 +115,12 @@ pub struct PlainDevice {
     pub mode: u8,
     pub sealed: u8,
 }
+
+/// A link over which messages come to a device.
+#[repr(C)]
+#[derive(Clone, Copy, Debug, PartialEq, Eq)]
+pub struct PlainPort {
+    /// The counter from which on it takes what comes, where the flag is set.
+    pub clear: PlainWide,
+    pub is_open: u8,
+}

@@ -1,10 +1,13 @@
 //! The call that lowers the counters that a device keeps.
 ghost use Rattle.std.specs.Prelude.{◌≡◌, ◌≢◌, OnOk, IfOk, IfErr};
+ghost use Rattle.std.specs.List.{AllZip};
 ghost use Rattle.sd_device_c.specs.Answers.{IsAnswerFor, MayReport, HasReportFault, IsRebased};
+ghost use Rattle.sd_device_c.specs.Ports.{IsLowered};
 
 use crate::checks::{check_report, held};
 use crate::faults::{DONE, Fault};
-use crate::plain::PlainDevice;
+use crate::plain::{PlainDevice, PlainPort};
+use crate::ports::lower_all;
 use crate::writing::plain_device;
 use sd_device::Device;
 
@@ -20,6 +23,32 @@ pub extern "C" fn sundial_rebase(device: &mut PlainDevice, counter: u64, lowered
     match rebase(device, counter) {
         Ok((after, by)) => {
             *device = after;
+            *lowered = by;
+            DONE
+        }
+        Err(fault) => fault.code(),
+    }
+}
+
+/// The same, of the device and of its ports.
+#[unsafe(no_mangle)]
+pub extern "C" fn sundial_rebase_with_ports(
+    device: &mut PlainDevice,
+    ports: &mut [PlainPort],
+    counter: u64,
+    lowered: &mut u64,
+) -> u32
+    ensures answer { IsAnswerFor result (MayReport device.old counter)
+        (HasReportFault device.old counter) }
+    ensures same { result ≢ 0 → (device.new ≡ device.old) × (lowered.new ≡ lowered.old) }
+    ensures same_ports { result ≢ 0 → ports.new ≡ ports.old }
+    ensures rebased { result ≡ 0 → IsRebased device.old counter device.new lowered.new }
+    ensures ports { result ≡ 0 → AllZip (IsLowered lowered.new) ports.old ports.new }
+{
+    match rebase(device, counter) {
+        Ok((after, by)) => {
+            *device = after;
+            lower_all(ports, by);
             *lowered = by;
             DONE
         }

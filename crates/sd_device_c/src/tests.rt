@@ -3,10 +3,11 @@ use super::faults::{DONE, Fault};
 use super::makings::{sundial_made, sundial_start, sundial_start_wide};
 use super::plain::{
     PlainDevice, PlainDuty, PlainEdge, PlainEffect, PlainEstimate, PlainMessage, PlainParent,
-    PlainRates, PlainReport, PlainStamp, PlainWide,
+    PlainPort, PlainRates, PlainReport, PlainStamp, PlainWide,
 };
+use super::ports::{sundial_port_close, sundial_port_open, sundial_port_takes};
 use super::queries::{sundial_acts, sundial_epoch, sundial_parent, sundial_report};
-use super::rebases::sundial_rebase;
+use super::rebases::{sundial_rebase, sundial_rebase_with_ports};
 use super::steps::{sundial_receive, sundial_tick};
 
 const ZERO: PlainWide = PlainWide { low: 0, high: 0 };
@@ -190,4 +191,34 @@ fn goes_on_for_years(rt: HostRuntime) {
     assert_eq!(rt; effect, QUIET);
     assert_eq!(rt; sundial_tick(&mut root, 200, &mut effect), DONE);
     assert_eq!(rt; effect.message.stamp.round, (1 << 31) + 2);
+}
+
+/// 1,022 ps after its opening more than 20 ps have surely passed: a counter that drifts by 200 ppm
+/// shows 1 of them too many, and its grain is 1,000 ps.
+#[test]
+fn takes_what_is_younger_than_the_port(rt: HostRuntime) {
+    let mut device = UNMADE;
+    let mut port = PlainPort {
+        clear: ZERO,
+        is_open: 0,
+    };
+    let mut lowered = 0;
+    assert_eq!(rt; sundial_port_takes(&port, 9_000), 0);
+    assert_eq!(rt; sundial_start(&mut device, &STANDBY, 5_000, 0, 500), DONE);
+    assert_eq!(rt;
+        sundial_port_open(&mut port, &STANDBY.primary, &RATES, 5_000),
+        DONE
+    );
+    assert_eq!(rt; sundial_port_takes(&port, 6_021), 0);
+    assert_eq!(rt; sundial_port_takes(&port, 6_022), 1);
+    let mut ports = [port];
+    assert_eq!(rt;
+        sundial_rebase_with_ports(&mut device, &mut ports, 5_500, &mut lowered),
+        DONE
+    );
+    assert_eq!(rt; lowered, 5_000);
+    assert_eq!(rt; sundial_port_takes(&ports[0], 1_021), 0);
+    assert_eq!(rt; sundial_port_takes(&ports[0], 1_022), 1);
+    sundial_port_close(&mut port);
+    assert_eq!(rt; sundial_port_takes(&port, 9_000), 0);
 }

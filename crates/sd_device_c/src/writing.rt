@@ -48,7 +48,7 @@ const NO_MESSAGE: PlainMessage = PlainMessage {
 };
 
 #[inline(always)]
-fn plain_wide(number: u128) -> PlainWide
+pub(crate) fn plain_wide(number: u128) -> PlainWide
     ensures { wide_from result ≡ number }
 {
     PlainWide {
