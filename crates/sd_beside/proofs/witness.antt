@@ -1,8 +1,8 @@
 -- The witnesses: texts that mean a network, plans and a history, which meet all that safety and the recovery bound ask for.
-mod Accepting
+pub mod Accepting
 mod Greatest
 mod Meant
-mod Histories
+pub mod Histories
 mod Read
 pub mod Renewed
 pub mod Recovered

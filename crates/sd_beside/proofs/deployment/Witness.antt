@@ -1,8 +1,14 @@
 -- The witness: a run of two devices is one of a deployed fleet.
-use Rattle.std.specs.Prelude.{◌≡◌, ℕ, List, [], ◌∷◌, Some, None, option_map, refl, if◌then◌else◌}
-use Rattle.std.proofs.Common.{arith, sym, ◌∙◌, ap}
-use Rattle.std.proofs.lemmas.Bool.{eq-eqb}
+use Rattle.std.specs.Prelude.{◌≡◌, ℕ, ◌<◌, List, [], ◌∷◌, Some, None, option_map, refl, if◌then◌else◌}
+use Rattle.std.proofs.Common.{arith, sym, ◌∙◌, ap, subst}
+use Rattle.std.proofs.lemmas.Bool.{eq-eqb, leb-true}
+use Rattle.std.proofs.lemmas.Option.{same_Some}
 use Rattle.sd_plan.specs.Duties.{duty_of}
+use Rattle.sd_plan.specs.declared.Hop.{Hop}
+use Rattle.sd_plan.specs.Plans.{Fits, IsRow, IsHop}
+use Rattle.sd_checker.specs.Verdicts.{IsAccepted}
+use Rattle.sd_beside.proofs.witness.Accepting.{accepted_by}
+use Rattle.sd_beside.proofs.witness.Histories.{each_of_two}
 use Rattle.sd_sched.specs.declared.Event.{Event}
 use Rattle.sd_device.specs.Calls as calls
 use Rattle.sd_device.specs.Calls.{Making, Call}
@@ -123,13 +129,33 @@ second_start = (
   },
 )
 
-tick : IsDeployment SameLife witness.setting witness.tick
-tick = (
+first_tick : IsDeployment SameLife witness.setting witness.first_tick
+first_tick = (
   second_start,
   record {
     export = called witness.setting witness.second_start second_start 0 _ _ refl;
     call = refl;
-    orderly = orderly_of witness.setting (steps_of witness.setting witness.second_start) (event.Tick 100000000 0 100000000) refl;
+    orderly = orderly_of witness.setting (steps_of witness.setting witness.second_start) (event.Tick 50000000 0 50000000) refl;
+  },
+)
+
+second_tick : IsDeployment SameLife witness.setting witness.second_tick
+second_tick = (
+  first_tick,
+  record {
+    export = called witness.setting witness.first_tick first_tick 1 _ _ refl;
+    call = refl;
+    orderly = orderly_of witness.setting (steps_of witness.setting witness.first_tick) (event.Tick 50000000 1 50000000) refl;
+  },
+)
+
+tick : IsDeployment SameLife witness.setting witness.tick
+tick = (
+  second_tick,
+  record {
+    export = called witness.setting witness.second_tick second_tick 0 _ _ refl;
+    call = refl;
+    orderly = orderly_of witness.setting (steps_of witness.setting witness.second_tick) (event.Tick 100000000 0 100000000) refl;
   },
 )
 
@@ -163,5 +189,27 @@ is_run = (
   },
 )
 
+-- the plan speaks of the network
+hop_over : (link : ℕ) → link < 2 → IsHop witness.network (record { parent = 0; link = link })
+hop_over link there = (omega arith, there)
+
+row : IsRow witness.network (Some (record { primary = record { parent = 0; link = 0 }; backup = Some (record { parent = 0; link = 1 }) }))
+row = (hop_over 0 (omega arith), λ hop same. subst (IsHop witness.network) (same_Some _ hop same) (hop_over 1 (omega arith)))
+
+fits : Fits witness.network witness.plan
+fits =
+    record {
+      root = omega arith;
+      backup_root = omega arith;
+      entries = refl;
+      rows = each_of_two (IsRow witness.network) None (Some _) tt row;
+      waits = (leb-true _ _ refl, leb-true _ _ refl, leb-true _ _ refl);
+      absent_devices = refl;
+      absent_links = refl;
+    }
+
+accepted : IsAccepted witness.network witness.plan
+accepted = accepted_by witness.network witness.plan fits refl
+
 pub is_witness : IsWitness
-is_witness = record { is = is_run; premises = refl; reported = refl }
+is_witness = record { is = is_run; accepted = accepted; premises = refl; reported = refl }

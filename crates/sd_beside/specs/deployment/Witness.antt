@@ -6,6 +6,7 @@ use Rattle.sd_plan.specs.topo.Network.{Network, Device, Link}
 use Rattle.sd_plan.specs.declared.topo.Side.TheVariants.{Root}
 use Rattle.sd_plan.specs.declared.Plan.{Plan}
 use Rattle.sd_plan.specs.Duties.{duty_of}
+use Rattle.sd_checker.specs.Verdicts.{IsAccepted}
 use Rattle.sd_sched.specs.declared.Event.{Event}
 use Rattle.sd_sched.specs.declared.Event.TheVariants as event
 use Rattle.sd_device.specs.declared.msg.Message.{Message}
@@ -50,7 +51,7 @@ abbrev pub network : Network
 network =
     record {
       version = 1;
-      params = record { ppm = 100; grain = 1000; period = 100000000; tick = 110000000; loss = 1; depth = 1 };
+      params = record { ppm = 100; grain = 1000; period = 100000000; tick = 90000000; loss = 1; depth = 1 };
       devices = device (codes "r") ∷ device (codes "b") ∷ [];
       links = link (codes "first") ∷ link (codes "second") ∷ [];
       domains = [];
@@ -86,9 +87,17 @@ first_start = moment setting [] (event.Start 0 0 0 0 500) (Makes 0 (calls.Starte
 abbrev pub second_start : List (Moment Life)
 second_start = moment setting first_start (event.Start 0 1 0 0 1000000) (Makes 1 (calls.Started (duty_of network plan 1 1) 0 0 1000000)) ∷ first_start
 
+-- each ticks halfway, since no tick may be more than 90 us after the one before
+abbrev pub first_tick : List (Moment Life)
+first_tick = moment setting second_start (event.Tick 50000000 0 50000000) (Calls 0 (calls.Tick 50000000)) ∷ second_start
+
+-- and the other device
+abbrev pub second_tick : List (Moment Life)
+second_tick = moment setting first_tick (event.Tick 50000000 1 50000000) (Calls 1 (calls.Tick 50000000)) ∷ first_tick
+
 -- the root ticks, and sends
 abbrev pub tick : List (Moment Life)
-tick = moment setting second_start (event.Tick 100000000 0 100000000) (Calls 0 (calls.Tick 100000000)) ∷ second_start
+tick = moment setting second_tick (event.Tick 100000000 0 100000000) (Calls 0 (calls.Tick 100000000)) ∷ second_tick
 
 -- the message comes over the first link
 abbrev pub receipt : List (Moment Life)
@@ -98,12 +107,13 @@ receipt = moment setting tick (event.Recv 100500000 1 100495000 1) (Calls 1 (cal
 abbrev pub run : List (Moment Life)
 run = moment setting receipt (event.Ask 100600000 1 100594990) (Asks 1 100594990) ∷ receipt
 
--- It is a run of a deployed fleet that breaks no premise, and its one report is this.
+-- It is a run of a deployed fleet under an accepted plan. It breaks no premise, and its one report is this.
 pub record IsWitness : Type 0 where
   pub is : IsDeployment SameLife setting run
+  pub accepted : IsAccepted network plan
   pub premises : all_hold setting (seen_of (steps_of setting run)) ≡ true
   pub reported : reports (steps_of setting run) ≡ record {
-    line = 5;
+    line = 7;
     device = 1;
     reference = 100600000;
     report = record { clock = 100799990; eps = 312510 };
