@@ -238,21 +238,8 @@ ask 7 1 7
 end 8
 ";
 
-pub(crate) static CALLS: [Calls<'static>; 15] = [
-    Calls {
-        case: SOLO,
-        piece: 12,
-        calls: 8,
-        silent: 6,
-        late: "report 2 0 6000000 2500\n",
-    },
-    Calls {
-        case: SOLO,
-        piece: 30,
-        calls: 5,
-        silent: 3,
-        late: "report 2 0 6000000 2500\n",
-    },
+/// Commands that write once.
+pub(crate) static CALLS_AT_ONCE: [Calls<'static>; 4] = [
     Calls {
         case: CHECK,
         piece: 4096,
@@ -281,6 +268,24 @@ pub(crate) static CALLS: [Calls<'static>; 15] = [
         silent: 4,
         late: "",
     },
+];
+
+/// Commands over schedules.
+pub(crate) static CALLS_BY_LINE: [Calls<'static>; 4] = [
+    Calls {
+        case: SOLO,
+        piece: 12,
+        calls: 8,
+        silent: 6,
+        late: "report 2 0 6000000 2500\n",
+    },
+    Calls {
+        case: SOLO,
+        piece: 30,
+        calls: 5,
+        silent: 3,
+        late: "report 2 0 6000000 2500\n",
+    },
     Calls {
         case: REPLAY,
         piece: 64,
@@ -295,6 +300,10 @@ pub(crate) static CALLS: [Calls<'static>; 15] = [
         silent: 8,
         late: ORDERED_BEFORE_THE_END,
     },
+];
+
+/// Commands that write bounds or plans.
+pub(crate) static CALLS_OF_BOUNDS: [Calls<'static>; 4] = [
     Calls {
         case: TWOWAY,
         piece: 8192,
@@ -323,6 +332,10 @@ pub(crate) static CALLS: [Calls<'static>; 15] = [
         silent: 6,
         late: "",
     },
+];
+
+/// Commands over recordings.
+pub(crate) static CALLS_OF_RECORDINGS: [Calls<'static>; 3] = [
     Calls {
         case: RESUME,
         piece: 8192,
@@ -354,15 +367,8 @@ pub(crate) struct Writes<'a> {
     pub(crate) fails: &'a [(u64, usize, usize, Status)],
 }
 
-pub(crate) static WRITES: [Writes<'static>; 15] = [
-    Writes {
-        case: SOLO,
-        fails: &[
-            (1, 3, 3, Status::SinkFault),
-            (1, 9, 9, Status::SinkFault),
-            (2, 3, 27, Status::SinkFault),
-        ],
-    },
+/// Commands that write once.
+pub(crate) static WRITES_AT_ONCE: [Writes<'static>; 4] = [
     Writes {
         case: CHECK,
         fails: &[
@@ -394,6 +400,18 @@ pub(crate) static WRITES: [Writes<'static>; 15] = [
         case: MIGRATE_AGAIN,
         fails: &[(1, 0, 0, Status::SinkFault), (1, 9, 9, Status::SinkFault)],
     },
+];
+
+/// Commands over schedules.
+pub(crate) static WRITES_BY_LINE: [Writes<'static>; 3] = [
+    Writes {
+        case: SOLO,
+        fails: &[
+            (1, 3, 3, Status::SinkFault),
+            (1, 9, 9, Status::SinkFault),
+            (2, 3, 27, Status::SinkFault),
+        ],
+    },
     Writes {
         case: RENEWED,
         fails: &[
@@ -411,6 +429,10 @@ pub(crate) static WRITES: [Writes<'static>; 15] = [
             (5, 0, 145, Status::SinkFault),
         ],
     },
+];
+
+/// Commands that write bounds or plans.
+pub(crate) static WRITES_OF_BOUNDS: [Writes<'static>; 5] = [
     Writes {
         case: TWOWAY,
         fails: &[
@@ -441,6 +463,10 @@ pub(crate) static WRITES: [Writes<'static>; 15] = [
         case: BOUNDS,
         fails: &[(1, 7, 7, Status::SinkFault), (2, 7, 118, Status::SinkFault)],
     },
+];
+
+/// Commands over recordings.
+pub(crate) static WRITES_OF_RECORDINGS: [Writes<'static>; 3] = [
     Writes {
         case: RESUME,
         fails: &[(1, 6, 6, Status::SinkFault)],

@@ -2,7 +2,10 @@
 
 ghost use Rattle.std.specs.Prelude.{◌≤◌};
 
-use crate::cases::{CALLS, Calls, PIECES, WRITES, Writes};
+use crate::cases::{
+    CALLS_AT_ONCE, CALLS_BY_LINE, CALLS_OF_BOUNDS, CALLS_OF_RECORDINGS, Calls, PIECES,
+    WRITES_AT_ONCE, WRITES_BY_LINE, WRITES_OF_BOUNDS, WRITES_OF_RECORDINGS, Writes,
+};
 use crate::kit::{Case, Outside, assert_leaves, assert_ran};
 use sd_test_examples::TRIANGLE;
 use sd_top::Status;
@@ -129,14 +132,34 @@ fn assert_calls_fail(rt: &(impl Abort + AllocGlobal), row: &Calls<'_>) -> Result
     assert_ran(rt, &row.case, outside, (row.case.output, row.case.status))
 }
 
-#[test]
-fn each_call_of_the_shelf_fails(rt: HostRuntime) -> Result<(), Fail> {
-    for row in &CALLS {
+/// So it is of each of these runs.
+fn assert_each_calls_fail(rt: &(impl Abort + AllocGlobal), rows: &[Calls<'_>]) -> Result<(), Fail> {
+    for row in rows {
         if row.piece >= 1 {
-            assert_calls_fail(&rt, row)?;
+            assert_calls_fail(rt, row)?;
         }
     }
     Ok(())
+}
+
+#[test]
+fn each_call_of_the_shelf_fails_at_once(rt: HostRuntime) -> Result<(), Fail> {
+    assert_each_calls_fail(&rt, &CALLS_AT_ONCE)
+}
+
+#[test]
+fn each_call_of_the_shelf_fails_by_line(rt: HostRuntime) -> Result<(), Fail> {
+    assert_each_calls_fail(&rt, &CALLS_BY_LINE)
+}
+
+#[test]
+fn each_call_of_the_shelf_fails_of_bounds(rt: HostRuntime) -> Result<(), Fail> {
+    assert_each_calls_fail(&rt, &CALLS_OF_BOUNDS)
+}
+
+#[test]
+fn each_call_of_the_shelf_fails_of_recordings(rt: HostRuntime) -> Result<(), Fail> {
+    assert_each_calls_fail(&rt, &CALLS_OF_RECORDINGS)
 }
 
 /// Where a write fails, what it keeps and all before it is written.
@@ -157,10 +180,33 @@ fn assert_writes_fail(rt: &(impl Abort + AllocGlobal), row: &Writes<'_>) -> Resu
     Ok(())
 }
 
-#[test]
-fn a_front_is_written_where_a_write_fails(rt: HostRuntime) -> Result<(), Fail> {
-    for row in &WRITES {
-        assert_writes_fail(&rt, row)?;
+/// So it is of each of these runs.
+fn assert_each_writes_fail(
+    rt: &(impl Abort + AllocGlobal),
+    rows: &[Writes<'_>],
+) -> Result<(), Fail> {
+    for row in rows {
+        assert_writes_fail(rt, row)?;
     }
     Ok(())
+}
+
+#[test]
+fn a_front_is_written_at_once(rt: HostRuntime) -> Result<(), Fail> {
+    assert_each_writes_fail(&rt, &WRITES_AT_ONCE)
+}
+
+#[test]
+fn a_front_is_written_by_line(rt: HostRuntime) -> Result<(), Fail> {
+    assert_each_writes_fail(&rt, &WRITES_BY_LINE)
+}
+
+#[test]
+fn a_front_is_written_of_bounds(rt: HostRuntime) -> Result<(), Fail> {
+    assert_each_writes_fail(&rt, &WRITES_OF_BOUNDS)
+}
+
+#[test]
+fn a_front_is_written_of_recordings(rt: HostRuntime) -> Result<(), Fail> {
+    assert_each_writes_fail(&rt, &WRITES_OF_RECORDINGS)
 }
