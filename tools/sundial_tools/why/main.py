@@ -225,7 +225,7 @@ def _parser() -> argparse.ArgumentParser:
         "A plan that is piped into it is shown as a table. A file that begins with a brace, or whose name ends in .json, is a plan. docs/TROUBLESHOOTING.md has each kind of line.",
     )
     parser.add_argument("topology", metavar="TOPOLOGY")
-    parser.add_argument("others", metavar="FILE", nargs="*", help="the plans of the command in their order, and its schedule or exchanges; of resume with / and what is behind it")
+    parser.add_argument("others", metavar="FILE", nargs="*", help="the plans of the command in their order, and its schedule or exchanges; of resume with / and what follows it")
     parser.add_argument("--lines", "-l", metavar="FILE", default="-", help="what sundial printed (default: standard input)")
     parser.add_argument("--absent", "-a", metavar="FILE", help="the absent text of a renew")
     parser.add_argument("--follow", "-f", action="store_true", help=FOLLOW)
