@@ -39,7 +39,8 @@ def missing() -> Optional[str]:
     """What there is not that all of this needs."""
     if not os.access(PG_CONFIG, os.X_OK):
         return "PostgreSQL 15 (postgresql-15)"
-    if not pathlib.Path(told(PG_CONFIG, "--pgxs").strip()).exists():
+    needs = (pathlib.Path(told(PG_CONFIG, "--pgxs").strip()), pathlib.Path(told(PG_CONFIG, "--includedir-server").strip()) / "postgres.h")
+    if not all(it.exists() for it in needs):
         return "its headers (postgresql-server-dev-15)"
     if b"extension_destdir" not in (pathlib.Path(told(PG_CONFIG, "--bindir").strip()) / "postgres").read_bytes():
         return "a server of Debian, which takes an extension from any folder (extension_destdir)"
