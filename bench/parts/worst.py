@@ -148,7 +148,7 @@ def schedule_rows(bench: Bench) -> List[Row]:
     star = networks.Sizes(bench.count(4096, 64), 2 * bench.count(4096, 64) - 4, 0, 2)
     starred = bench.file("star", networks.spines_and_leaves(star)), bench.file("star_plan", [networks.plan_of_leaves(star)])
     return [
-        beside_half(bench, "`order`, all wait", "asks", bench.count(20_000, 1000),
+        beside_half(bench, "`order`, all wait", "asks", bench.count(200_000, 1000),
                     lambda number: ("order", *files, bench.file(f"asks{number}", waiting(number))), 7),
         beside_half(bench, "`replay`, one reference", "rounds of five events", bench.count(400_000, 1000),
                     lambda number: ("replay", *files, bench.file(f"rounds{number}", one_reference(number))), 7),

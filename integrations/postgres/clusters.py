@@ -41,7 +41,7 @@ def missing() -> Optional[str]:
         return "PostgreSQL 15 (postgresql-15)"
     needs = (pathlib.Path(told(PG_CONFIG, "--pgxs").strip()), pathlib.Path(told(PG_CONFIG, "--includedir-server").strip()) / "postgres.h")
     if not all(it.exists() for it in needs):
-        return "its headers (postgresql-server-dev-15)"
+        return "header of its server (postgresql-server-dev-15)"
     if b"extension_destdir" not in (pathlib.Path(told(PG_CONFIG, "--bindir").strip()) / "postgres").read_bytes():
         return "a server of Debian, which takes an extension from any folder (extension_destdir)"
     return next((f"{name}" for name in ("make", os.environ.get("CC", "cc")) if shutil.which(name) is None), None)
