@@ -119,15 +119,14 @@ impl<F: SystemFiles> Shelf for FileShelf<F> {
             self.new.begins self.old.last_fault self.new.last_fault result }
     {
         self.begins = self.begins.saturating_add(1);
+        // The last file is closed before the next is opened, so one descriptor is enough.
+        self.file = None;
         match open_file(&mut self.files, name) {
             Ok(file) => {
                 self.file = Some(file);
                 Ok(())
             }
-            Err(reason) => {
-                self.file = None;
-                Err(self.fail(reason))
-            }
+            Err(reason) => Err(self.fail(reason)),
         }
     }
 
