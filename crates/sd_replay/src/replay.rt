@@ -173,7 +173,11 @@ impl<N: Node, V: Observer> Replay<N, V> {
     {
         match self.try_quick(alloc, event) {
             Some(_) => Ok(()),
-            None => self.advance(alloc, event),
+            None => {
+                // Of a copy, so that the event is written nowhere where it was a quick one.
+                let event = *event;
+                self.advance(alloc, &event)
+            }
         }
     }
 
