@@ -121,6 +121,7 @@ impl Node for Device {
         self.acts_as_root()
     }
 
+    #[inline(always)]
     fn on_message(&mut self, link: u32, message: Message, counter: u64) -> Effect {
         self.registers.receive(link, &message, counter)
     }

@@ -54,6 +54,7 @@ impl Fabric {
     }
 
     /// Whether the message is on its way to the device, and has not ended at the reference time.
+    #[inline(always)]
     pub(crate) fn is_on_time(&self, reference: u64, d: u32, message: u64) -> bool
         ensures { result ≡ is_on_time reference d (flight_at self.now message) }
     {

@@ -59,6 +59,10 @@ quick_outcome taken sent acted =
       ended = false;
     }
 
+-- so what a tick comes to that sends these messages
+abbrev pub ticked : Sent → QuickEvent
+ticked sent = record { taken = None; sent = sent }
+
 -- the event was accepted, and came to nothing else than that
 pub record IsQuick {N V : Type 0} (g : Ghosts N) (o : observers.Ghosts V) (replay : Replay N V g o) (setting : Setting) (run : List (NodeStep N))
     (e : Event) (quick : QuickEvent) : Type 0 where

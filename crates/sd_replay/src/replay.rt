@@ -1,5 +1,5 @@
 //! The replay: what happens with a line of a schedule.
-ghost use Rattle.std.specs.Prelude.{◌≡◌, ◌≤◌, ◌<◌, ◌^◌, ℕ, List, [], length, false, Some, None, Err, IsTrue, OnOk, IfOk, OnErr, IfErr, IfSome};
+ghost use Rattle.std.specs.Prelude.{◌≡◌, ◌≤◌, ◌<◌, ◌^◌, ℕ, List, [], length, false, Some, None, Err, IsTrue, OnOk, IfOk, OnErr, IfErr, IfSome, option_map};
 ghost use Rattle.sd_plan.specs.topo.Topologies.{network};
 ghost use Rattle.sd_plan.specs.topo.Network.{Each as OfEach};
 ghost use Rattle.sd_plan.specs.Plans.{Fits};
@@ -81,7 +81,7 @@ pub struct Replay<N: Node, V: Observer> {
 }
 
 impl<N: Node, V: Observer> Replay<N, V> {
-    ghost use Rattle.sd_replay.specs.Replaying.{StandsFor, IsStepped, IsSteppedTo, IsTried, IsAnswered, IsLineFault, lines_in, may_take};
+    ghost use Rattle.sd_replay.specs.Replaying.{StandsFor, IsStepped, IsSteppedTo, IsTried, IsAnswered, IsLineFault, ticked, lines_in, may_take};
     ghost use Rattle.sd_replay.specs.Calm.{StaysCalm};
 
     /// A replay before any event, with the first plan in force. It takes the room for the lines of
@@ -163,6 +163,7 @@ impl<N: Node, V: Observer> Replay<N, V> {
 
     /// An event happens, if it is accepted. A fault changes nothing. `Memory` is answered for a
     /// `tick`, a `recv` or an `ask` alone, before anything has changed.
+    #[inline(always)]
     pub fn step_event(&mut self, alloc: Global, event: &Event) -> Result<(), ReplayFault>
         requires within { IsTrue (is_within event.now) }
         ensures answered { IsAnswered N.Node V.Observer self.old self.new event.now result }
@@ -172,7 +173,11 @@ impl<N: Node, V: Observer> Replay<N, V> {
     {
         match self.try_quick(alloc, event) {
             Some(_) => Ok(()),
-            None => self.advance(alloc, event),
+            None => {
+                // Of a copy, so that the event is written nowhere where it was a quick one.
+                let event = *event;
+                self.advance(alloc, &event)
+            }
         }
     }
 
@@ -218,7 +223,10 @@ impl<N: Node, V: Observer> Replay<N, V> {
                 reference,
                 device,
                 counter,
-            } => self.tick(alloc, reference, device, counter),
+            } => match self.tick(alloc, reference, device, counter) {
+                Some(sent) => Some(QuickEvent { taken: None, sent }),
+                None => None,
+            },
             Event::Recv {
                 reference,
                 device,
@@ -229,44 +237,41 @@ impl<N: Node, V: Observer> Replay<N, V> {
         }
     }
 
-    /// As `try_quick`, of a tick.
+    /// As `try_quick`, of a tick. It tells what the device sends.
     #[inline(always)]
-    fn tick(&mut self, alloc: Global, reference: u64, d: u32, counter: u64) -> Option<QuickEvent>
+    fn tick(&mut self, alloc: Global, reference: u64, d: u32, counter: u64) -> Option<Sent>
         requires within { IsTrue (is_within (events_of.Tick reference d counter)) }
         ensures { IsTried N.Node V.Observer self.old self.new
-            (events_of.Tick reference d counter) result }
+            (events_of.Tick reference d counter) (option_map ticked result) }
     {
         match self.rest(reference, d, counter) {
-            Some(quick) => Some(quick),
+            Some(sent) => Some(sent),
             None => self.emit(alloc, reference, d, counter),
         }
     }
 
-    /// As `try_quick`, of a tick at which its device rests.
+    /// As `tick`, where its device rests.
     #[inline(always)]
-    fn rest(&mut self, reference: u64, d: u32, counter: u64) -> Option<QuickEvent>
+    fn rest(&mut self, reference: u64, d: u32, counter: u64) -> Option<Sent>
         requires within { IsTrue (is_within (events_of.Tick reference d counter)) }
         ensures { IsTried N.Node V.Observer self.old self.new
-            (events_of.Tick reference d counter) result }
+            (events_of.Tick reference d counter) (option_map ticked result) }
     {
         if !self.fleet.rest(reference, d, counter) {
             return None;
         }
         let trouble = self.monitors.rest(reference, d, counter);
         self.event_output.note(&trouble, &None, reference, false);
-        Some(QuickEvent {
-            taken: None,
-            sent: Sent { first: 0, count: 0 },
-        })
+        Some(Sent { first: 0, count: 0 })
     }
 
-    /// As `try_quick`, of a tick of a device that acts as root.
-    // Never a part of its caller: few ticks send.
+    /// As `tick`, where its device acts as root.
+    // Never a part of its caller: few ticks send. So it tells no flight, which is large.
     #[inline(never)]
-    fn emit(&mut self, alloc: Global, reference: u64, d: u32, counter: u64) -> Option<QuickEvent>
+    fn emit(&mut self, alloc: Global, reference: u64, d: u32, counter: u64) -> Option<Sent>
         requires within { IsTrue (is_within (events_of.Tick reference d counter)) }
         ensures { IsTried N.Node V.Observer self.old self.new
-            (events_of.Tick reference d counter) result }
+            (events_of.Tick reference d counter) (option_map ticked result) }
     {
         if !self.ready_for(alloc, d) {
             return None;
@@ -277,7 +282,7 @@ impl<N: Node, V: Observer> Replay<N, V> {
         self.monitors.collect(&self.fleet, sent);
         let trouble = self.monitors.emit(reference, d, counter);
         self.event_output.note(&trouble, &None, reference, false);
-        Some(QuickEvent { taken: None, sent })
+        Some(sent)
     }
 
     /// As `try_quick`, of a receipt.
@@ -355,7 +360,8 @@ impl<N: Node, V: Observer> Replay<N, V> {
     }
 
     /// As `step_event`, of any event. What it came to is kept.
-    #[inline(always)]
+    // Never a part of its caller: few events come here.
+    #[inline(never)]
     fn advance(&mut self, alloc: Global, event: &Event) -> Result<(), ReplayFault>
         requires within { IsTrue (is_within event.now) }
         ensures answered { IsAnswered N.Node V.Observer self.old self.new event.now result }

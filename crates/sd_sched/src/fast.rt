@@ -34,6 +34,8 @@ struct Head {
 
 /// The first line of a text, if it is of one of these kinds and ends with a newline. Any other may
 /// be one all the same: `read_line` says.
+// A part of its callers: the event is taken up where it was read.
+#[inline(always)]
 pub fn read_buffered_line(text: &[u8]) -> Option<BufferedLine>
     ensures newline { IfSome result
         (λ front. position (λ byte. nat_eq byte 10) text.now ≡ Some front.len) }

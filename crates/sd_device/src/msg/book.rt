@@ -123,7 +123,7 @@ impl FlightBook {
     }
 
     /// The flight of a number, lent, or why there is none: `Unknown` or `Spent`.
-    #[inline]
+    #[inline(always)]
     pub fn find(&self, number: u64) -> Result<&Flight, TakeFault>
         ensures given { AreGiven self.now }
         ensures flight { IfOk result (λ f. found self.now.last self.now.flights number ≡ Ok f.now) }

@@ -70,6 +70,7 @@ fn begins_life(event: &Event) -> bool
 impl Life {
     /// Sees a reading, which begins a life or goes on with this one, and tells whether it keeps the
     /// rates with each earlier reading of its life.
+    #[inline(always)]
     fn read(&mut self, reading: Reading, begins: bool) -> bool
         ensures rates { self.new.rates ≡ self.old.rates }
         ensures offsets { (readings : List (ℕ × ℕ))

@@ -86,6 +86,7 @@ fn note_all(owed: &mut Queue, ticks: &Ticks, members: &PresentRows, world: &Worl
 
 /// Whether the premise held so far, and no device owes a tick for longer than the limit at the
 /// reference. Once it is broken no device is looked at: it stays so.
+#[inline(always)]
 fn holds_still(held: bool, owed: &mut Queue, limit: u64, reference: u64) -> bool
     ensures answer { result ≡ (held && list_all (nat_le (reference - limit)) owed.old) }
     ensures same { owed.new ≡ owed.old }
@@ -94,6 +95,7 @@ fn holds_still(held: bool, owed: &mut Queue, limit: u64, reference: u64) -> bool
 }
 
 /// Notes a tick of a device, which changes since when it owes one, if it owes one.
+#[inline(always)]
 fn renew(owed: &mut Queue, d: u32, reference: u64)
     requires { d < length owed.old }
     ensures places { length owed.new ≡ length owed.old }

@@ -102,6 +102,8 @@ impl Rounds {
 
     /// Spoils the round of each flight that is overdue at the reference and that nothing
     /// interrupted, and tells whether the premise holds still; if not, some may be left.
+    // Mostly none is overdue, and that is seen with no call.
+    #[inline(always)]
     fn judge(&mut self, reference: u64) -> bool
         ensures waiting { IsTrue result → (n : ℕ)
             → waiting_at self.new.waiting n ≡ if_in_time reference (waiting_at self.old.waiting n) }
@@ -121,6 +123,27 @@ impl Rounds {
         if !self.waiting.may_be_overdue(reference) {
             return true;
         }
+        self.judge_each(reference)
+    }
+
+    /// As `judge`, by one flight after the other.
+    #[inline(never)]
+    fn judge_each(&mut self, reference: u64) -> bool
+        ensures waiting { IsTrue result → (n : ℕ)
+            → waiting_at self.new.waiting n ≡ if_in_time reference (waiting_at self.old.waiting n) }
+        ensures lost { IsTrue result
+            → AddsLost (waiting_at self.old.waiting) (mark_of self.old.interruptions) reference
+            (has_round self.old.runs) (has_round self.new.runs) }
+        ensures only { HasOnlyLost (waiting_at self.old.waiting) (mark_of self.old.interruptions)
+            reference
+            (has_round self.old.runs) (has_round self.new.runs) }
+        ensures short { IsTrue result → ¬ HasLongRun self.old.limit (has_round self.old.runs)
+            → ¬ HasLongRun self.old.limit (has_round self.new.runs) }
+        ensures long { result ≡ false → HasLongRun self.old.limit (has_round self.new.runs) }
+        ensures room { room_of self.old ≤ room_of self.new }
+        ensures interruptions { self.new.interruptions ≡ self.old.interruptions }
+        ensures limit { self.new.limit ≡ self.old.limit }
+    {
         'overdue: while let Some(flight) = self.waiting.next_overdue(reference) {
             if self.interruptions.interrupted(&flight) {
                 continue;

@@ -42,6 +42,7 @@ impl Interruptions {
     }
 
     /// The thing fails, if there is one.
+    #[inline(always)]
     pub fn fail(&mut self, failed: Option<Thing>)
         ensures marks { (x : AnyThing) → mark_of self.new x
             ≡ (if map_or failed false (λ f. same_thing x f && has_place self.old f)

@@ -71,6 +71,7 @@ impl Waiting {
     }
 
     /// Takes out the flight that was received, if there is one and it waits.
+    #[inline(always)]
     pub fn receive(&mut self, taken: Option<u64>)
         ensures flights { (n : ℕ)
             → waiting_at self.new n

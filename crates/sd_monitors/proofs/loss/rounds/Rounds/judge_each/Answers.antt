@@ -7,7 +7,7 @@ use Rattle.sd_monitors.specs.loss.flights.RunsView.{has_round}
 use Rattle.sd_monitors.specs.loss.flights.WaitingView.{waiting_at}
 use Rattle.sd_monitors.specs.loss.flights.InterruptionsView.{mark_of}
 use Rattle.sd_monitors.proofs.loss.rounds.Judging.{judges_interrupted, judges_lost}
-use Rattle.sd_monitors.proofs.loss.rounds.Rounds.judge.Goals as goal
+use Rattle.sd_monitors.proofs.loss.rounds.Rounds.judge_each.Goals as goal
 
 -- the interruptions stay as they were when the judging began
 whole_then : (was now : Interruptions) (f : WaitingFlight) (cut : Bool) → now ≡ was → cut ≡ is_interrupted (mark_of now) f → cut ≡ false

@@ -5,7 +5,7 @@ use Rattle.sd_monitors.specs.loss.flights.WaitingView.{waiting_at, count_of}
 use Rattle.sd_monitors.specs.loss.flights.InterruptionsView.{mark_of}
 use Rattle.sd_monitors.specs.loss.rounds.Standing.{room_of}
 use Rattle.sd_monitors.proofs.loss.rounds.Judging.{JudgesSome}
-use Rattle.sd_monitors.proofs.loss.rounds.Rounds.judge.Given as goal
+use Rattle.sd_monitors.proofs.loss.rounds.Rounds.judge_each.Given as goal
 
 abbrev pub invariant-overdue : goal.invariant-overdue
 invariant-overdue l =
