@@ -1,8 +1,7 @@
+pub mod Naming
 pub mod Listing
 pub mod Members
-pub mod Passing
 pub mod Keeping
-pub mod Looking
 pub mod Standing
 pub mod Found
 pub mod Happening

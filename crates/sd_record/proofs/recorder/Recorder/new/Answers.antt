@@ -11,5 +11,5 @@ returns c =
       run = [];
       fleet = c.in_ok-fleet.ensures.stands setting net plans;
       happened = refl;
-      keeps = keeps_nothing _ refl refl;
+      keeps = keeps_nothing _ refl (none_listed c.new-endings.result c.new-endings.ensures) c.new-names.ensures;
     }
