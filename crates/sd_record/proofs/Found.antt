@@ -18,8 +18,8 @@ use Rattle.sd_record.specs.declared.logs.MessageName.{MessageName}
 use Rattle.sd_record.specs.Endings.{IsSoonest, Lists, named_ending}
 use Rattle.sd_record.specs.Losing.{is_past, next_lost, soonest, sooner}
 use Rattle.sd_record.specs.Looks.{has_ending, is_named}
-use Rattle.sd_record.specs.Names.{IsLastNamed, has_message}
-use Rattle.sd_record.specs.Naming.{flight_name, has_name, last_named, number_named}
+use Rattle.sd_record.specs.Names.{IsLastNamed, flight_name, has_message}
+use Rattle.sd_record.specs.Naming.{has_name, last_named, number_named}
 use Rattle.sd_record.specs.Standing.{HasSeenAll, Keeps}
 use Rattle.sd_record.specs.declared.endings.Ending.{Ending}
 use Rattle.sd_record.specs.declared.endings.NamedEnding.{NamedEnding}

@@ -1,5 +1,5 @@
 -- What a recorder keeps of the messages on their way stays right.
-use Rattle.std.specs.Prelude.{◌≡◌, ◌≢◌, ℕ, ◌+◌, ◌<◌, ◌≤◌, true, false, List, [], ◌∷◌, ◌++◌, filter, find, nat_eq, not, Option, Some, None, Result, Ok, Err, IfOk, ◌⊎◌, refl}
+use Rattle.std.specs.Prelude.{◌≡◌, ◌≢◌, ℕ, ◌+◌, ◌≤◌, true, false, List, [], ◌∷◌, filter, find, nat_eq, not, Option, Some, None, Result, Ok, Err, IfOk, ◌⊎◌, refl}
 use Rattle.std.specs.List.{Contains}
 use Rattle.std.proofs.Common.{arith, sym, ◌∙◌, ap, subst, inl, inr}
 use Rattle.std.proofs.lemmas.Bool.{and_from, cases_eq, eq-eqb}
@@ -24,10 +24,10 @@ use Rattle.sd_history.proofs.flights.Leaving.{unspent_after}
 use Rattle.sd_history.proofs.flights.Numbers.{numbered_in_order, one_more_step, step_given}
 use Rattle.sd_record.specs.Endings.{Lists, first_of, named_ending}
 use Rattle.sd_record.specs.Looks.{has_ending, is_named}
-use Rattle.sd_record.specs.Names.{has_message, named_message}
-use Rattle.sd_record.specs.Naming.{flight_name, has_name}
+use Rattle.sd_record.specs.Names.{flight_name, has_message}
+use Rattle.sd_record.specs.Naming.{has_name}
 use Rattle.sd_record.specs.Noting.{EndsSo, HasNoted, IsFound}
-use Rattle.sd_record.specs.Standing.{AreEndingsOf, HaveEndings, Keeps, KeepsCurrent}
+use Rattle.sd_record.specs.Standing.{AreEndingsOf, Keeps, KeepsCurrent}
 use Rattle.sd_record.specs.declared.endings.Endings.{Endings}
 use Rattle.sd_record.specs.declared.endings.NamedEnding.{NamedEnding}
 use Rattle.sd_record.specs.declared.logs.MessageName.{MessageName}
@@ -100,9 +100,9 @@ module _ (setting : Setting) (steps : List Step) (are : AreSteps setting steps) 
 
   -- no two have one number
   one_sent : (f g : Flight) → Among f (sent_in_order steps) → Among g (sent_in_order steps) → f.number ≡ g.number → f ≡ g
-  one_sent f g first second same =
+  one_sent f g there second same =
       let is : ◌≡◌ {A = Option Flight} (Some f) (Some g) =
-      sym (finds 1 (sent_in_order steps) f (numbered_in_order setting steps are) first)
+      sym (finds 1 (sent_in_order steps) f (numbered_in_order setting steps are) there)
       ∙ ap (λ (n : ℕ). find (has_number n) (sent_in_order steps)) same
       ∙ finds 1 (sent_in_order steps) g (numbered_in_order setting steps are) second in
       cc

@@ -1,6 +1,7 @@
 pub mod Naming
 pub mod Listing
 pub mod Members
+pub mod Noting
 pub mod Keeping
 pub mod Standing
 pub mod Found

@@ -4,7 +4,7 @@ use Rattle.std.specs.BinaryHeap.{heap_items, heap_len}
 use Rattle.std.specs.List.{Contains}
 use Rattle.std.specs.declared.cmp.Reverse.{Reverse}
 use Rattle.sd_device.specs.declared.msg.Flight.{Flight}
-use Rattle.sd_record.specs.Naming.{flight_name}
+use Rattle.sd_record.specs.Names.{flight_name}
 use Rattle.sd_record.specs.declared.endings.NamedEnding.{NamedEnding}
 use Rattle.sd_record.specs.declared.endings.Endings.{Endings}
 

@@ -2,11 +2,15 @@
 use Rattle.std.specs.Prelude.{◌≡◌, ◌<◌, ◌≤◌, ◌-◌, ◌^◌, ℕ, Bool, true}
 use Rattle.std.specs.BTreeSet.{contains}
 use Rattle.sd_device.specs.declared.msg.Flight.{Flight}
-use Rattle.sd_record.specs.Naming.{flight_name}
 use Rattle.sd_record.specs.NameOrder.{by_message}
 use Rattle.sd_record.specs.declared.logs.MessageName.{MessageName}
 use Rattle.sd_record.specs.declared.names.NamedMessage.{NamedMessage}
 use Rattle.sd_record.specs.declared.names.Names.{Names}
+
+-- the name of a message, as a log has it
+abbrev pub flight_name : Flight → MessageName
+flight_name f =
+    record { receiver = f.receiver; link = f.link; epoch = f.message.epoch; term = f.message.stamp.term; round = f.message.stamp.round }
 
 -- a message with its name
 abbrev pub named_message : Flight → NamedMessage

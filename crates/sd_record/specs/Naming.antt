@@ -9,11 +9,6 @@ use Rattle.sd_record.specs.logs.Entries.{event_with, name_of}
 use Rattle.sd_record.specs.declared.logs.Entry.{Entry}
 use Rattle.sd_record.specs.declared.logs.MessageName.{MessageName}
 
--- the name of a message, as a log has it
-abbrev pub flight_name : Flight → MessageName
-flight_name f =
-    record { receiver = f.receiver; link = f.link; epoch = f.message.epoch; term = f.message.stamp.term; round = f.message.stamp.round }
-
 -- the message has this name
 abbrev pub has_name : MessageName → Flight → Bool
 has_name name f =

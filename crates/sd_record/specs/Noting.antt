@@ -3,8 +3,7 @@ use Rattle.std.specs.Prelude.{◌≡◌, ◌⊎◌, ℕ, true, Result, Ok, Err, 
 use Rattle.sd_device.specs.declared.msg.Flight.{Flight}
 use Rattle.sd_device.specs.declared.msg.TakeFault.{TakeFault}
 use Rattle.sd_record.specs.Endings.{Lists, named_ending}
-use Rattle.sd_record.specs.Names.{has_message, named_message}
-use Rattle.sd_record.specs.Naming.{flight_name}
+use Rattle.sd_record.specs.Names.{flight_name, has_message, named_message}
 use Rattle.sd_record.specs.declared.endings.NamedEnding.{NamedEnding}
 use Rattle.sd_record.specs.declared.logs.MessageName.{MessageName}
 use Rattle.sd_record.specs.declared.names.NamedMessage.{NamedMessage}

@@ -15,8 +15,7 @@ use Rattle.sd_history.specs.flights.Flights.{sent_in_order}
 use Rattle.sd_history.specs.declared.ApplyFault.{ApplyFault}
 use Rattle.sd_fleet.specs.Standing as fleets
 use Rattle.sd_record.specs.Endings.{Lists, named_ending}
-use Rattle.sd_record.specs.Names.{has_message, named_message}
-use Rattle.sd_record.specs.Naming.{flight_name}
+use Rattle.sd_record.specs.Names.{flight_name, has_message, named_message}
 use Rattle.sd_record.specs.Printed.{schedule_text}
 use Rattle.sd_record.specs.Recorded.{Events}
 use Rattle.sd_record.specs.declared.endings.Endings.{Endings}

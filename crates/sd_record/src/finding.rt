@@ -8,6 +8,7 @@ ghost use Rattle.sd_history.specs.Chronicle.{chronicle};
 ghost use Rattle.sd_history.specs.flights.Flights.{look_in, says_unknown};
 ghost use Rattle.sd_record.specs.Looks as looks;
 ghost use Rattle.sd_record.specs.Losing as losing;
+ghost use Rattle.sd_record.specs.Names.{flight_name};
 ghost use Rattle.sd_record.specs.Naming as naming;
 ghost use Rattle.sd_record.specs.Noting.{HasNoted};
 ghost use Rattle.sd_record.specs.Standing.{HasSeenAll, KeepsCurrent, StandsFor};
@@ -57,7 +58,7 @@ fn has_ending(found: &Result<Flight, TakeFault>, ending: &Ending) -> bool
 
 /// The name of a message.
 fn name_of(flight: &Flight) -> MessageName
-    ensures { result ≡ naming.flight_name flight.now }
+    ensures { result ≡ flight_name flight.now }
 {
     MessageName {
         receiver: flight.receiver,

@@ -1,4 +1,4 @@
-use Rattle.std.proofs.Common.{arith, subst, tt, ◌≡◌, true, ◌-◌, ◌^◌}
+use Rattle.std.proofs.Common.{subst, ◌≡◌, true, ◌-◌, ◌^◌}
 use Rattle.sd_record.specs.Names.{has_message}
 use Rattle.sd_record.specs.declared.logs.MessageName.{MessageName}
 use Rattle.sd_record.proofs.Naming.{above_first, below_end, has_the_name, not_after}

@@ -1,4 +1,4 @@
-use Rattle.std.proofs.Common.{arith, sym, ◌∙◌, ap, subst, Bool}
+use Rattle.std.proofs.Common.{arith, sym, ◌∙◌, subst, Bool}
 use Rattle.std.specs.Prelude.{◌+◌, ◌≡◌, if◌then◌else◌}
 use Rattle.std.specs.BTreeMap.{is_at}
 use Rattle.std.specs.BTreeSet.{btree_set_len}
