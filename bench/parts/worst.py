@@ -169,7 +169,7 @@ def second_rows(bench: Bench) -> List[Row]:
         return "bounds", topology, bench.answer(f"plan{number}", "plan", topology), BASE, HOLD
 
     return [
-        beside_half(bench, "`record`, oldest first", "messages over one link", bench.count(5000, 500),
+        beside_half(bench, "`record`, oldest first", "messages over one link", bench.count(200_000, 500),
                     lambda number: ("record", *files, bench.file(f"log{number}", oldest_first(number))), 0, name),
         beside_half(bench, f"`merge` of {count(lines)} lines", "logs", bench.count(4000, 400),
                     lambda number: ("merge", str(number), bench.file(f"feed{number}", feed(number, lines))), 0, name),

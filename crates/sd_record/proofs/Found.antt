@@ -1,64 +1,32 @@
 -- What a recorder finds of the messages on their way.
-use Rattle.std.specs.Prelude.{◌≡◌, ℕ, ◌+◌, ◌<◌, ◌≤◌, ◌^◌, Bool, true, false, ◌&&◌, List, [], ◌∷◌, cond, filter, length, nat_eq, nat_lt, Option, Some, None, IfSome, Result, Ok, Err, refl, if◌then◌else◌}
+use Rattle.std.specs.Prelude.{◌≡◌, ℕ, ◌<◌, ◌≤◌, ◌-◌, ◌^◌, Bool, true, false, ◌&&◌, List, [], ◌∷◌, cond, filter, nat_eq, nat_lt, Option, Some, None, IfSome, Result, Ok, Err, refl, if◌then◌else◌}
 use Rattle.std.proofs.Common.{arith, sym, ◌∙◌, ap, subst, inl, inr}
 use Rattle.std.proofs.lemmas.Bool.{and_parts, cases_eq, eqb-true, le-ltb, lt-ltb}
 use Rattle.sd_device.specs.declared.msg.Flight.{Flight}
 use Rattle.sd_device.specs.declared.msg.TakeFault.{TakeFault}
-use Rattle.sd_device.specs.declared.msg.TakeFault.TheVariants as fault
 use Rattle.sd_device.specs.msg.Books.{AreNumbered}
-use Rattle.sd_device.proofs.msg.Numbered.{floor_low}
 use Rattle.sd_sched.specs.declared.Event.{Event}
 use Rattle.sd_history.specs.World.{Setting}
-use Rattle.sd_history.specs.Steps.{Step, flight_count}
+use Rattle.sd_history.specs.Steps.{flight_count}
 use Rattle.sd_history.specs.Open.{unspent}
 use Rattle.sd_history.specs.Accepted.{AreSteps}
 use Rattle.sd_history.specs.Chronicle.{chronicle}
-use Rattle.sd_history.specs.flights.Flights.{look_in, says_unknown}
+use Rattle.sd_history.specs.flights.Flights.{look_in}
 use Rattle.sd_history.proofs.Among.{Among, first, later}
+use Rattle.sd_history.proofs.flights.Numbers.{unspent_given}
 use Rattle.sd_record.specs.declared.logs.MessageName.{MessageName}
-use Rattle.sd_record.specs.Endings.{IsSoonest, Lists}
+use Rattle.sd_record.specs.Endings.{IsSoonest, Lists, named_ending}
 use Rattle.sd_record.specs.Losing.{is_past, next_lost, soonest, sooner}
-use Rattle.sd_record.specs.Looks.{has_ending, is_gone, is_named, with_found}
+use Rattle.sd_record.specs.Looks.{has_ending, is_named}
+use Rattle.sd_record.specs.Names.{IsLastNamed, flight_name, has_message}
 use Rattle.sd_record.specs.Naming.{has_name, last_named, number_named}
-use Rattle.sd_record.specs.Newest.{newest_over}
 use Rattle.sd_record.specs.Standing.{HasSeenAll, Keeps}
 use Rattle.sd_record.specs.declared.endings.Ending.{Ending}
+use Rattle.sd_record.specs.declared.endings.NamedEnding.{NamedEnding}
 use Rattle.sd_record.specs.declared.recorder.Recorder.{Recorder}
-use Rattle.sd_record.proofs.Keeping.{ending_of}
-use Rattle.sd_record.proofs.Looking.{Looking, looking_begins, look_never_other, look_ok, look_spent, look_unknown}
 use Rattle.sd_record.proofs.Members.{among_above, among_given, contained, found_on_way}
 
--- as many numbers as there may be were looked under
-pub never_past : {A : Type 0} (steps : List Step) (n : ℕ) (tell : List Flight → A) (meant : A) → Looking steps n tell meant → flight_count steps ≤ 2 ^ 41
-    → 2 ^ 60 ≤ n
-    → ⊥
-never_past steps n tell meant k few many =
-    let low : n ≤ flight_count steps = floor_low n (flight_count steps) k.left k.numbered in omega (arith, low, few, many)
-
 -- The last message of a name
-
-module _ (steps : List Step) (n last : ℕ) (name : MessageName) (meant : ℕ) (k : Looking steps n (last_named name last) meant) where
-  -- the next number was looked under
-  pub last_on : (found : Result Flight TakeFault) → found ≡ look_in steps (n + 1) → says_unknown found ≡ false
-      → Looking steps (n + 1) (last_named name (with_found name (n + 1) last found)) meant
-  last_on (Ok f) is known =
-      let (number, further) = look_ok steps n (last_named name last) meant k f (sym is) in
-      subst (λ (m : ℕ). Looking steps (n + 1) (last_named name (if has_name name f then m else last)) meant) number further
-  last_on (Err fault.Spent) is known = look_spent steps n (last_named name last) meant k (sym is)
-  last_on (Err fault.Unknown) is known = cc
-  last_on (Err fault.WrongDevice) is known = absurd (look_never_other steps n (last_named name last) meant k (sym is))
-
-  -- none is left
-  pub last_end : (found : Result Flight TakeFault) → found ≡ look_in steps (n + 1) → says_unknown found ≡ true → last ≡ meant
-  last_end (Ok f) is unknown = cc
-  last_end (Err fault.Spent) is unknown = cc
-  last_end (Err fault.Unknown) is unknown = look_unknown steps n (last_named name last) meant k (sym is)
-  last_end (Err fault.WrongDevice) is unknown = cc
-
--- one of two numbers within a bound
-pub one_of_two : (b : Bool) (m n most : ℕ) → m ≤ most → n ≤ most → (if b then m else n) ≤ most
-one_of_two true m n most first' second = first'
-one_of_two false m n most first' second = second
 
 -- where none of them has the name
 named_none : (name : MessageName) (fs : List Flight) (before : ℕ) → ((f : Flight) → Among f fs → has_name name f ≡ true → ⊥)
@@ -85,42 +53,72 @@ named_one floor top name x (u ∷ us) before numbered first named least =
 named_one floor top name x (u ∷ us) before numbered (later a) named least =
     named_one u.number top name x us (if has_name name u then u.number else before) numbered.1 a named (λ f a'. least f (later a'))
 
--- a message of the name that is the newest over its link is the last one that has the name
-pub newest_is_named : (r : Recorder) (setting : Setting) (events : List Event) (name : MessageName) (found : Result Flight TakeFault) (number : ℕ)
-    → AreSteps setting (chronicle setting events)
-    → Keeps r (flight_count (chronicle setting events)) (unspent (chronicle setting events) 0)
-    → HasSeenAll r setting events
-    → name.link < length r.newest.items
-    → number ≡ newest_over r.newest.items name.link name.receiver
-    → found ≡ look_in (chronicle setting events) number
-    → is_named name found ≡ true
-    → number ≡ number_named name (chronicle setting events)
-newest_is_named r setting events name (Err e) number are k all link newest is named = cc
-newest_is_named r setting events name (Ok f) number are k all link newest is named =
-    let steps = chronicle setting events in
-    let (there, same) = found_on_way setting steps number f are (sym is) in
-    let last : number_named name steps ≡ f.number =
-    named_one r.passed (flight_count steps) name f (unspent steps 0) 0 k.passed there named (λ g a named'.
-    let given = among_given r.passed (flight_count steps) (unspent steps 0) g k.passed a in
-    let ends = named_ends name g named' in
-    let linked : g.link < length r.newest.items = subst (λ (l : ℕ). l < length r.newest.items) (sym ends.1) link in
-    let low = k.newest g (contained (unspent steps 0) g a) (omega (arith, given, all)) linked in
-    let over : newest_over r.newest.items g.link g.receiver ≡ newest_over r.newest.items name.link name.receiver =
-    ap (λ (l : ℕ). newest_over r.newest.items l g.receiver) ends.1 ∙ ap (newest_over r.newest.items name.link) ends.0 in
-    omega (arith, low, over, newest, same)) in
-    sym (last ∙ same)
-  where
-    named_ends : (name' : MessageName) (g : Flight) → has_name name' g ≡ true → (g.receiver ≡ name'.receiver) × (g.link ≡ name'.link)
-    named_ends name' g named' =
-        let to = nat_eq g.receiver name'.receiver in
-        let over = nat_eq g.link name'.link in
-        let epoch = nat_eq g.message.epoch name'.epoch in
-        let term = nat_eq g.message.stamp.term name'.term in
-        let all = and_parts (to && over && epoch && term) (nat_eq g.message.stamp.round name'.round) named' in
-        let ends = and_parts to over (and_parts (to && over) epoch (and_parts (to && over && epoch) term all.0).0).0 in
-        (eqb-true g.receiver name'.receiver ends.0, eqb-true g.link name'.link ends.1)
+-- what has a name is called so
+called : (name : MessageName) (f : Flight) → has_name name f ≡ true → flight_name f ≡ name
+called name f named =
+    let to = nat_eq f.receiver name.receiver in
+    let over = nat_eq f.link name.link in
+    let epoch = nat_eq f.message.epoch name.epoch in
+    let term = nat_eq f.message.stamp.term name.term in
+    let all = and_parts (to && over && epoch && term) (nat_eq f.message.stamp.round name.round) named in
+    let most = and_parts (to && over && epoch) term all.0 in
+    let some = and_parts (to && over) epoch most.0 in
+    let ends = and_parts to over some.0 in
+    ap (λ (n : ℕ). record { receiver = n; link = f.link; epoch = f.message.epoch; term = f.message.stamp.term; round = f.message.stamp.round })
+    (eqb-true f.receiver name.receiver ends.0)
+    ∙ ap (λ (n : ℕ). record { receiver = name.receiver; link = n; epoch = f.message.epoch; term = f.message.stamp.term; round = f.message.stamp.round })
+    (eqb-true f.link name.link ends.1)
+    ∙ ap (λ (n : ℕ). record { receiver = name.receiver; link = name.link; epoch = n; term = f.message.stamp.term; round = f.message.stamp.round })
+    (eqb-true f.message.epoch name.epoch some.1)
+    ∙ ap (λ (n : ℕ). record { receiver = name.receiver; link = name.link; epoch = name.epoch; term = n; round = f.message.stamp.round })
+    (eqb-true f.message.stamp.term name.term most.1)
+    ∙ ap (λ (n : ℕ). record { receiver = name.receiver; link = name.link; epoch = name.epoch; term = name.term; round = n })
+    (eqb-true f.message.stamp.round name.round all.1)
+
+module _ (r : Recorder) (setting : Setting) (events : List Event) (are : AreSteps setting (chronicle setting events)) (k : Keeps r (chronicle setting events))
+    (all : HasSeenAll r setting events) where
+  -- each message on its way that has a name is kept by it
+  each_named : (name : MessageName) (f : Flight) → Among f (unspent (chronicle setting events) 0) → has_name name f ≡ true
+      → has_message r.names name f.number ≡ true
+  each_named name f a named =
+      let steps = chronicle setting events in
+      let given = among_given 0 (flight_count steps) (unspent steps 0) f (unspent_given setting steps 0 are) a in
+      subst (λ (n : MessageName). has_message r.names n f.number ≡ true) (called name f named)
+      (k.named f (contained (unspent steps 0) f a) (omega (arith, given, all)))
+
+  few_given : (f : Flight) → flight_count (chronicle setting events) ≤ 2 ^ 41 → Among f (unspent (chronicle setting events) 0) → f.number < 2 ^ 64 - 1
+  few_given f few a =
+      let steps = chronicle setting events in
+      let given = among_given 0 (flight_count steps) (unspent steps 0) f (unspent_given setting steps 0 are) a in omega (arith, given, few)
+
+  -- the last message that is kept by a name is the last one that has it, where it is on its way
+  pub last_is_named : (name : MessageName) (found : Result Flight TakeFault) (number : ℕ) → flight_count (chronicle setting events) ≤ 2 ^ 41
+      → IsLastNamed r.names name number
+      → found ≡ look_in (chronicle setting events) number
+      → is_named name found ≡ true
+      → number ≡ number_named name (chronicle setting events)
+  last_is_named name (Err e) number few last is named = cc
+  last_is_named name (Ok f) number few last is named =
+      let steps = chronicle setting events in
+      let (there, same) = found_on_way setting steps number f are (sym is) in
+      let it : number_named name steps ≡ f.number =
+      named_one 0 (flight_count steps) name f (unspent steps 0) 0 (unspent_given setting steps 0 are) there named (λ g a named'.
+      let low = last.last g.number (few_given g few a) (each_named name g a named') in omega (arith, low, same)) in
+      sym (it ∙ same)
+
+  -- and where none is kept by a name, none has it
+  pub none_is_named : (name : MessageName) → flight_count (chronicle setting events) ≤ 2 ^ 41
+      → ((number : ℕ) → number < 2 ^ 64 - 1 → has_message r.names name number ≡ false)
+      → 0 ≡ number_named name (chronicle setting events)
+  none_is_named name few none =
+      sym (named_none name (unspent (chronicle setting events) 0) 0 (λ f a named.
+      let never : true ≡ false = sym (each_named name f a named) ∙ none f.number (few_given f few a) in cc))
 
 -- The soonest ending
+
+-- how it ends, if nobody receives it
+abbrev ending_of : Flight → Ending
+ending_of f = (named_ending f).ending
 
 -- where none of them is past
 none_past : (reference : ℕ) (fs : List Flight) (best : Option Ending) → ((f : Flight) → Among f fs → reference ≤ f.last)
@@ -197,48 +195,37 @@ soonest_one floor top reference x (u ∷ us) best numbered (later a) past low ti
     by true without it = it
     by false without it = without
 
-module _ (r : Recorder) (setting : Setting) (events : List Event) (are : AreSteps setting (chronicle setting events))
-    (k : Keeps r (flight_count (chronicle setting events)) (unspent (chronicle setting events) 0)) (all : HasSeenAll r setting events) where
+module _ (r : Recorder) (setting : Setting) (events : List Event) (are : AreSteps setting (chronicle setting events)) (k : Keeps r (chronicle setting events))
+    (all : HasSeenAll r setting events) where
   -- each message on its way is listed
-  each_listed : (f : Flight) → Among f (unspent (chronicle setting events) 0) → Lists r.endings (ending_of f)
+  each_listed : (f : Flight) → Among f (unspent (chronicle setting events) 0) → Lists r.endings (named_ending f)
   each_listed f a =
-      let given =
-      among_given r.passed (flight_count (chronicle setting events)) (unspent (chronicle setting events) 0) f k.passed a in
+      let steps = chronicle setting events in
+      let given = among_given 0 (flight_count steps) (unspent steps 0) f (unspent_given setting steps 0 are) a in
       k.listed f (contained (unspent (chronicle setting events) 0) f a) (omega (arith, given, all))
 
   -- the soonest of the listed endings is that of the next loss, where it is past and its message is on its way
-  pub soonest_is_lost : (reference : ℕ) (ending : Ending) (found : Result Flight TakeFault) → IsSoonest r.endings ending → ending.last < reference
-      → found ≡ look_in (chronicle setting events) ending.number
-      → has_ending ending found ≡ true
-      → Some ending ≡ next_lost reference (chronicle setting events)
-  soonest_is_lost reference ending (Err e) soon past is ends = cc
-  soonest_is_lost reference ending (Ok f) soon past is ends =
+  pub soonest_is_lost : (reference : ℕ) (soonest' : NamedEnding) (found : Result Flight TakeFault) → IsSoonest r.endings soonest'
+      → soonest'.ending.last < reference
+      → found ≡ look_in (chronicle setting events) soonest'.ending.number
+      → has_ending soonest'.ending found ≡ true
+      → Some soonest'.ending ≡ next_lost reference (chronicle setting events)
+  soonest_is_lost reference soonest' (Err e) soon past is ends = cc
+  soonest_is_lost reference soonest' (Ok f) soon past is ends =
       let steps = chronicle setting events in
+      let ending = soonest'.ending in
       let (there, number) = found_on_way setting steps ending.number f are (sym is) in
       let last : f.last ≡ ending.last = eqb-true f.last ending.last ends in
       let it : ending_of f ≡ ending =
       ap (λ (m : ℕ). record { last = m; number = f.number }) last ∙ ap (λ (m : ℕ). record { last = ending.last; number = m }) number in
       let lost : next_lost reference steps ≡ Some (ending_of f) =
-      soonest_one r.passed (flight_count steps) reference f (unspent steps 0) None k.passed there (omega (arith, past, last))
-      (λ g a. let low = soon.soonest (ending_of g) (each_listed g a) in omega (arith, low, last))
-      (λ g a same. let low = soon.tied (ending_of g) (each_listed g a) (same ∙ last) in omega (arith, low, number)) tt in
+      soonest_one 0 (flight_count steps) reference f (unspent steps 0) None (unspent_given setting steps 0 are) there (omega (arith, past, last))
+      (λ g a. let low = soon.soonest (named_ending g) (each_listed g a) in omega (arith, low, last))
+      (λ g a same. let low = soon.tied (named_ending g) (each_listed g a) (same ∙ last) in omega (arith, low, number)) tt in
       sym (lost ∙ ap (λ (e : Ending). Some e) it)
 
   -- none is lost where no listed ending is past
-  pub none_is_lost : (reference : ℕ) → ((ending : Ending) → Lists r.endings ending → reference ≤ ending.last)
+  pub none_is_lost : (reference : ℕ) → ((ending : NamedEnding) → Lists r.endings ending → reference ≤ ending.ending.last)
       → None ≡ next_lost reference (chronicle setting events)
   none_is_lost reference none =
-      sym (none_past reference (unspent (chronicle setting events) 0) None (λ f a. none (ending_of f) (each_listed f a)))
-
--- A message that is on its way no more is passed
-
-pub passes : (setting : Setting) (steps : List Step) (n : ℕ) → AreSteps setting steps → AreNumbered n (flight_count steps) (unspent steps 0)
-    → (found : Result Flight TakeFault) → found ≡ look_in steps (n + 1) → is_gone found ≡ true
-    → AreNumbered (n + 1) (flight_count steps) (unspent steps 0)
-passes setting steps n are numbered (Ok f) is gone = cc
-passes setting steps n are numbered (Err fault.Spent) is gone =
-    let k = looking_begins setting steps n (λ fs. fs) are numbered in
-    let further = look_spent steps n (λ fs. fs) (unspent steps 0) k (sym is) in
-    subst (AreNumbered (n + 1) (flight_count steps)) further.tells further.numbered
-passes setting steps n are numbered (Err fault.Unknown) is gone = cc
-passes setting steps n are numbered (Err fault.WrongDevice) is gone = cc
+      sym (none_past reference (unspent (chronicle setting events) 0) None (λ f a. none (named_ending f) (each_listed f a)))

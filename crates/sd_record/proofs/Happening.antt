@@ -45,7 +45,7 @@ happened old ready fleet text e outcome prepared happens printed setting start e
               run = it.next ∷ run;
               fleet = it.stands;
               happened = ap (λ (x : Event). x ∷ events_of (steps_of run)) it.happens ∙ ap (λ (es : List Event). e ∷ es) h.stands.happened;
-              keeps = record { passed = k.passed; looked = k.looked; listed = k.listed; newest = k.newest };
+              keeps = record { looked = k.looked; listed = k.listed; named = k.named; sent = k.sent; ended = k.ended };
             };
         text =
             ap (λ t. t ++ line_bytes e) h.text ∙ append_assoc (schedule_text start) old.text.items (line_bytes e)

@@ -1,8 +1,8 @@
+pub mod Naming
 pub mod Listing
 pub mod Members
-pub mod Passing
+pub mod Noting
 pub mod Keeping
-pub mod Looking
 pub mod Standing
 pub mod Found
 pub mod Happening

@@ -1,16 +1,14 @@
--- For which history a recorder stands, and how far it has passed messages.
-use Rattle.std.specs.Prelude.{◌≡◌, ℕ, ◌<◌, ◌≤◌, ◌^◌, List, Result, Err, refl}
+-- For which history a recorder stands.
+use Rattle.std.specs.Prelude.{◌≡◌, ℕ, ◌<◌, ◌≤◌, ◌^◌, List, Result, Err}
 use Rattle.std.proofs.Common.{arith, sym, ◌∙◌, ap, subst, Vec, Global}
 use Rattle.sd_device.specs.declared.msg.Flight.{Flight}
 use Rattle.sd_device.specs.declared.msg.TakeFault.{TakeFault}
 use Rattle.sd_device.specs.declared.msg.TakeFault.TheVariants as fault
-use Rattle.sd_device.specs.msg.Books.{AreNumbered}
 use Rattle.sd_device.specs.contracts.device.DeviceNode.TheImpl.{ghosts as device}
 use Rattle.sd_device.specs.declared.registers.Registers.{Registers}
 use Rattle.sd_sched.specs.declared.Event.{Event}
 use Rattle.sd_history.specs.World.{Setting}
 use Rattle.sd_history.specs.Steps.{Step, flight_count}
-use Rattle.sd_history.specs.Open.{unspent}
 use Rattle.sd_history.specs.Accepted.{AreSteps}
 use Rattle.sd_history.specs.Chronicle.{chronicle, IsHistory}
 use Rattle.sd_history.specs.Nodes.{NodeStep, steps_of}
@@ -36,12 +34,9 @@ module _ (r : Recorder) (setting : Setting) (events : List Event) (h : StandsFor
   pub is_history : IsHistory setting events
   is_history = subst (IsHistory setting) h.happened (devices_have_history setting h.run h.fleet.is_run)
 
-  -- what it keeps is right of the messages on their way
-  pub keeps_is : Keeps r (flight_count (chronicle setting events)) (unspent (chronicle setting events) 0)
-  keeps_is = subst (λ (s : List Step). Keeps r (flight_count s) (unspent s 0)) steps_are h.keeps
-
-  pub passed_is : AreNumbered r.passed (flight_count (chronicle setting events)) (unspent (chronicle setting events) 0)
-  passed_is = keeps_is.passed
+  -- what it keeps is right after these events
+  pub keeps_is : Keeps r (chronicle setting events)
+  keeps_is = subst (Keeps r) steps_are h.keeps
 
   pub few : flight_count (chronicle setting events) ≤ 2 ^ 41
   few = numbers_few setting (chronicle setting events) are_steps (omega (arith, h.net.links))
@@ -58,25 +53,15 @@ module _ (r : Recorder) (setting : Setting) (events : List Event) (h : StandsFor
       let most = few in too_great setting (chronicle setting events) number are_steps (omega (arith, most, great))
 
   -- one with the same fleet, of which what it keeps is right, stands for the same
-  pub stands_on : (new : Recorder) → new.fleet ≡ r.fleet → Keeps new (flight_count (chronicle setting events)) (unspent (chronicle setting events) 0)
-      → StandsFor new setting events
+  pub stands_on : (new : Recorder) → new.fleet ≡ r.fleet → Keeps new (chronicle setting events) → StandsFor new setting events
   stands_on new same keeps =
       record {
         net = h.net;
         run = h.run;
         fleet = subst (λ (f : Fleet Registers device). fleets.StandsFor device f setting h.run) (sym same) h.fleet;
         happened = h.happened;
-        keeps = subst (λ (s : List Step). Keeps new (flight_count s) (unspent s 0)) (sym steps_are) keeps;
+        keeps = subst (Keeps new) (sym steps_are) keeps;
       }
-
--- it has passed further messages
-pub passed_more : (r : Recorder) (setting : Setting) (events : List Event) (passed : ℕ) → StandsFor r setting events
-    → AreNumbered passed (flight_count (chronicle setting events)) (unspent (chronicle setting events) 0)
-    → StandsFor (record r { passed = passed }) setting events
-passed_more r setting events passed h further =
-    let k = keeps_is r setting events h in
-    stands_on r setting events h (record r { passed = passed }) refl
-    (record { passed = further; looked = k.looked; listed = k.listed; newest = k.newest })
 
 -- it stands for the same, whatever text it has
 pub with_text : (r : Recorder) (setting : Setting) (events : List Event) (text : Vec ℕ Global) → StandsFor r setting events
@@ -88,5 +73,5 @@ with_text r setting events text h =
       run = h.run;
       fleet = h.fleet;
       happened = h.happened;
-      keeps = record { passed = k.passed; looked = k.looked; listed = k.listed; newest = k.newest };
+      keeps = record { looked = k.looked; listed = k.listed; named = k.named; sent = k.sent; ended = k.ended };
     }

@@ -1,8 +1,9 @@
 -- What is recorded of entries, and for which history a recorder stands.
+pub mod Naming
+pub mod NameOrder
+pub mod Names
 pub mod EndingOrder
 pub mod Endings
-pub mod Newest
-pub mod Naming
 pub mod Losing
 pub mod Looks
 pub mod Noting

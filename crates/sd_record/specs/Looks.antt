@@ -1,16 +1,10 @@
 -- What a look under one number tells.
-use Rattle.std.specs.Prelude.{ℕ, Bool, true, false, nat_eq, Result, Ok, Err, if◌then◌else◌}
+use Rattle.std.specs.Prelude.{Bool, false, nat_eq, Result, Ok, Err}
 use Rattle.sd_device.specs.declared.msg.Flight.{Flight}
 use Rattle.sd_device.specs.declared.msg.TakeFault.{TakeFault}
-use Rattle.sd_device.specs.declared.msg.TakeFault.TheVariants.{Spent}
 use Rattle.sd_record.specs.declared.logs.MessageName.{MessageName}
 use Rattle.sd_record.specs.Naming.{has_name}
 use Rattle.sd_record.specs.declared.endings.Ending.{Ending}
-
--- the message of the number is on its way no more
-abbrev pub is_gone : Result Flight TakeFault → Bool
-is_gone (Err Spent) = true
-is_gone _ = false
 
 -- a message was found, and has the name
 abbrev pub is_named : MessageName → Result Flight TakeFault → Bool
@@ -21,7 +15,3 @@ is_named name (Err e) = false
 abbrev pub has_ending : Ending → Result Flight TakeFault → Bool
 has_ending ending (Ok f) = nat_eq f.last ending.last
 has_ending ending (Err e) = false
-
--- the last message with the name so far, where this was found under a number
-abbrev pub with_found : MessageName → (number last : ℕ) → Result Flight TakeFault → ℕ
-with_found name number last found = if is_named name found then number else last

@@ -1,9 +1,10 @@
-//! The endings of messages, of which the soonest is found at once.
+//! The endings of messages with their names, of which the soonest is found at once.
 ghost use Rattle.std.specs.Prelude.{◌≡◌, ◌+◌, ◌<◌, ◌≤◌, ◌⊎◌, [], Some, IfNone, IfSome, OnOk};
 ghost use Rattle.std.specs.BinaryHeap.{heap_items, heap_len, IsHeap, IsHeap-prop};
-ghost use Rattle.sd_record.specs.declared.endings.Ending.{Ending as AnyEnding};
+ghost use Rattle.sd_record.specs.declared.endings.NamedEnding.{NamedEnding as AnyEnding};
 ghost use Rattle.sd_record.specs.EndingOrder.{by_ending};
 
+use crate::logs::MessageName;
 use sd_num::NoMemory;
 use std::alloc::Global;
 use std::cmp::Reverse;
@@ -18,11 +19,18 @@ pub(crate) struct Ending {
     pub number: u64,
 }
 
+/// How a message ends, and its name.
+#[derive(Clone, Copy, Debug, PartialEq, Eq, PartialOrd, Ord)]
+pub(crate) struct NamedEnding {
+    pub ending: Ending,
+    pub name: MessageName,
+}
+
 /// Endings of messages. That of a message which is on its way no more stays until it is the
 /// soonest: so each ending costs one push and one pop.
 #[derive(Drop)]
 pub(crate) struct Endings {
-    heap: BinaryHeap<Reverse<Ending>>,
+    heap: BinaryHeap<Reverse<NamedEnding>>,
     ghost ordered: { IsHeap by_ending
         (heap_items heap) } by { IsHeap-prop by_ending (heap_items heap) },
 }
@@ -40,10 +48,12 @@ impl Endings {
     }
 
     /// One more.
-    pub(crate) fn add(&mut self, ending: Ending) -> Result<(), NoMemory>
+    pub(crate) fn add(&mut self, ending: NamedEnding) -> Result<(), NoMemory>
         ensures added { OnOk result (Lists self.new ending) }
         ensures kept { OnOk result ((other : AnyEnding) → Lists self.old other
             → Lists self.new other) }
+        ensures only { OnOk result ((other : AnyEnding) → Lists self.new other
+            → Lists self.old other ⊎ (ending ≡ other)) }
     {
         match self.heap.push(Reverse(ending)) {
             Ok(()) => Ok(()),
@@ -52,24 +62,24 @@ impl Endings {
     }
 
     /// The soonest, if it is before the reference.
-    pub(crate) fn first_before(&self, reference: u64) -> Option<Ending>
+    pub(crate) fn first_before(&self, reference: u64) -> Option<NamedEnding>
         ensures soonest { IfSome result (IsSoonest self.now) }
-        ensures past { IfSome result (λ ending. ending.last < reference) }
+        ensures past { IfSome result (λ first. first.ending.last < reference) }
         ensures none { IfNone result ((ending : AnyEnding) → Lists self.now ending
-            → reference ≤ ending.last) }
+            → reference ≤ ending.ending.last) }
     {
-        let Some(ending) = self.first() else {
+        let Some(first) = self.first() else {
             return None;
         };
-        if ending.last < reference {
-            Some(ending)
+        if first.ending.last < reference {
+            Some(first)
         } else {
             None
         }
     }
 
     /// The soonest.
-    fn first(&self) -> Option<Ending>
+    fn first(&self) -> Option<NamedEnding>
         ensures soonest { IfSome result (IsSoonest self.now) }
         ensures none { IfNone result ((ending : AnyEnding) → Lists self.now ending → ⊥) }
     {
@@ -84,6 +94,7 @@ impl Endings {
         requires { 0 < heap_len self.old.heap }
         ensures kept { (ending : AnyEnding) → Lists self.old ending
             → (first_of self.old ≡ Some ending) ⊎ Lists self.new ending }
+        ensures less { (ending : AnyEnding) → Lists self.new ending → Lists self.old ending }
         ensures count { heap_len self.new.heap + 1 ≡ heap_len self.old.heap }
     {
         let Some(_) = self.heap.pop() else {

@@ -1,6 +1,6 @@
 //! Which messages are on their way: each is looked at once when it was sent, and kept by its ending
-//! and its link.
-ghost use Rattle.std.specs.Prelude.{◌≡◌, ◌≤◌, ◌<◌, ◌^◌, List, OnOk, IfOk, IfSome};
+//! and its name.
+ghost use Rattle.std.specs.Prelude.{◌≡◌, ◌≤◌, ◌<◌, ◌^◌, List, OnOk, IfNone, IfOk, IfSome};
 ghost use Rattle.sd_sched.specs.declared.Event.{Event as AnyEvent};
 ghost use Rattle.sd_history.specs.World.{Setting};
 ghost use Rattle.sd_history.specs.Steps.{flight_count};
@@ -8,14 +8,15 @@ ghost use Rattle.sd_history.specs.Chronicle.{chronicle};
 ghost use Rattle.sd_history.specs.flights.Flights.{look_in, says_unknown};
 ghost use Rattle.sd_record.specs.Looks as looks;
 ghost use Rattle.sd_record.specs.Losing as losing;
+ghost use Rattle.sd_record.specs.Names.{flight_name};
 ghost use Rattle.sd_record.specs.Naming as naming;
 ghost use Rattle.sd_record.specs.Noting.{HasNoted};
-ghost use Rattle.sd_record.specs.Standing.{HasSeenAll, StandsFor};
+ghost use Rattle.sd_record.specs.Standing.{HasSeenAll, KeepsCurrent, StandsFor};
 
 use crate::Recorder;
-use crate::endings::Ending;
+use crate::endings::{Ending, NamedEnding};
 use crate::logs::MessageName;
-use crate::newest::{newest_over, note};
+use crate::names::NamedMessage;
 use sd_device::msg::{Flight, TakeFault};
 use sd_num::NoMemory;
 
@@ -27,13 +28,6 @@ fn is_unknown(found: &Result<Flight, TakeFault>) -> bool
     ensures { result ≡ says_unknown found.now }
 {
     matches!(found, Err(TakeFault::Unknown))
-}
-
-/// Whether the message of the number is on its way no more.
-fn is_gone(found: &Result<Flight, TakeFault>) -> bool
-    ensures { result ≡ looks.is_gone found.now }
-{
-    matches!(found, Err(TakeFault::Spent))
 }
 
 /// Whether what was found has the name that a log gives a message.
@@ -62,11 +56,17 @@ fn has_ending(found: &Result<Flight, TakeFault>, ending: &Ending) -> bool
     }
 }
 
-/// The number of the last message with a name so far, where this was found under the next number.
-fn with_found(last: u64, found: &Result<Flight, TakeFault>, name: &MessageName, number: u64) -> u64
-    ensures { result ≡ looks.with_found name.now number last found.now }
+/// The name of a message.
+fn name_of(flight: &Flight) -> MessageName
+    ensures { result ≡ flight_name flight.now }
 {
-    if is_named(found, name) { number } else { last }
+    MessageName {
+        receiver: flight.receiver,
+        link: flight.link,
+        epoch: flight.message.epoch,
+        term: flight.message.stamp.term,
+        round: flight.message.stamp.round,
+    }
 }
 
 impl Recorder {
@@ -81,27 +81,30 @@ impl Recorder {
         ensures text { self.new.text ≡ self.old.text }
     {
         self.look_on()?;
-        if let Some(number) = self.newest_named(name) {
-            return Ok(number);
-        }
-        self.pass_on();
         Ok(self.last_named(name))
     }
 
-    /// The number of the newest message over the link of a name, where it is on its way and has the
-    /// name: mostly it does, and nothing else need be looked at.
-    fn newest_named(&self, name: &MessageName) -> Option<u64>
-        ensures number { IfSome result (λ number. (setting : Setting) (events : List AnyEvent)
-            → StandsFor self.now setting events → HasSeenAll self.now setting events
-            → number ≡ naming.number_named name.now (chronicle setting events)) }
-        ensures within { IfSome result (λ number. number ≤ 2 ^ 60) }
+    /// The same, where each message was looked at. Names of messages that are on their way no more
+    /// are dropped.
+    fn last_named(&mut self, name: &MessageName) -> u64
+        ensures number { (setting : Setting) (events : List AnyEvent)
+            → StandsFor self.old setting events → HasSeenAll self.old setting events
+            → result ≡ naming.number_named name.now (chronicle setting events) }
+        ensures within { result ≤ 2 ^ 60 }
+        ensures stands { (setting : Setting) (events : List AnyEvent)
+            → StandsFor self.old setting events → StandsFor self.new setting events }
+        ensures text { self.new.text ≡ self.old.text }
     {
-        let number = newest_over(self.newest.as_slice(), name.link, name.receiver)?;
-        if is_named(&self.on_its_way(number), name) {
-            Some(number)
-        } else {
-            None
+        'names: while let Some(number) = self.names.last(name) {
+            if is_named(&self.on_its_way(number), name) {
+                return number;
+            }
+            self.names.remove(NamedMessage {
+                name: *name,
+                number,
+            });
         }
+        0
     }
 
     /// The message of a number, if it is on its way.
@@ -120,24 +123,6 @@ impl Recorder {
         self.fleet.flight(number)
     }
 
-    /// The same, looked up number by number.
-    fn last_named(&self, name: &MessageName) -> u64
-        ensures number { (setting : Setting) (events : List AnyEvent)
-            → StandsFor self.now setting events
-            → result ≡ naming.number_named name.now (chronicle setting events) }
-        ensures within { result ≤ 2 ^ 60 }
-    {
-        let mut last = 0;
-        for passed in self.passed..MOST {
-            let found = self.on_its_way(passed + 1);
-            if is_unknown(&found) {
-                return last;
-            }
-            last = with_found(last, &found, name, passed + 1);
-        }
-        last
-    }
-
     /// The ending of the message that an event at the reference finds to be past, if there is one:
     /// of several the soonest.
     pub(crate) fn next_lost(&mut self, reference: u64) -> Result<Option<Ending>, NoMemory>
@@ -146,6 +131,10 @@ impl Recorder {
             → lost ≡ losing.next_lost reference (chronicle setting events)) }
         ensures past { IfOk result (λ lost. IfSome lost (λ ending. ending.last < reference)) }
         ensures within { IfOk result (λ lost. IfSome lost (λ ending. ending.number ≤ 2 ^ 60)) }
+        // What is kept by name is bounded by what can be received.
+        ensures current { IfOk result (λ lost. (setting : Setting) (events : List AnyEvent)
+            → StandsFor self.old setting events
+            → IfNone lost (KeepsCurrent self.new reference (chronicle setting events))) }
         ensures stands { OnOk result ((setting : Setting) (events : List AnyEvent)
             → StandsFor self.old setting events → StandsFor self.new setting events) }
         ensures text { self.new.text ≡ self.old.text }
@@ -154,23 +143,30 @@ impl Recorder {
         Ok(self.soonest_before(reference))
     }
 
-    /// The same, where each message was looked at. Endings of messages that are on their way no
-    /// more are dropped.
+    /// The same, where each message was looked at. Endings and names of messages that are on their
+    /// way no more are dropped.
     fn soonest_before(&mut self, reference: u64) -> Option<Ending>
         ensures lost { (setting : Setting) (events : List AnyEvent)
             → StandsFor self.old setting events → HasSeenAll self.old setting events
             → result ≡ losing.next_lost reference (chronicle setting events) }
         ensures past { IfSome result (λ ending. ending.last < reference) }
         ensures within { IfSome result (λ ending. ending.number ≤ 2 ^ 60) }
+        ensures current { (setting : Setting) (events : List AnyEvent)
+            → StandsFor self.old setting events
+            → IfNone result (KeepsCurrent self.new reference (chronicle setting events)) }
         ensures stands { (setting : Setting) (events : List AnyEvent)
             → StandsFor self.old setting events → StandsFor self.new setting events }
         ensures text { self.new.text ≡ self.old.text }
     {
-        'endings: while let Some(ending) = self.endings.first_before(reference) {
-            if has_ending(&self.on_its_way(ending.number), &ending) {
-                return Some(ending);
+        'endings: while let Some(first) = self.endings.first_before(reference) {
+            if has_ending(&self.on_its_way(first.ending.number), &first.ending) {
+                return Some(first.ending);
             }
             self.endings.drop_first();
+            self.names.remove(NamedMessage {
+                name: first.name,
+                number: first.ending.number,
+            });
         }
         None
     }
@@ -202,29 +198,15 @@ impl Recorder {
         let Ok(flight) = found else {
             return Ok(());
         };
-        self.endings.add(Ending {
+        let name = name_of(flight);
+        let ending = Ending {
             last: flight.last,
-            number,
-        })?;
-        note(&mut self.newest, flight.link, flight.receiver, number);
-        Ok(())
-    }
-
-    /// Goes past the numbers of messages that are on their way no more, up to the first that is.
-    fn pass_on(&mut self)
-        ensures stands { (setting : Setting) (events : List AnyEvent)
-            → StandsFor self.old setting events → StandsFor self.new setting events }
-        ensures text { self.new.text ≡ self.old.text }
-    {
-        'gone: for _ in 0..MOST {
-            if self.passed >= MOST {
-                return;
-            }
-            let found = self.on_its_way(self.passed + 1);
-            if !is_gone(&found) {
-                return;
-            }
-            self.passed += 1;
-        }
+            number: flight.number,
+        };
+        self.endings.add(NamedEnding { ending, name })?;
+        self.names.add(NamedMessage {
+            name,
+            number: flight.number,
+        })
     }
 }

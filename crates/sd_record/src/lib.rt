@@ -13,7 +13,7 @@ mod finding;
 mod log;
 pub mod logs;
 pub mod merge;
-mod newest;
+mod names;
 mod reasons;
 mod recorder;
 mod recording;

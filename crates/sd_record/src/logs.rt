@@ -19,7 +19,7 @@ pub use reasons::print_line_fault;
 pub use sd_sched::{Event, LineFault};
 
 /// A message as a log names it.
-#[derive(Clone, Copy, Debug, PartialEq, Eq)]
+#[derive(Clone, Copy, Debug, PartialEq, Eq, PartialOrd, Ord)]
 pub struct MessageName {
     pub receiver: u32,
     pub link: u32,

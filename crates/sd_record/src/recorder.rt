@@ -8,7 +8,7 @@ ghost use Rattle.sd_history.specs.Chronicle.{IsHistory};
 ghost use Rattle.sd_record.specs.Standing.{StandsFor};
 
 use crate::endings::Endings;
-use crate::newest::{Newest, new_table};
+use crate::names::Names;
 use sd_device::Device;
 use sd_fleet::Fleet;
 use sd_num::NoMemory;
@@ -20,14 +20,12 @@ use std::alloc::Global;
 #[derive(Drop)]
 pub struct Recorder {
     pub(crate) fleet: Fleet<Device>,
-    /// No message with a number up to this is on its way.
-    pub(crate) passed: u64,
     /// The messages with numbers up to this were looked at.
     pub(crate) looked: u64,
     /// The ending of each of these that is on its way.
     pub(crate) endings: Endings,
-    /// The newest of these over each link.
-    pub(crate) newest: Vec<Newest>,
+    /// Each of these by its name.
+    pub(crate) names: Names,
     /// The lines of the latest entry.
     pub(crate) text: Vec<u8>,
 }
@@ -42,13 +40,11 @@ impl Recorder {
             → setting.plans ≡ plans.now → StandsFor recorder setting []) }
     {
         let fleet = Fleet::new(alloc, topo, plans)?;
-        let newest = new_table(alloc, fleet.links())?;
         Ok(Recorder {
             fleet,
-            passed: 0,
             looked: 0,
             endings: Endings::new(alloc),
-            newest,
+            names: Names::new(alloc),
             text: Vec::new(alloc),
         })
     }

@@ -1,5 +1,5 @@
 -- That a merger does the work of a feed.
-use Rattle.std.specs.Prelude.{◌≡◌, ◌<◌, ◌≤◌, ℕ, ◌+◌, ◌^◌, All, true, false, List, [], ◌∷◌, ◌++◌, drop, get_or, length, map, Option, Some, None, IfSome, refl}
+use Rattle.std.specs.Prelude.{◌≡◌, ◌<◌, ◌≤◌, ℕ, ◌+◌, ◌^◌, All, true, false, List, [], ◌∷◌, ◌++◌, drop, get_or, length, map, None, refl}
 use Rattle.std.specs.List.{range_with_len}
 use Rattle.std.proofs.Common.{arith, append_assoc, sym, ◌∙◌, ap, subst}
 use Rattle.std.proofs.lemmas.List.{append-nil, drop_at, get_or-map, get_or_default, length-map}
@@ -7,8 +7,6 @@ use Rattle.std.proofs.lemmas.List.Elements.{All-nil}
 use Rattle.std.proofs.lemmas.List.FromFn.{get_or-map-range_with_len, length-map-range_with_len}
 use Rattle.sd_num.specs.Lists.{leading}
 use Rattle.sd_io.specs.outside.Pieces.{piece_of}
-use Rattle.sd_io.specs.outside.Rests.{RestIs}
-use Rattle.sd_files.specs.Texts.{texts_of}
 use Rattle.sd_files.specs.declared.work.Taken.TheVariants as taken
 use Rattle.sd_files.specs.work.Leaving.{are_lines}
 use Rattle.sd_files.specs.work.Taking.{Takes}

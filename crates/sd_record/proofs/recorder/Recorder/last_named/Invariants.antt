@@ -1,17 +1,17 @@
-use Rattle.std.proofs.Common.{List, ◌≤◌, ◌^◌}
+use Rattle.std.proofs.Common.{◌≡◌, List}
+use Rattle.std.specs.BTreeSet.{btree_set_len}
 use Rattle.sd_sched.specs.declared.Event.{Event}
 use Rattle.sd_history.specs.World.{Setting}
-use Rattle.sd_history.specs.Chronicle.{chronicle}
-use Rattle.sd_record.specs.Naming.{last_named, number_named}
 use Rattle.sd_record.specs.Standing.{StandsFor}
-use Rattle.sd_record.proofs.Looking.{Looking}
 use Rattle.sd_record.proofs.recorder.Recorder.last_named.Given as goal
 
--- the last message of the name among the numbers so far
-abbrev pub invariant-loop-passed : goal.invariant-loop-passed
-invariant-loop-passed l =
+abbrev pub invariant-names : goal.invariant-names
+invariant-names l =
     record {
-      last : (setting : Setting) (events : List Event) → StandsFor l.self setting events
-          → Looking (chronicle setting events) l.passed (last_named l.name l.last) (number_named l.name (chronicle setting events));
-      within : l.last ≤ 2 ^ 60;
+      stands : (setting : Setting) (events : List Event) → StandsFor l.fn.self setting events → StandsFor l.self setting events;
+      looked : l.self.looked ≡ l.fn.self.looked;
+      text : l.self.text ≡ l.fn.self.text;
     }
+
+abbrev pub decreases-names : goal.decreases-names
+decreases-names l = btree_set_len l.self.names.messages
