@@ -15,5 +15,9 @@ pub mod Losing
 pub mod Laws
 pub mod Openings
 pub mod Spent
+pub mod Calm
+pub mod Joining
+pub mod Same
+pub mod Composing
 pub mod Resume
 pub mod Worked

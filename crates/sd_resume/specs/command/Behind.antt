@@ -7,10 +7,11 @@ use Rattle.sd_history.specs.World.{setting_over}
 use Rattle.sd_history.specs.Chronicle.{IsHistory}
 use Rattle.sd_history.specs.Admitted.{IsAdmitted}
 use Rattle.sd_resume.specs.law.Shifts.{Shift, raised_event}
-use Rattle.sd_resume.specs.law.Law.{whole, AllMayFollow, BreaksNoMore, LeavesBroken, SaysAlike}
+use Rattle.sd_resume.specs.law.Law.{whole, AllMayFollow, BreaksNoMore, LeavesBroken, SaysAlike, StaysCalm}
 
 -- Later events are as of the opening: in the first, the messages that they name have higher numbers. The rules admit the same, each has the same alarms
--- and the same report, nothing else is accepted after the first, and each premise that breaks after the opening is broken after the first.
+-- and the same report, nothing else is accepted after the first, and each premise that breaks after the opening is broken after the first. While none is
+-- broken after the opening, the first is calm.
 pub record GoOnAlike (shift : Shift) (net : Network) (front plans : List Plan) (one other : List Event) : Type 0 where
   pub admitted : (later : List Event) → AllMayFollow (setting_over net plans) other later → IsAdmitted (setting_over net plans) (later ++ other)
       → IsAdmitted (whole net front plans) (map (raised_event shift) later ++ one)
@@ -21,4 +22,5 @@ pub record GoOnAlike (shift : Shift) (net : Network) (front plans : List Plan) (
   pub raised : (later : List Event) → IsHistory (whole net front plans) (later ++ one)
       → (behind : List Event) × (map (raised_event shift) behind ≡ later)
   pub breaks : BreaksNoMore shift (whole net front plans) (setting_over net plans) one other
+  pub calm : StaysCalm shift (whole net front plans) (setting_over net plans) one other
   pub leaves : LeavesBroken shift (whole net front plans) (setting_over net plans) one other
