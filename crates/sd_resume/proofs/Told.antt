@@ -1,9 +1,8 @@
 -- The shift that devices tell: it is the same of fleets and of their runs, and where any shift raises all stamps, this one does.
-use Rattle.std.specs.Prelude.{◌≡◌, ℕ, zero, suc, ◌+◌, ◌-◌, ◌<◌, ◌≤◌, min, Bool, true, false, List, length, nat_eq, Option, Some, None, refl, if◌then◌else◌}
+use Rattle.std.specs.Prelude.{◌≡◌, ℕ, zero, suc, ◌+◌, ◌-◌, ◌<◌, min, Bool, true, false, List, length, nat_eq, Option, Some, None, refl, if◌then◌else◌}
 use Rattle.std.proofs.Common.{arith, sym, ◌∙◌, ap, subst, inl, inr, add-one}
 use Rattle.std.proofs.lemmas.Bool.{cases_lt, eqb-true}
 use Rattle.sd_plan.specs.topo.Network.{Network}
-use Rattle.sd_plan.specs.declared.Plan.{Plan}
 use Rattle.sd_device.specs.declared.msg.Stamp.{Stamp}
 use Rattle.sd_device.specs.msg.Stamps.{stamp}
 use Rattle.sd_device.specs.declared.registers.Registers.{Registers}
@@ -16,8 +15,8 @@ use Rattle.sd_fleet.specs.Standing.{StandsFor}
 use Rattle.sd_resume.specs.law.Shifts.{Shift, raised_round, raised_stamp}
 use Rattle.sd_resume.specs.law.Law.{whole}
 use Rattle.sd_resume.proofs.Raising.{first_round, stamp_parts}
-use Rattle.sd_resume.specs.Fleets.{DeviceFleet, devices_of, world_of}
-use Rattle.sd_resume.specs.Told.{stamp_told, with_told, shift_told, stamp_in, stamp_at, shift_between, IsTold}
+use Rattle.sd_resume.specs.Fleets.{DeviceFleet, devices_of}
+use Rattle.sd_resume.specs.Told.{stamp_told, with_told, shift_told, stamp_in, stamp_at, IsTold}
 
 -- one device more
 pub one_more : (plans messages : ℕ) (one other : ℕ → Option Stamp) (d : ℕ)

@@ -16,8 +16,10 @@ pub mod Laws
 pub mod Openings
 pub mod Spent
 pub mod Calm
+pub mod Standing
+pub mod Resume
 pub mod Joining
 pub mod Same
 pub mod Composing
-pub mod Resume
+pub mod Composed
 pub mod Worked

@@ -16,10 +16,9 @@ use Rattle.sd_replay.specs.Replaying.{StandsFor}
 use Rattle.sd_resume.specs.law.Shifts.{Shift}
 use Rattle.sd_resume.specs.law.Law.{whole}
 use Rattle.sd_resume.specs.law.Cuts.{IsHonestOpening}
-use Rattle.sd_resume.proofs.law.Resume.{admits_the_same, breaks_no_more, leaves_broken, nothing_else_comes, says_the_same}
+use Rattle.sd_resume.proofs.law.Resume.{nothing_else_comes, stands}
 use Rattle.sd_resume.proofs.law.Spent.{lowered_event}
-use Rattle.sd_resume.proofs.law.Calm.{stays_calm}
-use Rattle.sd_resume.proofs.law.Openings.{opening_histories_agree}
+use Rattle.sd_resume.proofs.law.Standing.{goes_on_as}
 use Rattle.sd_resume.specs.Differences.{Differs, OfRuns, Opens}
 use Rattle.sd_resume.specs.Fleets.{DeviceFleet}
 use Rattle.sd_resume.specs.Told.{shift_between, IsTold}
@@ -45,15 +44,10 @@ go_on : (shift : Shift) (net : Network) (front plans : List Plan) (first second 
     → GoOnAlike shift net front plans (events_of (steps_of first)) (events_of (steps_of second))
 go_on shift net front plans first second opens honest fair =
     record {
-      admitted = λ later may. (admits_the_same shift net front plans first second opens.opening later may).0;
-      admitted_back = λ later may. (admits_the_same shift net front plans first second opens.opening later may).1;
-      says = λ later may admitted. says_the_same shift net front plans first second opens.opening later may admitted;
+      goes = goes_on_as shift net front plans (events_of (steps_of first)) (events_of (steps_of second))
+          (stands shift net front plans first second opens.opening honest) fair;
       raised = λ later history.
           (map (lowered_event shift) later, nothing_else_comes shift net front plans first second opens.opening opens.quiet later history);
-      breaks = breaks_no_more shift net front plans first second opens.opening honest;
-      calm = stays_calm shift net front plans (events_of (steps_of first)) (events_of (steps_of second))
-          (opening_histories_agree shift net front plans first second opens.opening) fair;
-      leaves = leaves_broken shift net front plans first second opens.opening honest;
     }
 
 -- the fleet stands for the runs of the replay that drives it

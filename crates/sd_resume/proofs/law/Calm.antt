@@ -1,5 +1,5 @@
 -- While no premise is broken after the second of two histories that agree, the first stays calm: what is proved of the second is the same of the first.
-use Rattle.std.specs.Prelude.{◌≡◌, ℕ, ◌+◌, ◌≤◌, true, List, ◌∷◌, ◌++◌, length, map, count_by, None, IsTrue, refl}
+use Rattle.std.specs.Prelude.{◌≡◌, ℕ, ◌+◌, ◌≤◌, true, List, ◌∷◌, ◌++◌, length, map, count_by, refl}
 use Rattle.std.proofs.Common.{arith, sym, ◌∙◌, ap, subst}
 use Rattle.sd_plan.specs.topo.Network.{Network}
 use Rattle.sd_plan.specs.declared.Plan.{Plan}
@@ -9,7 +9,7 @@ use Rattle.sd_history.specs.Steps.{Step, seen_of}
 use Rattle.sd_history.specs.Chronicle.{next_step, chronicle}
 use Rattle.sd_history.specs.Admitted.{IsAdmitted}
 use Rattle.sd_history.specs.Premises.{all_hold, breaks}
-use Rattle.sd_history.specs.Lines.{Line, broken_lines, first_on_loop, roots, lines_of}
+use Rattle.sd_history.specs.Lines.{broken_lines, lines_of}
 use Rattle.sd_history.proofs.Contained.{admitted_reports_contain}
 use Rattle.sd_safety.specs.invariant.Coming.{IsFair}
 use Rattle.sd_safety.specs.invariant.Kept.{IsSafe}
@@ -21,7 +21,7 @@ use Rattle.sd_replay.proofs.Counted.{count_append}
 use Rattle.sd_replay.proofs.Due.{all_honest, four_parts, no_alarm_due, none_broken}
 use Rattle.sd_resume.specs.law.Shifts.{Shift, raised_event}
 use Rattle.sd_resume.specs.law.Agreement.{StepsAgree}
-use Rattle.sd_resume.specs.law.Law.{whole, alarms_and_report, HistoriesAgree, AllMayFollow, StaysCalm}
+use Rattle.sd_resume.specs.law.Law.{whole, alarms_and_report, HistoriesAgree, StaysCalm}
 use Rattle.sd_resume.proofs.law.Laws.{GoOn, resumed, run_is}
 use Rattle.sd_resume.proofs.law.Lines.{lines_are, loop_same, roots_same}
 

@@ -1,12 +1,10 @@
 -- Standing composes: what stands for a history that stands for a longer one stands for the longer one.
-use Rattle.std.specs.Prelude.{◌≡◌, ℕ, ◌+◌, ◌≤◌, Bool, true, false, List, [], ◌∷◌, ◌++◌, length, map, Option, Some, None, option_map, IfSome, refl, if◌then◌else◌}
+use Rattle.std.specs.Prelude.{◌≡◌, ℕ, ◌+◌, ◌≤◌, List, [], ◌∷◌, ◌++◌, length, map, Option, Some, None, option_map, IfSome, refl}
 use Rattle.std.proofs.Common.{arith, sym, ◌∙◌, ap, subst, append_assoc}
-use Rattle.sd_num.specs.Lists.{map_or, same_number}
 use Rattle.sd_num.specs.declared.Rates.{Rates}
 use Rattle.sd_num.specs.declared.clock.Estimate.{Estimate}
 use Rattle.sd_num.specs.clock.Estimates.{report_of}
 use Rattle.sd_plan.specs.topo.Network.{Network}
-use Rattle.sd_plan.specs.declared.topo.Thing.{Thing}
 use Rattle.sd_plan.specs.declared.Duty.{Duty}
 use Rattle.sd_plan.specs.declared.Plan.{Plan}
 use Rattle.sd_device.specs.declared.msg.Flight.{Flight}
@@ -17,32 +15,29 @@ use Rattle.sd_device.specs.Rules.{is_acting_mode}
 use Rattle.sd_device.specs.Rebases.{waits_in}
 use Rattle.sd_device.specs.contracts.device.DeviceNode.TheImpl.{ghosts as device}
 use Rattle.sd_sched.specs.declared.Event.{Event}
-use Rattle.sd_history.specs.World.{Setting, Seen, setting_over, is_up, latest_reading, latest_reference}
-use Rattle.sd_history.specs.Steps.{Answers, Step, seen_of, events_of, live_answers, flight_count, flight_numbered}
+use Rattle.sd_history.specs.World.{Seen, setting_over, latest_reading}
+use Rattle.sd_history.specs.Steps.{Step, seen_of, live_answers, flight_count, flight_numbered}
 use Rattle.sd_history.specs.Refusals.{was_used, was_swept}
 use Rattle.sd_history.specs.Chronicle.{chronicle}
 use Rattle.sd_history.specs.Premises.{reaching_flights, was_received, is_overdue, was_interrupted, spoils}
 use Rattle.sd_history.specs.Nodes.{NodeStep, steps_of, node_in}
-use Rattle.sd_history.specs.Admitted.{IsAdmitted, IsAdmittedRun}
+use Rattle.sd_history.specs.Admitted.{IsAdmittedRun}
 use Rattle.sd_history.proofs.Among.{Among}
-use Rattle.sd_resume.specs.law.Shifts.{Shift, raised_duty, raised_stamp, raised_flight, raised_registers, raised_event, raised_seen}
+use Rattle.sd_resume.specs.law.Shifts.{Shift, raised_duty, raised_stamp, raised_flight, raised_registers, raised_seen}
 use Rattle.sd_resume.specs.law.Likeness.{IsAlike, AreAlike}
 use Rattle.sd_resume.specs.law.Views.{LooksAlike}
 use Rattle.sd_resume.specs.law.Agreement.{raised_answers, StepsAgree, Agree}
-use Rattle.sd_resume.specs.law.Law.{whole, HistoriesAgree}
+use Rattle.sd_resume.specs.law.Law.{whole}
 use Rattle.sd_resume.specs.law.Premised.{PremisesAgree}
 use Rattle.sd_resume.specs.law.Losses.{FlightAgrees, LossesAgree}
 use Rattle.sd_resume.specs.law.Composed.{joined_shift, StandsForWhole}
-use Rattle.sd_resume.proofs.law.Joining.{options_joined, lists_joined, duty_joined, stamp_joined, flight_joined, seen_joined, answers_joined, registers_joined}
+use Rattle.sd_resume.proofs.law.Joining.{sum, options_joined, lists_joined, stamp_joined, flight_joined, seen_joined, answers_joined, registers_joined}
 use Rattle.sd_resume.proofs.law.Same.{same_nodes}
 use Rattle.sd_resume.proofs.law.Laws.{run_is}
 
 module _ (outer inner : Shift) where
   abbrev joined : Shift
   joined = joined_shift outer inner
-
-  sum : (n a b : ℕ) → n + (a + b) ≡ n + a + b
-  sum n a b = omega arith
 
   some_more : (n a : ℕ) → 1 ≤ n → 1 ≤ n + a
   some_more n a some = omega (arith, some)
@@ -124,18 +119,15 @@ module _ (outer inner : Shift) where
       rates : two.rates ≡ three.rates
       rates = ap (λ (r : Registers). r.rates) i.kept
 
-      of_some : {P Q : Duty → Type 0} (k : Option Duty) (duty : Duty) → k ≡ Some duty → IfSome k P → P duty
-      of_some None duty is h = cc
-      of_some {P} (Some other) duty is h = subst P (some_same is) h
-        where
-          some_same : Some other ≡ Some duty → other ≡ duty
-          some_same same = ap (λ (o : Option Duty). map_or o other (λ x. x)) same
+      of_some : (P : Type 0) (k : Option Duty) (duty : Duty) → k ≡ Some duty → IfSome k (λ other. P) → P
+      of_some P None duty is h = cc
+      of_some P (Some other) duty is h = h
 
       stamps : (k : Option Duty) → three.duty ≡ k → IfSome k (λ duty. o.stamp ≡ raised_stamp joined three.stamp)
       stamps None is = tt
       stamps (Some duty) is =
-          of_some two.duty (raised_duty inner duty) (ap (λ (r : Registers). r.duty) i.kept ∙ ap (option_map (raised_duty inner)) is) o.stamps
-          ∙ ap (raised_stamp outer) (ap (λ (r : Registers). r.stamp) i.kept ∙ of_some three.duty duty is i.stamps)
+          of_some (o.stamp ≡ raised_stamp outer two.stamp) two.duty (raised_duty inner duty) (ap (λ (r : Registers). r.duty) i.kept ∙ ap (option_map (raised_duty inner)) is) o.stamps
+          ∙ ap (raised_stamp outer) (ap (λ (r : Registers). r.stamp) i.kept ∙ of_some (i.stamp ≡ raised_stamp inner three.stamp) three.duty duty is i.stamps)
           ∙ sym (stamp_joined outer inner three.stamp)
 
   nodes_joined : (now : ℕ) (one two three : Option Registers) → AreAlike outer now one two → AreAlike inner now two three → AreAlike joined now one three

@@ -1,6 +1,7 @@
 -- Two shifts are one: what is raised by the inner shift and then by the outer one is raised by the joined shift.
-use Rattle.std.specs.Prelude.{◌≡◌, ◌≢◌, ℕ, zero, suc, ◌+◌, Bool, List, [], ◌∷◌, map, nat_eq, Option, Some, None, option_map, refl, if◌then◌else◌}
+use Rattle.std.specs.Prelude.{◌≡◌, ◌≢◌, ℕ, zero, suc, ◌+◌, false, List, [], ◌∷◌, map, nat_eq, Option, Some, None, option_map, refl, if◌then◌else◌}
 use Rattle.std.proofs.Common.{arith, sym, ◌∙◌, ap}
+use Rattle.std.proofs.lemmas.Bool.Decides.{nat_tests}
 use Rattle.sd_plan.specs.declared.Duty.{Duty}
 use Rattle.sd_num.specs.declared.clock.Estimate.{Estimate}
 use Rattle.sd_device.specs.declared.msg.Stamp.{Stamp}
@@ -16,6 +17,10 @@ use Rattle.sd_resume.specs.law.Shifts.{Shift, raised_epoch, raised_round, raised
 use Rattle.sd_resume.specs.law.Agreement.{raised_answers}
 use Rattle.sd_resume.specs.law.Composed.{joined_shift}
 
+-- numbers that are raised in two steps
+pub sum : (n a b : ℕ) → n + (a + b) ≡ n + a + b
+sum n a b = omega arith
+
 -- maps in two steps
 pub options_joined : {A : Type 0} (f g h : A → A) → ((x : A) → f x ≡ g (h x)) → (o : Option A) → option_map f o ≡ option_map g (option_map h o)
 options_joined f g h each None = refl
@@ -25,12 +30,45 @@ pub lists_joined : {A : Type 0} (f g h : A → A) → ((x : A) → f x ≡ g (h 
 lists_joined f g h each [] = refl
 lists_joined f g h each (x ∷ xs) = ap (λ y. y ∷ map f xs) (each x) ∙ ap (λ ys. g (h x) ∷ ys) (lists_joined f g h each xs)
 
+-- records with other parts
+
+abbrev flight_with : Flight → ℕ → Message → Flight
+flight_with f n m =
+    record {
+      number = n;
+      link = f.link;
+      sender = f.sender;
+      receiver = f.receiver;
+      sent_at = f.sent_at;
+      due = f.due;
+      last = f.last;
+      reaches = f.reaches;
+      message = m;
+    }
+
+abbrev seen_with : Seen → Event → Option Flight → List Flight → Seen
+seen_with s e taken sent = record { event = e; taken = taken; sent = sent; activated = s.activated; acted = s.acted; closed = s.closed }
+
+abbrev answers_with : Answers → ℕ → Option Duty → Answers
+answers_with a e given = record { parent = a.parent; acts = a.acts; epoch = e; given = given; sealed = a.sealed }
+
+abbrev registers_with : Registers → (last sent : ℕ) → Stamp → Estimate → (duty given : Option Duty) → Registers
+registers_with r last sent other estimate duty given =
+    record {
+      duty = duty;
+      given = given;
+      mode = r.mode;
+      sealed = r.sealed;
+      stamp = other;
+      last = last;
+      sent = sent;
+      estimate = estimate;
+      rates = r.rates;
+    }
+
 module _ (outer inner : Shift) where
   abbrev joined : Shift
   joined = joined_shift outer inner
-
-  sum : (n a b : ℕ) → n + (a + b) ≡ n + a + b
-  sum n a b = omega arith
 
   -- Plans
 
@@ -59,7 +97,10 @@ module _ (outer inner : Shift) where
     where
       none : (n : ℕ) → 0 + n ≡ n
       none n = omega arith
-  first_stamp (suc k) r round = refl
+  first_stamp (suc k) r round = ap (λ b. stamp (suc k + outer.term) (round + (if b then r + outer.round else r))) (later k)
+    where
+      later : (k : ℕ) → nat_eq (suc k) 0 ≡ false
+      later k = grind (arith, nat_tests)
 
   round_joined : (term round : ℕ) → raised_round joined term round ≡ raised_stamp outer (raised_round inner term round)
   round_joined zero round = first_stamp inner.term inner.round round
@@ -88,22 +129,8 @@ module _ (outer inner : Shift) where
       by (f.number + (inner.messages + outer.messages)) (f.number + inner.messages + outer.messages) (raised_message joined f.message)
       (raised_message outer (raised_message inner f.message)) (sum f.number inner.messages outer.messages) (message_joined f.message)
     where
-      abbrev with_parts : ℕ → Message → Flight
-      with_parts n m =
-          record {
-            number = n;
-            link = f.link;
-            sender = f.sender;
-            receiver = f.receiver;
-            sent_at = f.sent_at;
-            due = f.due;
-            last = f.last;
-            reaches = f.reaches;
-            message = m;
-          }
-
-      by : (n n' : ℕ) (m m' : Message) → n ≡ n' → m ≡ m' → with_parts n m ≡ with_parts n' m'
-      by n n' m m' a b = ap (λ k. with_parts k m) a ∙ ap (with_parts n') b
+      by : (n n' : ℕ) (m m' : Message) → n ≡ n' → m ≡ m' → flight_with f n m ≡ flight_with f n' m'
+      by n n' m m' a b = ap (λ k. flight_with f k m) a ∙ ap (flight_with f n') b
 
   pub event_joined : (e : Event) → raised_event joined e ≡ raised_event outer (raised_event inner e)
   event_joined (event.Recv reference device counter message) = ap (event.Recv reference device counter) (sum message inner.messages outer.messages)
@@ -113,45 +140,25 @@ module _ (outer inner : Shift) where
 
   pub seen_joined : (s : Seen) → raised_seen joined s ≡ raised_seen outer (raised_seen inner s)
   seen_joined s =
-      ap (λ (e : Event). with_parts e (option_map (raised_flight joined) s.taken) (map (raised_flight joined) s.sent)) (event_joined s.event)
-      ∙ ap (λ (o : Option Flight). with_parts (raised_event outer (raised_event inner s.event)) o (map (raised_flight joined) s.sent))
+      ap (λ (e : Event). seen_with s e (option_map (raised_flight joined) s.taken) (map (raised_flight joined) s.sent)) (event_joined s.event)
+      ∙ ap (λ (o : Option Flight). seen_with s (raised_event outer (raised_event inner s.event)) o (map (raised_flight joined) s.sent))
       (options_joined (raised_flight joined) (raised_flight outer) (raised_flight inner) flight_joined s.taken)
-      ∙ ap (λ (fs : List Flight). with_parts (raised_event outer (raised_event inner s.event)) (option_map (raised_flight outer) (option_map (raised_flight inner) s.taken)) fs)
+      ∙ ap (λ (fs : List Flight). seen_with s (raised_event outer (raised_event inner s.event)) (option_map (raised_flight outer) (option_map (raised_flight inner) s.taken)) fs)
       (lists_joined (raised_flight joined) (raised_flight outer) (raised_flight inner) flight_joined s.sent)
-    where
-      abbrev with_parts : Event → Option Flight → List Flight → Seen
-      with_parts e taken sent = record { event = e; taken = taken; sent = sent; activated = s.activated; acted = s.acted; closed = s.closed }
 
   -- What devices keep and answer
 
   pub answers_joined : (a : Answers) → raised_answers joined a ≡ raised_answers outer (raised_answers inner a)
   answers_joined a =
-      ap (λ (e : ℕ). with_parts e (option_map (raised_duty joined) a.given)) (epoch_joined a.epoch)
-      ∙ ap (with_parts (raised_epoch outer (raised_epoch inner a.epoch)))
+      ap (λ (e : ℕ). answers_with a e (option_map (raised_duty joined) a.given)) (epoch_joined a.epoch)
+      ∙ ap (answers_with a (raised_epoch outer (raised_epoch inner a.epoch)))
       (options_joined (raised_duty joined) (raised_duty outer) (raised_duty inner) duty_joined a.given)
-    where
-      abbrev with_parts : ℕ → Option Duty → Answers
-      with_parts e given = record { parent = a.parent; acts = a.acts; epoch = e; given = given; sealed = a.sealed }
 
   pub registers_joined : (r : Registers) (last sent last' sent' : ℕ) (other other' : Stamp) (estimate estimate' : Estimate)
       → raised_registers outer (raised_registers inner r last' sent' other' estimate') last sent other estimate
       ≡ raised_registers joined r last sent other estimate
   registers_joined r last sent last' sent' other other' estimate estimate' =
-      ap (λ (o : Option Duty). with_parts o (option_map (raised_duty outer) (option_map (raised_duty inner) r.given)))
+      ap (λ (o : Option Duty). registers_with r last sent other estimate o (option_map (raised_duty outer) (option_map (raised_duty inner) r.given)))
       (sym (options_joined (raised_duty joined) (raised_duty outer) (raised_duty inner) duty_joined r.duty))
-      ∙ ap (with_parts (option_map (raised_duty joined) r.duty))
+      ∙ ap (registers_with r last sent other estimate (option_map (raised_duty joined) r.duty))
       (sym (options_joined (raised_duty joined) (raised_duty outer) (raised_duty inner) duty_joined r.given))
-    where
-      abbrev with_parts : (duty given : Option Duty) → Registers
-      with_parts duty given =
-          record {
-            duty = duty;
-            given = given;
-            mode = r.mode;
-            sealed = r.sealed;
-            stamp = other;
-            last = last;
-            sent = sent;
-            estimate = estimate;
-            rates = r.rates;
-          }

@@ -1,5 +1,5 @@
 -- Openings of openings: when a history stands for a longer one, and what holds of all later events then. Two such steps are one.
-use Rattle.std.specs.Prelude.{◌≡◌, ℕ, ◌+◌, List, ◌++◌, map, nat_eq, if◌then◌else◌}
+use Rattle.std.specs.Prelude.{◌≡◌, ◌+◌, List, ◌++◌, map, nat_eq, if◌then◌else◌}
 use Rattle.sd_plan.specs.topo.Network.{Network}
 use Rattle.sd_plan.specs.declared.Plan.{Plan}
 use Rattle.sd_device.specs.declared.registers.Registers.{Registers}
@@ -11,7 +11,7 @@ use Rattle.sd_history.specs.Nodes.{NodeStep, steps_of}
 use Rattle.sd_history.specs.Admitted.{IsAdmitted}
 use Rattle.sd_safety.specs.invariant.Coming.{IsFair}
 use Rattle.sd_resume.specs.law.Shifts.{Shift, raised_event}
-use Rattle.sd_resume.specs.law.Law.{whole, HistoriesAgree, AllMayFollow, SaysAlike, BreaksNoMore, LeavesBroken, StaysCalm}
+use Rattle.sd_resume.specs.law.Law.{whole, HistoriesAgree, AllMayFollow, GoesOnAs}
 use Rattle.sd_resume.specs.law.Cuts.{IsOpening, IsHonestOpening}
 use Rattle.sd_resume.specs.law.Premised.{PremisesAgree}
 use Rattle.sd_resume.specs.law.Losses.{LossesAgree}
@@ -34,23 +34,10 @@ pub record StandsForWhole (shift : Shift) (net : Network) (front plans : List Pl
       (seen_of (chronicle (setting_over net plans) other))
   pub losses : LossesAgree shift (seen_of (chronicle (whole net front plans) one)) (seen_of (chronicle (setting_over net plans) other))
 
--- What holds of all later events: the rules admit the same, each has the same alarms and the same report, and each premise that breaks after the second is
--- broken after the first. While none is broken after the second, the first is calm.
-pub record GoesOnAs (shift : Shift) (net : Network) (front plans : List Plan) (one other : List Event) : Type 0 where
-  pub admitted : (later : List Event) → AllMayFollow (setting_over net plans) other later → IsAdmitted (setting_over net plans) (later ++ other)
-      → IsAdmitted (whole net front plans) (map (raised_event shift) later ++ one)
-  pub admitted_back : (later : List Event) → AllMayFollow (setting_over net plans) other later
-      → IsAdmitted (whole net front plans) (map (raised_event shift) later ++ one) → IsAdmitted (setting_over net plans) (later ++ other)
-  pub says : (later : List Event) → AllMayFollow (setting_over net plans) other later → IsAdmitted (setting_over net plans) (later ++ other)
-      → SaysAlike shift (whole net front plans) (setting_over net plans) one other later
-  pub breaks : BreaksNoMore shift (whole net front plans) (setting_over net plans) one other
-  pub leaves : LeavesBroken shift (whole net front plans) (setting_over net plans) one other
-  pub calm : IsFair (setting_over net plans) → StaysCalm shift (whole net front plans) (setting_over net plans) one other
-
 -- Later events go on standing for the whole, and what stands for what stands for the whole does so too.
 pub record StandingComposes (net : Network) : Type 0 where
   pub goes_on : (shift : Shift) (front plans : List Plan) (one other : List Event) → StandsForWhole shift net front plans one other
-      → GoesOnAs shift net front plans one other
+      → IsFair (setting_over net plans) → GoesOnAs shift net front plans one other
   pub later : (shift : Shift) (front plans : List Plan) (one other : List Event) → StandsForWhole shift net front plans one other
       → (later : List Event) → AllMayFollow (setting_over net plans) other later → IsAdmitted (setting_over net plans) (later ++ other)
       → StandsForWhole shift net front plans (map (raised_event shift) later ++ one) (later ++ other)
@@ -69,6 +56,6 @@ pub record OpeningsCompose (net : Network) : Type 0 where
       → AllMayFollow (setting_over net (middle ++ plans)) (events_of (steps_of second)) later
       → events_of (steps_of third) ≡ later ++ events_of (steps_of second)
       → IsOpening inner net middle plans third fourth
-      → IsHonestOpening (setting_over net plans) (seen_of (steps_of third)) (seen_of (steps_of fourth))
+      → IsHonestOpening (setting_over net plans) (seen_of (steps_of third)) (seen_of (steps_of fourth)) → IsFair (setting_over net plans)
       → GoesOnAs (joined_shift outer inner) net (front ++ middle) plans (map (raised_event outer) later ++ events_of (steps_of first))
       (events_of (steps_of fourth))

@@ -98,3 +98,16 @@ StaysCalm shift whole part one other =
     (e : Event) (later : List Event) → AllMayFollow part other (e ∷ later) → IsAdmitted part (e ∷ (later ++ other))
     → all_hold part (seen_of (chronicle part (e ∷ (later ++ other)))) ≡ true
     → IsCalm whole (chronicle whole (raised_event shift e ∷ (map (raised_event shift) later ++ one)))
+
+-- What holds of all later events: the rules admit the same, each has the same alarms and the same report, and each premise that breaks after the second is
+-- broken after the first. While none is broken after the second, the first is calm.
+pub record GoesOnAs (shift : Shift) (net : Network) (front plans : List Plan) (one other : List Event) : Type 0 where
+  pub admitted : (later : List Event) → AllMayFollow (setting_over net plans) other later → IsAdmitted (setting_over net plans) (later ++ other)
+      → IsAdmitted (whole net front plans) (map (raised_event shift) later ++ one)
+  pub admitted_back : (later : List Event) → AllMayFollow (setting_over net plans) other later
+      → IsAdmitted (whole net front plans) (map (raised_event shift) later ++ one) → IsAdmitted (setting_over net plans) (later ++ other)
+  pub says : (later : List Event) → AllMayFollow (setting_over net plans) other later → IsAdmitted (setting_over net plans) (later ++ other)
+      → SaysAlike shift (whole net front plans) (setting_over net plans) one other later
+  pub breaks : BreaksNoMore shift (whole net front plans) (setting_over net plans) one other
+  pub leaves : LeavesBroken shift (whole net front plans) (setting_over net plans) one other
+  pub calm : StaysCalm shift (whole net front plans) (setting_over net plans) one other

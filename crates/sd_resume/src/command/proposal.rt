@@ -1,5 +1,5 @@
 //! By how much the numbers of two fleets differ, as their devices tell.
-ghost use Rattle.std.specs.Prelude.{◌≡◌, ◌<◌, ℕ, Option, length, min};
+ghost use Rattle.std.specs.Prelude.{◌≡◌, ◌<◌, Option, min};
 ghost use Rattle.sd_resume.specs.Numbers.{shift_of};
 ghost use Rattle.sd_resume.specs.Fleets.{devices_of};
 ghost use Rattle.sd_resume.specs.Told as told;
