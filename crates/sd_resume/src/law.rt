@@ -21,7 +21,7 @@
 //! is on its way (`NoneOnItsWay`).
 //!
 //! Its proofs/Calm has `stays_calm`: while no premise is broken after the opening, the first has no
-//! alarm. Its proofs/Composed has `openings_compose`: an opening of an opening stands for the whole.
+//! alarm. Its proofs/Composed has `openings_compose`: one of an opening stands for the whole.
 //!
 //! They speak of later events that are no start, and of commits by devices that act as root
 //! (`AllMayFollow`): a fresh device that becomes root would begin with term 1 in both.
