@@ -52,6 +52,13 @@ ROWS = [
     differs("a device that fails in the opening", RECEIVED, TICKED + "fail 111700000 device 2\n", "up 2"),
     differs("another counter", RECEIVED, TICKED + "ask 111700000 2 111700000\n", "counter 2"),
     differs("another estimate", RECEIVED, "fix 111700000 1 111700000 111700000 500\n", "estimate 1"),
+    # device 2 failed before the first round came, in both: it does not tell which round that is
+    resumed("a device that failed in an older round",
+            lines("start 0 0 0 0 500", "start 0 1 0 0 800000", "start 0 2 0 0 800000", "tick 90000000 0 90000000",
+                  "tick 90000000 1 90000000", "tick 90000000 2 90000000", "tick 110000000 0 110000000",
+                  "recv 110700000 1 110700000 1", "fail 110700000 device 2"),
+            "".join(OPENING.splitlines(True)[:2]) + lines("start 110700000 2 110700000 110700000 323500", "fail 110700000 device 2"),
+            "agree 9 4\n", 0),
     # openings that are not honest in one thing
     row("an opening that leaves out nothing", LATER, "tick 111500000 2 111500000\n" + TICKED + "tick 111800000 2 111800000\n",
         "agree 13 7\n"),

@@ -34,9 +34,10 @@ pub fn run<S: Shelf, O: Sink>(alloc: Global, words: &[String], shelf: &mut S, ou
     // where the checker accepts it, and it leaves out just what is absent. No plan is printed only
     // where the checker refuses the greedy one too: what `sundial plan` prints, or `sundial renew`.
     // It is printed that an opening agrees only where all later events that may follow both are the
-    // same after both, and what breaks after the opening is broken after the schedule. Of a
-    // recording each line of the log has its lines of the schedule by one write, and of a merge
-    // each line of the feed the lines of logs that it has settled.
+    // same after both, and what breaks after the opening is broken after the schedule; and that it
+    // differs only where no shift of numbers makes it agree. Of a recording each line of the log
+    // has its lines of the schedule by one write, and of a merge each line of the feed the lines of
+    // logs that it has settled.
     ensures outcome { MeetsOutcome (S.held shelf.old) (map string_bytes words.now)
         (O.written out.old) (O.written out.new) result }
 

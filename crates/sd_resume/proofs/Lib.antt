@@ -6,4 +6,6 @@ pub mod Alike
 pub mod Apart
 pub mod Sending
 pub mod Opening
+pub mod Told
+pub mod Never
 pub mod Honest

@@ -1,5 +1,5 @@
 -- How many messages were sent, by what is found under a number.
-use Rattle.std.specs.Prelude.{◌≡◌, ℕ, ◌+◌, ◌≤◌, ◌<◌, Bool, true, false, not, List, nat_eq, nat_le, Option, Some, None, is_some, Result, Ok, Err, is_ok, refl, if◌then◌else◌}
+use Rattle.std.specs.Prelude.{◌≡◌, ℕ, ◌+◌, ◌≤◌, Bool, true, false, not, List, nat_le, Option, Some, None, is_some, Result, Ok, Err, is_ok, refl, if◌then◌else◌}
 use Rattle.std.proofs.Common.{arith, sym, ◌∙◌, ap, inl, inr}
 use Rattle.std.proofs.lemmas.Bool.{cases_lt}
 use Rattle.std.proofs.lemmas.Bool.Decides.{nat_tests}
@@ -41,17 +41,6 @@ known_is_sent setting steps n are some =
   where
     from_one : (n count : ℕ) → 1 ≤ n → is_given count n ≡ nat_le n count
     from_one n count some = grind (arith, nat_tests)
-
--- this many were sent or more, and not one more
-pub no_more_by : (count messages : ℕ) → nat_le messages count ≡ true → not (nat_le (messages + 1) count) ≡ nat_eq count messages
-no_more_by count messages some = grind (arith, nat_tests)
-
--- not this many were sent
-pub too_few_by : (count messages : ℕ) → nat_le messages count ≡ false → nat_eq count messages ≡ false
-too_few_by count messages few = grind (arith, nat_tests)
-
-pub fewer_by : (count most messages : ℕ) → count ≤ most → most < messages → nat_eq count messages ≡ false
-fewer_by count most messages few more = grind (arith, nat_tests)
 
 -- a message of which nothing is found is not on its way
 pub spent_by : (steps : List Step) (n : ℕ) (f : Flight) → flight_numbered steps n ≡ Some f → ((g : Flight) → look_in steps n ≡ Ok g → ⊥)

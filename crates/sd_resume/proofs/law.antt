@@ -15,5 +15,11 @@ pub mod Losing
 pub mod Laws
 pub mod Openings
 pub mod Spent
+pub mod Calm
+pub mod Standing
 pub mod Resume
+pub mod Joining
+pub mod Same
+pub mod Composing
+pub mod Composed
 pub mod Worked

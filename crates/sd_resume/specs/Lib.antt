@@ -6,6 +6,7 @@ pub mod Worlds
 pub mod Fleets
 pub mod Messages
 pub mod Differences
+pub mod Told
 pub mod Honesty
 pub mod command
 pub mod law

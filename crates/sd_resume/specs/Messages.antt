@@ -1,5 +1,5 @@
 -- The messages of the runs of a fleet.
-use Rattle.std.specs.Prelude.{◌≡◌, ℕ, Bool, true, false, nat_eq, List, Some}
+use Rattle.std.specs.Prelude.{◌≡◌, ℕ, ◌≤◌, Bool, true, false, nat_eq, List, Some}
 use Rattle.sd_device.specs.declared.msg.Flight.{Flight}
 use Rattle.sd_device.specs.declared.registers.Registers.{Registers}
 use Rattle.sd_device.specs.contracts.device.DeviceNode.TheImpl.{ghosts as device}
@@ -18,6 +18,12 @@ use Rattle.sd_resume.specs.Fleets.{DeviceFleet}
 abbrev pub HasSent : DeviceFleet → ℕ → Bool → Type 0
 HasSent fleet messages is =
     (setting : Setting) (run : List (NodeStep Registers)) → StandsFor device fleet setting run → is ≡ nat_eq (flight_count (steps_of run)) messages
+
+-- each run of the fleet has sent no fewer messages than the least, and no more than the most
+abbrev pub HasSentWithin : DeviceFleet → (least most : ℕ) → Type 0
+HasSentWithin fleet least most =
+    (setting : Setting) (run : List (NodeStep Registers)) → StandsFor device fleet setting run
+    → (least ≤ flight_count (steps_of run)) × (flight_count (steps_of run) ≤ most)
 
 -- in each run of the fleet none of the first messages is on its way
 abbrev pub HasNoneOnItsWay : DeviceFleet → ℕ → Type 0

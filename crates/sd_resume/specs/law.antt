@@ -7,4 +7,5 @@ pub mod Law
 pub mod Cuts
 pub mod Premised
 pub mod Losses
+pub mod Composed
 pub mod Worked

@@ -20,6 +20,9 @@
 //! The two on premises ask for an honest opening (`IsHonestOpening`). The last asks that no message
 //! is on its way (`NoneOnItsWay`).
 //!
+//! Its proofs/Calm has `stays_calm`: while no premise is broken after the opening, the first has no
+//! alarm. Its proofs/Composed has `openings_compose`: one of an opening stands for the whole.
+//!
 //! They speak of later events that are no start, and of commits by devices that act as root
 //! (`AllMayFollow`): a fresh device that becomes root would begin with term 1 in both.
 //!
@@ -46,4 +49,7 @@
 //! 4. `Running`: for each admitted event both runs go on, and agree.
 //! 5. `Judging`, `Losing`: the premises. `Laws`: any later events, by induction. They hold of any
 //!    two histories that agree, of which the second may have sent messages too.
-//! 6. `Openings`: an opening agrees. `Spent`: a message that is spent stays so. `Resume`.
+//! 6. `Openings`: an opening agrees. `Spent`: a message that is spent stays so. `Calm`, `Standing`:
+//!    a history that stands for a longer one goes on so. `Resume`.
+//! 7. `Joining`: two shifts are one. `Same`: runs with the same steps have the same nodes.
+//!    `Composing`, `Composed`: so what stands for what stands for the whole does too.

@@ -1,5 +1,5 @@
 //! In which messages two fleets differ.
-ghost use Rattle.std.specs.Prelude.{◌≡◌, ◌≤◌, ◌<◌, ◌^◌, ◌+◌, ◌-◌, ℕ, List, true, false, not, nat_le, None, IfSome};
+ghost use Rattle.std.specs.Prelude.{◌≡◌, ◌≤◌, ◌<◌, ◌^◌, ◌-◌, List, true, false, not, nat_le, None, IfSome};
 ghost use Rattle.sd_device.specs.declared.registers.Registers.{Registers};
 ghost use Rattle.sd_device.specs.contracts.device.DeviceNode.TheImpl.{ghosts as device};
 ghost use Rattle.sd_history.specs.World.{Setting};
@@ -46,18 +46,29 @@ fn most_sent(fleet: &Fleet<Device>) -> u64
     fleet.world().events() * MOST_LINKS
 }
 
+/// How many messages were sent.
+pub(crate) fn messages_of(fleet: &Fleet<Device>) -> u64
+    ensures { (setting : Setting) (run : List (NodeStep Registers))
+        → StandsFor device fleet.now setting run → result ≡ flight_count (steps_of run) }
+{
+    let mut least = 0;
+    let mut most = most_sent(fleet);
+    while least < most {
+        let middle = most - (most - least) / 2;
+        if has_sent_some(fleet, middle) {
+            least = middle;
+        } else {
+            most = middle - 1;
+        }
+    }
+    least
+}
+
 /// Whether this many messages were sent, and no more.
 pub(crate) fn has_sent(fleet: &Fleet<Device>, messages: u64) -> bool
     ensures { HasSent fleet.now messages result }
 {
-    let most = most_sent(fleet);
-    if messages > most {
-        return false;
-    }
-    if !has_sent_some(fleet, messages) {
-        return false;
-    }
-    !has_sent_some(fleet, messages + 1)
+    messages_of(fleet) == messages
 }
 
 /// Whether the message with this number was sent and is not spent.

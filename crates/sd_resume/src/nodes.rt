@@ -46,7 +46,7 @@ pub(crate) fn compare_nodes(
 }
 
 /// The node of a device, where it is up.
-fn live_node(fleet: &Fleet<Device>, d: u32) -> Option<&Device>
+pub(crate) fn live_node(fleet: &Fleet<Device>, d: u32) -> Option<&Device>
     requires { d < devices_of fleet.now }
     ensures up { is_some result ≡ up_at (world_of fleet.now) d }
     ensures node { IfSome result (λ node. node_at fleet.now.nodes.items d ≡ Some node.now) }

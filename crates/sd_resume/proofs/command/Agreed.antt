@@ -1,5 +1,5 @@
 -- Replays that have played two texts: what is said of them is said of the events of these.
-use Rattle.std.specs.Prelude.{◌≡◌, ℕ, List, length, map, IfErr, IfOk, Result, Ok, Err}
+use Rattle.std.specs.Prelude.{◌≡◌, ℕ, List, length, map, IfErr, IfOk, Result, Ok, Err, refl}
 use Rattle.std.proofs.Common.{inl, inr, sym, ap, ◌∙◌, subst}
 use Rattle.sd_plan.specs.topo.Network.{Network}
 use Rattle.sd_plan.specs.declared.Plan.{Plan}
@@ -11,14 +11,18 @@ use Rattle.sd_history.specs.World.{Seen, Setting, setting_over}
 use Rattle.sd_history.specs.Steps.{events_of, seen_of}
 use Rattle.sd_history.specs.Nodes.{NodeStep, steps_of}
 use Rattle.sd_fleet.specs.Standing as fleets
+use Rattle.sd_safety.specs.invariant.Coming.{IsFair}
 use Rattle.sd_replay.specs.Replaying.{StandsFor}
 use Rattle.sd_resume.specs.law.Shifts.{Shift}
 use Rattle.sd_resume.specs.law.Law.{whole}
 use Rattle.sd_resume.specs.law.Cuts.{IsHonestOpening}
-use Rattle.sd_resume.proofs.law.Resume.{admits_the_same, breaks_no_more, leaves_broken, nothing_else_comes, says_the_same}
+use Rattle.sd_resume.proofs.law.Resume.{nothing_else_comes, stands}
 use Rattle.sd_resume.proofs.law.Spent.{lowered_event}
+use Rattle.sd_resume.proofs.law.Standing.{goes_on_as}
 use Rattle.sd_resume.specs.Differences.{Differs, OfRuns, Opens}
 use Rattle.sd_resume.specs.Fleets.{DeviceFleet}
+use Rattle.sd_resume.specs.Told.{shift_between, IsTold}
+use Rattle.sd_resume.proofs.Never.{differ_never}
 use Rattle.sd_resume.specs.Honesty.{AreDishonest, IsDishonest, IsHonest, OfHistories}
 use Rattle.sd_resume.specs.declared.differences.Difference.{Difference}
 use Rattle.sd_resume.specs.declared.differences.Dishonesty.{Dishonesty}
@@ -36,17 +40,14 @@ use Rattle.sd_resume.specs.command.Printed.{agree_line, differ_line, dishonest_l
 
 -- after an honest opening all later events are as after the history that it opens, and no more breaks
 go_on : (shift : Shift) (net : Network) (front plans : List Plan) (first second : List (NodeStep Registers)) → Opens shift net front plans first second
-    → IsHonestOpening (setting_over net plans) (seen_of (steps_of first)) (seen_of (steps_of second))
+    → IsHonestOpening (setting_over net plans) (seen_of (steps_of first)) (seen_of (steps_of second)) → IsFair (setting_over net plans)
     → GoOnAlike shift net front plans (events_of (steps_of first)) (events_of (steps_of second))
-go_on shift net front plans first second opens honest =
+go_on shift net front plans first second opens honest fair =
     record {
-      admitted = λ later may. (admits_the_same shift net front plans first second opens.opening later may).0;
-      admitted_back = λ later may. (admits_the_same shift net front plans first second opens.opening later may).1;
-      says = λ later may admitted. says_the_same shift net front plans first second opens.opening later may admitted;
+      goes = goes_on_as shift net front plans (events_of (steps_of first)) (events_of (steps_of second))
+          (stands shift net front plans first second opens.opening honest) fair;
       raised = λ later history.
           (map (lowered_event shift) later, nothing_else_comes shift net front plans first second opens.opening opens.quiet later history);
-      breaks = breaks_no_more shift net front plans first second opens.opening honest;
-      leaves = leaves_broken shift net front plans first second opens.opening honest;
     }
 
 -- the fleet stands for the runs of the replay that drives it
@@ -85,24 +86,31 @@ module _ (shift : Shift) (one other : QuietReplay) (first second : DeviceFleet) 
   -- where one is
   pub differing_makes : (what : Difference) (made : Result Answer CommandError)
       → OfRuns shift first second (λ net' front' plans' first' second'. Differs shift first' second' what)
+      → IsTold first second (length front) shift
       → IfOk made (λ answer. answer.text.items ≡ differ_line what) → IfOk made (λ answer. answer.status ≡ Broken) → IfErr made (λ why. why ≡ ended.Memory)
       → IsAllowed (IsCompared net front plans events others) made
-  differing_makes what (Ok answer) differs text status only =
+  differing_makes what (Ok answer) differs told text status only =
+      let is : shift ≡ shift_between net front played.run also.run =
+      told net front plans played.run also.run refl (drives (whole net front plans) played.run played.stands)
+      (drives_other (setting_over net plans) also.run also.stands) in
+      let here : Differs (shift_between net front played.run also.run) played.run also.run what =
+      subst (λ (s : Shift). Differs s played.run also.run what) is (of_runs (λ net' front' plans' first' second'. Differs shift first' second' what) differs) in
       inr
       (inl
       (record {
-        shift = shift;
         first = played.run;
         second = also.run;
-        runs = runs shift net front plans one other events others played also (sym behind);
+        runs = runs (shift_between net front played.run also.run) net front plans one other events others played also
+            (sym (ap (λ (s : Shift). s.plans) is) ∙ sym behind);
         what = what;
-        differs = of_runs (λ net' front' plans' first' second'. Differs shift first' second' what) differs;
+        differs = here;
+        never = λ shift' opens. differ_never net front plans played.run also.run shift' opens what here;
         line = text;
         broken = status;
       }))
-  differing_makes what (Err ended.Memory) differs text status only = tt
-  differing_makes what (Err ended.Shelf) differs text status only = cc
-  differing_makes what (Err (ended.Refused why)) differs text status only = cc
+  differing_makes what (Err ended.Memory) differs told text status only = tt
+  differing_makes what (Err ended.Shelf) differs told text status only = cc
+  differing_makes what (Err (ended.Refused why)) differs told text status only = cc
 
 -- What the comparison of the premises that they judge says
 
@@ -119,7 +127,7 @@ module _ (shift : Shift) (net : Network) (front plans : List Plan) (one other : 
   on_events honest =
       subst (λ (es : List Event). GoOnAlike shift net front plans es others) opened.first.happened
       (subst (λ (es : List Event). GoOnAlike shift net front plans (events_of (steps_of opened.first.run)) es) opened.second.happened
-      (go_on shift net front plans opened.first.run opened.second.run opened.opens honest))
+      (go_on shift net front plans opened.first.run opened.second.run opened.opens honest opened.second.stands.sound))
 
   -- where the opening is honest
   pub agreed_makes : (n m : ℕ) (made : Result Answer CommandError) → OfHistories one.monitors.premises other.monitors.premises IsHonest → n ≡ length events → m ≡ length others

@@ -47,7 +47,7 @@ pub run_is : (setting : Setting) (run : List (NodeStep Registers)) (events : Lis
 run_is setting run events runs happened = admitted_devices_run setting run runs ∙ ap (chronicle setting) happened
 
 -- the first step, else another
-abbrev first_of : Step → List Step → Step
+abbrev pub first_of : Step → List Step → Step
 first_of other [] = other
 first_of other (s ∷ steps) = s
 

@@ -60,7 +60,7 @@ module _ (shift : Shift) (net : Network) (front plans : List Plan) (behind : shi
         ap (λ b. if b then parent_in one d else None) (counted_same shift net front plans behind (seen_of one) (seen_of other) agree.seen d)
         ∙ ap (λ o. if is_counted (setting_over net plans) (seen_of other) d then o else None) (parent_same d)
 
-    loop_same : first_on_loop (whole net front plans) one ≡ first_on_loop (setting_over net plans) other
+    pub loop_same : first_on_loop (whole net front plans) one ≡ first_on_loop (setting_over net plans) other
     loop_same =
         find_same (is_on_loop (whole net front plans) one) (is_on_loop (setting_over net plans) other)
         (λ d. any_same (λ n. same_number (follow (counted_parent (whole net front plans) one) (n + 1) d) d)
@@ -70,7 +70,7 @@ module _ (shift : Shift) (net : Network) (front plans : List Plan) (behind : shi
         (device_numbers net))
         (device_numbers net)
 
-    roots_same : roots (whole net front plans) one ≡ roots (setting_over net plans) other
+    pub roots_same : roots (whole net front plans) one ≡ roots (setting_over net plans) other
     roots_same =
         filter_same (λ d. is_counted (whole net front plans) (seen_of one) d && acts_in one d) (λ d. is_counted (setting_over net plans) (seen_of other) d && acts_in other d)
         (λ d. ap (λ b. b && acts_in one d) (counted_same shift net front plans behind (seen_of one) (seen_of other) agree.seen d)

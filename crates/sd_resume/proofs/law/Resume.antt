@@ -1,5 +1,5 @@
 -- The result: after an opening all later events are as after the history that it opens.
-use Rattle.std.specs.Prelude.{◌≡◌, ℕ, suc, ◌+◌, ◌<◌, ◌≤◌, Bool, true, false, ◌&&◌, ◌||◌, not, List, [], ◌∷◌, ◌++◌, length, map, filter, nat_eq, Option, Some, None, option_and_then, refl}
+use Rattle.std.specs.Prelude.{◌≡◌, ℕ, suc, ◌+◌, ◌<◌, ◌≤◌, Bool, true, false, ◌||◌, List, [], ◌∷◌, ◌++◌, length, map, filter, nat_eq, Option, Some, None, option_and_then, refl}
 use Rattle.std.proofs.Common.{arith, sym, ◌∙◌, ap, subst, inl, inr}
 use Rattle.std.proofs.lemmas.Bool.{eqb-true, eq-eqb}
 use Rattle.sd_num.specs.Lists.{map_or, same_number}
@@ -29,14 +29,16 @@ use Rattle.sd_history.proofs.flights.Finds.{found_number}
 use Rattle.sd_history.proofs.flights.Leaving.{unused}
 use Rattle.sd_history.proofs.flights.Sending.{counted}
 use Rattle.sd_resume.specs.law.Shifts.{Shift, raised_event}
-use Rattle.sd_resume.specs.law.Law.{whole, HistoriesAgree, AllMayFollow, SaysAlike, NoMoreBroken, BreaksNoMore, LeavesBroken}
+use Rattle.sd_resume.specs.law.Law.{whole, HistoriesAgree, AllMayFollow, SaysAlike, BreaksNoMore, LeavesBroken}
 use Rattle.sd_resume.specs.law.Cuts.{IsOpening, NoneOnItsWay, IsHonestOpening}
 use Rattle.sd_resume.specs.law.Premised.{PremisesAgree}
 use Rattle.sd_resume.specs.law.Losses.{ArePast, LossesAgree}
-use Rattle.sd_resume.proofs.law.Losing.{past_after, loss_on}
+use Rattle.sd_resume.specs.law.Composed.{StandsForWhole}
+use Rattle.sd_resume.proofs.law.Standing.{no_more_breaks, stays_broken}
+use Rattle.sd_resume.proofs.law.Losing.{past_after}
 use Rattle.sd_resume.proofs.law.Openings.{opening_histories_agree}
 use Rattle.sd_resume.proofs.law.Spent.{lowered_event, raised_again, stays_spent, names_later}
-use Rattle.sd_resume.proofs.law.Laws.{run_is, resumed, resumed_back, breaks_in_both, loses_in_both}
+use Rattle.sd_resume.proofs.law.Laws.{run_is, resumed, resumed_back}
 
 -- an opening that sent nothing has no flight
 none_reach : (setting : Setting) (steps_ : List Step) → AreSteps setting steps_ → flight_count steps_ ≡ 0 → (f : Flight)
@@ -109,14 +111,6 @@ unreceived setting steps_ n are past = go (was_received (seen_of steps_) n) refl
 all_past : (setting : Setting) (steps_ : List Step) → AreSteps setting steps_ → ArePast (seen_of steps_)
 all_past setting [] are = refl
 all_past setting (s ∷ earlier) are = past_after s.seen (seen_of earlier) (time_goes_on setting earlier s.seen.event are.1) (all_past setting earlier are.0)
-
--- what breaks in a part is broken in the whole, if what holds in the whole holds in the part
-broken_there : (whole_holds part_holds before : Bool) → (whole_holds ≡ true → part_holds ≡ true) → (not part_holds && not before) ≡ true → not whole_holds ≡ true
-broken_there false part_holds before on broke = refl
-broken_there true true before on broke = cc
-broken_there true false before on broke =
-    let holds : false ≡ true = on refl in
-    cc
 
 module _ (shift : Shift) (net : Network) (front plans : List Plan) (first second : List (NodeStep Registers))
     (is : IsOpening shift net front plans first second) where
@@ -235,44 +229,22 @@ module _ (shift : Shift) (net : Network) (front plans : List Plan) (first second
         above : (n count : ℕ) → count ≡ 0 → 1 ≤ n → count < n
         above n count none some = omega (arith, none, some)
 
+    -- So the opening stands for the whole.
+    pub stands : StandsForWhole shift net front plans one other
+    stands =
+        record {
+          agree = agree;
+          premises = subst (λ s. PremisesAgree (whole net front plans) (setting_over net plans) (seen_of s) (seen_of (chronicle (setting_over net plans) other)))
+              first_is
+              (subst (λ s. PremisesAgree (whole net front plans) (setting_over net plans) (seen_of (steps_of first)) (seen_of s)) second_is premises);
+          losses = subst (λ s. LossesAgree shift (seen_of s) (seen_of (chronicle (setting_over net plans) other))) first_is
+              (subst (λ s. LossesAgree shift (seen_of (steps_of first)) (seen_of s)) second_is losses);
+        }
+
     -- What breaks after the opening breaks in the whole.
     pub breaks_no_more : BreaksNoMore shift (whole net front plans) (setting_over net plans) one other
-    breaks_no_more later may admitted =
-        let p : PremisesAgree (whole net front plans) (setting_over net plans)
-        (seen_of (chronicle (whole net front plans) (map (raised_event shift) later ++ one))) (seen_of (chronicle (setting_over net plans) (later ++ other))) =
-        breaks_in_both shift net front plans one other agree
-        (subst (λ s. PremisesAgree (whole net front plans) (setting_over net plans) (seen_of s) (seen_of (chronicle (setting_over net plans) other))) first_is
-        (subst (λ s. PremisesAgree (whole net front plans) (setting_over net plans) (seen_of (steps_of first)) (seen_of s)) second_is premises))
-        later may admitted in
-        let l : LossesAgree shift (seen_of (chronicle (whole net front plans) (map (raised_event shift) later ++ one)))
-        (seen_of (chronicle (setting_over net plans) (later ++ other))) =
-        loses_in_both shift net front plans one other agree
-        (subst (λ s. LossesAgree shift (seen_of s) (seen_of (chronicle (setting_over net plans) other))) first_is
-        (subst (λ s. LossesAgree shift (seen_of (steps_of first)) (seen_of s)) second_is losses))
-        later may admitted in
-        record {
-          start = p.start;
-          drift = p.drift;
-          delay = p.delay;
-          tick = p.tick;
-          loss = loss_on shift (seen_of (chronicle (whole net front plans) (map (raised_event shift) later ++ one)))
-              (seen_of (chronicle (setting_over net plans) (later ++ other))) l.flights (whole net front plans) (setting_over net plans) refl;
-          domain = p.domain;
-          renew = p.renew;
-        }
+    breaks_no_more = no_more_breaks shift net front plans one other stands
 
     -- A later event that breaks a premise after the opening leaves it broken in the whole.
     pub leaves_broken : LeavesBroken shift (whole net front plans) (setting_over net plans) one other
-    leaves_broken e later may admitted =
-        let more : NoMoreBroken (whole net front plans) (setting_over net plans)
-        (seen_of (chronicle (whole net front plans) (raised_event shift e ∷ (map (raised_event shift) later ++ one))))
-        (seen_of (chronicle (setting_over net plans) (e ∷ (later ++ other)))) = breaks_no_more (e ∷ later) may admitted in
-        record {
-          start = broken_there _ _ _ more.start;
-          drift = broken_there _ _ _ more.drift;
-          delay = broken_there _ _ _ more.delay;
-          tick = broken_there _ _ _ more.tick;
-          loss = broken_there _ _ _ more.loss;
-          domain = broken_there _ _ _ more.domain;
-          renew = broken_there _ _ _ more.renew;
-        }
+    leaves_broken = stays_broken shift net front plans one other stands

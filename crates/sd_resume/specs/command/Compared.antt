@@ -14,6 +14,7 @@ use Rattle.sd_files.specs.declared.Status.TheVariants.{Done, Broken}
 use Rattle.sd_resume.specs.law.Shifts.{Shift}
 use Rattle.sd_resume.specs.law.Law.{whole}
 use Rattle.sd_resume.specs.Differences.{Differs, Opens}
+use Rattle.sd_resume.specs.Told.{shift_between}
 use Rattle.sd_resume.specs.Honesty.{IsDishonest, IsHonest}
 use Rattle.sd_resume.specs.declared.differences.Difference.{Difference}
 use Rattle.sd_resume.specs.declared.differences.Dishonesty.{Dishonesty}
@@ -41,14 +42,14 @@ pub record IsAgreed (net : Network) (front plans : List Plan) (one other : List 
   pub line : bytes ≡ agree_line (length one) (length other)
   pub done : status ≡ Done
 
--- they differ in this, by a shift of their numbers
+-- They differ in this, by the shift between them; and by no shift at all does the opening stand for the schedule.
 pub record IsApart (net : Network) (front plans : List Plan) (one other : List Event) (bytes : List ℕ) (status : Status) : Type 0 where
-  pub shift : Shift
   pub first : List (NodeStep Registers)
   pub second : List (NodeStep Registers)
-  pub runs : AreRuns shift net front plans one other first second
+  pub runs : AreRuns (shift_between net front first second) net front plans one other first second
   pub what : Difference
-  pub differs : Differs shift first second what
+  pub differs : Differs (shift_between net front first second) first second what
+  pub never : (shift : Shift) → Opens shift net front plans first second → ⊥
   pub line : bytes ≡ differ_line what
   pub broken : status ≡ Broken
 

@@ -13,8 +13,9 @@ use Rattle.sd_history.specs.Chronicle.{chronicle}
 use Rattle.sd_history.specs.Nodes.{NodeStep, steps_of}
 use Rattle.sd_history.specs.Admitted.{IsAdmittedRun, IsAdmitted}
 use Rattle.sd_history.specs.declared.BrokenSet.{BrokenSet}
-use Rattle.sd_history.specs.Premises.{start_holds, drift_holds, delay_holds, tick_holds, loss_holds, domain_holds, renew_holds, broken_in, breaks}
+use Rattle.sd_history.specs.Premises.{start_holds, drift_holds, delay_holds, tick_holds, loss_holds, domain_holds, renew_holds, all_hold, broken_in, breaks}
 use Rattle.sd_history.specs.Lines.{Line, first_on_loop, roots, asked_report, loop_lines, root_lines, report_lines}
+use Rattle.sd_replay.specs.Calm.{IsCalm}
 use Rattle.sd_resume.specs.law.Shifts.{Shift, raised_event}
 use Rattle.sd_resume.specs.law.Agreement.{MayFollow, Agree}
 
@@ -90,3 +91,23 @@ LeavesBroken shift whole part one other =
     (e : Event) (later : List Event) → AllMayFollow part other (e ∷ later) → IsAdmitted part (e ∷ (later ++ other))
     → AreAmong (breaks part (seen_of (chronicle part (e ∷ (later ++ other)))))
     (broken_in whole (seen_of (chronicle whole (raised_event shift e ∷ (map (raised_event shift) later ++ one)))))
+
+-- while no premise is broken after the second, each later event leaves the first calm too: no loop of parents, at most one acting root, and no alarm
+abbrev pub StaysCalm : Shift → (whole part : Setting) → (one other : List Event) → Type 0
+StaysCalm shift whole part one other =
+    (e : Event) (later : List Event) → AllMayFollow part other (e ∷ later) → IsAdmitted part (e ∷ (later ++ other))
+    → all_hold part (seen_of (chronicle part (e ∷ (later ++ other)))) ≡ true
+    → IsCalm whole (chronicle whole (raised_event shift e ∷ (map (raised_event shift) later ++ one)))
+
+-- What holds of all later events: the rules admit the same, each has the same alarms and the same report, and each premise that breaks after the second is
+-- broken after the first. While none is broken after the second, the first is calm.
+pub record GoesOnAs (shift : Shift) (net : Network) (front plans : List Plan) (one other : List Event) : Type 0 where
+  pub admitted : (later : List Event) → AllMayFollow (setting_over net plans) other later → IsAdmitted (setting_over net plans) (later ++ other)
+      → IsAdmitted (whole net front plans) (map (raised_event shift) later ++ one)
+  pub admitted_back : (later : List Event) → AllMayFollow (setting_over net plans) other later
+      → IsAdmitted (whole net front plans) (map (raised_event shift) later ++ one) → IsAdmitted (setting_over net plans) (later ++ other)
+  pub says : (later : List Event) → AllMayFollow (setting_over net plans) other later → IsAdmitted (setting_over net plans) (later ++ other)
+      → SaysAlike shift (whole net front plans) (setting_over net plans) one other later
+  pub breaks : BreaksNoMore shift (whole net front plans) (setting_over net plans) one other
+  pub leaves : LeavesBroken shift (whole net front plans) (setting_over net plans) one other
+  pub calm : StaysCalm shift (whole net front plans) (setting_over net plans) one other

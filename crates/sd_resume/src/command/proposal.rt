@@ -1,80 +1,78 @@
-//! By how much the numbers of two fleets differ, as their devices tell. It needs no proof, since the
-//! comparison is told of the proposal.
-ghost use Rattle.std.specs.Prelude.{◌≡◌, ◌<◌, length};
+//! By how much the numbers of two fleets differ, as their devices tell.
+ghost use Rattle.std.specs.Prelude.{◌≡◌, ◌<◌, Option, min};
+ghost use Rattle.sd_resume.specs.Numbers.{shift_of};
 ghost use Rattle.sd_resume.specs.Fleets.{devices_of};
+ghost use Rattle.sd_resume.specs.Told as told;
+ghost use Rattle.sd_resume.specs.Told.{stamp_at, IsTold};
 
 use crate::Shift;
-use sd_device::msg::TakeFault;
-use sd_device::{Device, Registers};
+use crate::messages::messages_of;
+use crate::nodes::live_node;
+use sd_device::Device;
+use sd_device::msg::Stamp;
 use sd_fleet::Fleet;
 
-/// More messages are never sent: an event sends over each link once.
-const MESSAGE_BITS: u32 = 41;
-
-/// How many messages a fleet has sent: all up to some number are known, and none beyond.
-fn messages_of(fleet: &Fleet<Device>) -> u64 {
-    let mut sent = 0u64;
-    for place in 0..MESSAGE_BITS {
-        let more = sent | (1 << (MESSAGE_BITS - 1 - place));
-        if is_known(fleet, more) {
-            sent = more;
-        }
-    }
-    sent
-}
-
-/// Whether a message with this number was sent.
-fn is_known(fleet: &Fleet<Device>, number: u64) -> bool {
-    !matches!(fleet.flight(number), Err(TakeFault::Unknown))
-}
-
-/// What a device of a fleet keeps, where it follows a plan.
-fn followed(fleet: &Fleet<Device>, d: u32) -> Option<Registers>
+/// The stamp of a device, where it is up and follows a plan.
+fn stamp_of(fleet: &Fleet<Device>, d: u32) -> Option<Stamp>
     requires { d < devices_of fleet.now }
+    ensures { result ≡ stamp_at fleet.now d }
 {
-    let registers = fleet.node(d)?.registers();
+    let registers = live_node(fleet, d)?.registers();
     if registers.duty.is_some() {
-        Some(registers)
+        Some(registers.stamp)
     } else {
         None
     }
 }
 
-/// The shift of the stamps of a device, where it follows a plan in both.
-fn shift_at(shift: Shift, one: &Fleet<Device>, other: &Fleet<Device>, d: u32) -> Shift
-    requires one { d < devices_of one.now }
-    requires other { d < devices_of other.now }
-    ensures { result.plans ≡ shift.plans }
+/// The shift by these stamps of a device.
+fn with_stamps(shift: Shift, one: Stamp, other: Stamp) -> Shift
+    ensures { shift_of result ≡ told.with_stamps (shift_of shift) one other }
 {
-    let Some(one) = followed(one, d) else {
-        return shift;
-    };
-    let Some(other) = followed(other, d) else {
-        return shift;
-    };
     let mut proposed = shift;
-    proposed.term = one.stamp.term.saturating_sub(other.stamp.term);
+    proposed.term = one.term.saturating_sub(other.term);
     // later terms count their rounds from the same number in both
-    if other.stamp.term == 0 {
-        proposed.round = one.stamp.round.saturating_sub(other.stamp.round);
+    if other.term == 0 {
+        proposed.round = one.round.saturating_sub(other.round);
     }
     proposed
 }
 
+/// The shift by what a device tells, where it does in both.
+fn with_told(shift: Shift, one: Option<Stamp>, other: Option<Stamp>) -> Shift
+    ensures { shift_of result ≡ told.with_told (shift_of shift) one other }
+{
+    match one {
+        Some(one) => match other {
+            Some(other) => with_stamps(shift, one, other),
+            None => shift,
+        },
+        None => shift,
+    }
+}
+
+/// How many devices both have: over one network all.
+fn devices_of_both(one: &Fleet<Device>, other: &Fleet<Device>) -> u32
+    ensures { result ≡ min (devices_of one.now) (devices_of other.now) }
+{
+    let devices = one.devices();
+    devices.min(other.devices())
+}
+
 /// By how much the numbers of the first are greater. The second leaves out this many of its plans.
 pub(crate) fn propose(one: &Fleet<Device>, other: &Fleet<Device>, left: u32) -> Shift
-    ensures { result.plans ≡ left }
+    ensures left { result.plans ≡ left }
+    ensures told { IsTold one.now other.now left (shift_of result) }
 {
+    let messages = messages_of(one);
     let mut shift = Shift {
         plans: left,
-        messages: messages_of(one),
+        messages,
         term: 0,
         round: 0,
     };
-    for d in 0..one.devices() {
-        if d < other.devices() {
-            shift = shift_at(shift, one, other, d);
-        }
+    for d in 0..devices_of_both(one, other) {
+        shift = with_told(shift, stamp_of(one, d), stamp_of(other, d));
     }
     shift
 }
