@@ -94,11 +94,7 @@ fn rate_under(
 }
 
 /// The rating of an accepted plan that is indexed.
-fn rate_indexed(
-    alloc: Global,
-    planned: IndexedPlan<'_>,
-    budget: Budget,
-) -> Result<Rating, NoMemory>
+fn rate_indexed(alloc: Global, planned: IndexedPlan<'_>, budget: Budget) -> Result<Rating, NoMemory>
     requires accepted { IsAccepted (network planned.topo.now) planned.plan.now }
     requires budget { IsBudget budget }
     ensures { IfOk result (IsRating (network planned.entry.topo.now) planned.entry.plan.now budget) }

@@ -242,9 +242,7 @@ fn search_from(
 
 /// Whether two plans have the same roots and the same hops.
 fn has_same_hops(a: &Plan, b: &Plan) -> bool {
-    a.root == b.root
-        && a.backup_root == b.backup_root
-        && a.rows.as_slice() == b.rows.as_slice()
+    a.root == b.root && a.backup_root == b.backup_root && a.rows.as_slice() == b.rows.as_slice()
 }
 
 /// The accepted plan that a search comes to from an accepted plan: that one itself, or one that is no

@@ -71,7 +71,8 @@ impl Counter {
         for _ in 0..ground.topo.params().depth {
             match draft.primary(here) {
                 Some(hop) => {
-                    let is_inner = hop.parent != draft.root && self.struck.failing.has_device(hop.parent);
+                    let is_inner = hop.parent != draft.root
+                        && self.struck.failing.has_device(hop.parent);
                     if self.struck.failing.has_link(hop.link) || is_inner {
                         return true;
                     }
@@ -127,7 +128,9 @@ impl Counter {
     fn peel(&mut self, ground: &Ground<'_>, draft: &Draft) -> u64 {
         let mut left = 0;
         for place in 0..self.struck.hit.len() {
-            let d = self.struck.hit[place];
+            let Some(d) = self.struck.hit_at(place) else {
+                return left;
+            };
             if !is_set(self.done.as_slice(), d) {
                 if draft.is_either_root(d) || self.ends_done(ground, draft, d) {
                     set_entry(self.done.as_mut_slice(), d, true);
@@ -181,7 +184,9 @@ impl Counter {
     fn listen(&mut self, ground: &Ground<'_>, draft: &Draft, acting: u32) -> u64 {
         let mut deaf = 0;
         for place in 0..self.struck.hit.len() {
-            let d = self.struck.hit[place];
+            let Some(d) = self.struck.hit_at(place) else {
+                return deaf;
+            };
             if self.is_left(ground, d) && !is_set(self.done.as_slice(), d) {
                 if self.hears(ground, draft, acting, d) {
                     set_entry(self.done.as_mut_slice(), d, true);
@@ -211,7 +216,8 @@ impl Counter {
     fn join_from(&mut self, ground: &Ground<'_>, d: u32) -> Result<(), NoMemory> {
         for neighbour in ground.neighbours(d) {
             let next = neighbour.device;
-            let joins = !self.struck.failing.has_link(neighbour.link) && !self.struck.failing.has_device(next);
+            let joins = !self.struck.failing.has_link(neighbour.link)
+                && !self.struck.failing.has_device(next);
             if joins && !is_set(self.joined.as_slice(), next) {
                 set_entry(self.joined.as_mut_slice(), next, true);
                 push(&mut self.waiting, next)?;
@@ -239,9 +245,7 @@ impl Counter {
     fn loses_backup(&self, draft: &Draft, d: u32) -> bool {
         match draft.backup(d) {
             Some(hop) => {
-                !draft.is_either_root(d)
-                    && self.struck.hits(d)
-                    && self.struck.failing.has_of(hop)
+                !draft.is_either_root(d) && self.struck.hits(d) && self.struck.failing.has_of(hop)
             }
             None => false,
         }
@@ -265,13 +269,17 @@ impl Counter {
             draft.root
         };
         let deaf = self.note_hearing(ground, draft, acting);
-        if self.struck.failing.has_device(acting) || (deaf == 0 && !self.is_any_troubled(ground, draft)) {
+        if self.struck.failing.has_device(acting)
+            || (deaf == 0 && !self.is_any_troubled(ground, draft))
+        {
             return Ok(0);
         }
         self.note_joined(ground, acting)?;
         let mut count = 0;
         for place in 0..self.struck.hit.len() {
-            let d = self.struck.hit[place];
+            let Some(d) = self.struck.hit_at(place) else {
+                return Ok(count);
+            };
             if self.is_left(ground, d) && is_set(self.joined.as_slice(), d) {
                 let lost = one_if(self.loses_backup(draft, d));
                 let unheard = one_if(!is_set(self.done.as_slice(), d));

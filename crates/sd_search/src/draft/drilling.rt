@@ -106,12 +106,14 @@ impl DraftDrill {
 
     /// Notes the bound of a device under each domain that spares it.
     fn note_calm(&mut self, topo: &Topology, d: u32) {
-        let bound = self.bound_by(topo, d, self.recovering.calm_of(d));
+        let recovery = self.recovering.calm_of(d);
+        let bound = self.bound_by(topo, d, recovery);
         set_entry(self.calm.as_mut_slice(), d, bound);
-        if bound.is_some_and(|bound| bound > self.all.greatest) {
+        let before = self.all.greatest;
+        self.all.add(bound);
+        if self.all.greatest > before {
             self.highest = d;
         }
-        self.all.add(bound);
     }
 
     /// An accepted draft is drilled next.
@@ -152,9 +154,11 @@ impl DraftDrill {
 
     /// A device has another bound than its calm one.
     fn set_bound(&mut self, topo: &Topology, bounds: &mut Bounds, d: u32) {
-        bounds.take_away(self.calm_of(d));
+        let calm = self.calm_of(d);
+        bounds.take_away(calm);
         let recovery = self.recovering.of(d);
-        bounds.add(self.bound_by(topo, d, recovery));
+        let bound = self.bound_by(topo, d, recovery);
+        bounds.add(bound);
     }
 
     /// The bounds while things of a domain fail.
@@ -162,8 +166,7 @@ impl DraftDrill {
         let mut bounds = self.all;
         bounds.greatest = self.greatest_spared(topo);
         for place in 0..self.recovering.struck.hit.len() {
-            if let Some(d) = self.recovering.struck.hit.get(place) {
-                let d = *d;
+            if let Some(d) = self.recovering.struck.hit_at(place) {
                 self.set_bound(topo, &mut bounds, d);
             }
         }

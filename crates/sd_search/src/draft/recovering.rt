@@ -195,7 +195,9 @@ impl Recovering {
     fn settle_some(&mut self, topo: &Topology, draft: &Draft) -> bool {
         let mut any_left = false;
         for place in 0..self.struck.hit.len() {
-            let d = self.struck.hit[place];
+            let Some(d) = self.struck.hit_at(place) else {
+                return any_left;
+            };
             if !is_set(self.is_settled.as_slice(), d) {
                 match self.settle(topo, draft, d) {
                     Some(recovery) => {

@@ -34,6 +34,14 @@ impl Struck {
         is_set(self.is_hit.as_slice(), d)
     }
 
+    /// One of the devices that are hit, by its place.
+    pub(crate) fn hit_at(&self, place: usize) -> Option<u32> {
+        match self.hit.get(place) {
+            Some(d) => Some(*d),
+            None => None,
+        }
+    }
+
     /// A device is hit.
     fn hit(&mut self, d: u32) -> Result<(), NoMemory> {
         if !self.hits(d) {
@@ -85,14 +93,12 @@ impl Struck {
         self.failing.flag(ground, domain, true);
         self.hit_first(ground.topo, children, domain)?;
         for place in 0..ground.topo.devices() as usize {
-            match self.hit.get(place) {
-                // a way that comes to the backup root ends there
-                Some(d) if *d != draft.backup_root => {
-                    let d = *d;
-                    self.hit_below(ground.topo, children, d)?;
-                }
-                Some(_) => {}
-                None => return Ok(()),
+            let Some(d) = self.hit_at(place) else {
+                return Ok(());
+            };
+            // a way that comes to the backup root ends there
+            if d != draft.backup_root {
+                self.hit_below(ground.topo, children, d)?;
             }
         }
         Ok(())
