@@ -164,10 +164,11 @@ impl<'a> Scales<'a> {
 
     /// Drills an accepted draft, under all domains or those that changed.
     fn drill(&mut self, draft: &Draft, only_changed: bool) -> Result<(), NoMemory> {
-        self.drill.set_to(self.topo, draft)?;
-        for place in 0..domain_count(self.topo) {
+        let topo = self.topo;
+        self.drill.set_to(topo, draft)?;
+        for place in 0..domain_count(topo) {
             if !only_changed || self.tally.is_changed(place) {
-                let domain = domain_at(self.topo, place);
+                let domain = domain_at(topo, place);
                 let bounds = self.drill.under(self.ground, draft, domain)?;
                 set_entry(self.bounds.tried.as_mut_slice(), place, bounds);
             }

@@ -9,8 +9,8 @@ abbrev pub invariant-loop-place : goal.invariant-loop-place
 invariant-loop-place l =
     let net = network l.planned.topo.now in
     record {
-      rating : IsRatingUnder net l.planned.plan.now l.budget l.place l.rating;
+      rating : IsRatingUnder net l.planned.plan.now l.fn.budget l.place l.rating;
       missing : l.rating.unbounded ≤ l.place * 4096;
       drill : IsDrillOf net l.planned.plan.now l.drill;
-      budget : l.drill.times.budget ≡ l.budget;
+      budget : l.drill.times.budget ≡ l.fn.budget;
     }

@@ -6,6 +6,6 @@ use Rattle.sd_search.proofs.rating.Rating.with_bounds.Given as goal
 abbrev pub invariant-loop-bound : goal.invariant-loop-bound
 invariant-loop-bound l =
     record {
-      unbounded : l.rating.unbounded ≡ l.self.unbounded + unbounded (take l.bound-index l.bounds);
-      greatest : l.rating.greatest ≡ max l.self.greatest (greatest (take l.bound-index l.bounds));
+      unbounded : l.rating.unbounded ≡ l.fn.self.unbounded + unbounded (take l.bound-index l.bounds);
+      greatest : l.rating.greatest ≡ max l.fn.self.greatest (greatest (take l.bound-index l.bounds));
     }
