@@ -1,5 +1,5 @@
 -- What it means for a search that the greedy rule fails.
-use Rattle.std.proofs.Common.{ℕ, Option, None, Some, subst}
+use Rattle.std.proofs.Common.{◌≡◌, ℕ, Option, None, Some, inl, inr, subst}
 use Rattle.sd_plan.specs.topo.Network.{Network}
 use Rattle.sd_plan.specs.declared.Absent.{Absent}
 use Rattle.sd_plan.specs.declared.Plan.{Plan}
@@ -10,7 +10,8 @@ use Rattle.sd_checker.specs.declared.Breach.{Breach}
 use Rattle.sd_planner.specs.Greedy.{IsGreedy}
 use Rattle.sd_planner.specs.Planning.{IsPlanned}
 use Rattle.sd_planner.specs.declared.Planned.TheVariants as planned
-use Rattle.sd_search.specs.Finds.{FailsFrom, GreedyFails, IsFound, IsJudged, IsTrial}
+use Rattle.sd_drill.specs.declared.Budget.{Budget}
+use Rattle.sd_search.specs.Finds.{BeatsGreedy, FailsFrom, GreedyFails, IsAsGood, IsFound, IsJudged, IsNoneWorse, IsTrial}
 use Rattle.sd_search.specs.declared.found.Found.{Found}
 use Rattle.sd_search.specs.declared.found.Found.TheVariants as found
 
@@ -30,3 +31,19 @@ pub none_either : (net : Network) (absent : Absent) (root : Option ℕ) (what : 
     → IsFound net absent root what
 none_either net absent root (found.Plan plan) fails judged = judged
 none_either net absent root (found.NoPlan plan breach) fails judged = (judged, fails)
+
+-- no greedy plan is better where none is accepted
+pub none_worse : (net : Network) (absent : Absent) (root : Option ℕ) (budget : Budget) (what : Found) → GreedyFails net absent root
+    → IsNoneWorse net absent root budget what
+none_worse net absent root budget (found.Plan plan) fails = inl fails
+none_worse net absent root budget (found.NoPlan plan breach) fails = fails
+
+beats : (net : Network) (absent : Absent) (root : Option ℕ) (budget : Budget) (first plan : Plan) → IsTrial net absent root (Some first)
+    → IsAsGood net budget first plan → BeatsGreedy net absent root budget plan
+beats net absent root budget first plan (wanted, accepted, greedy) good = inr (first, greedy, accepted, good)
+
+-- a plan that is as good as the first greedy one that is accepted
+pub as_good : (net : Network) (absent : Absent) (root : Option ℕ) (budget : Budget) (trial : Option Plan) (first plan : Plan) → trial ≡ Some first
+    → IsTrial net absent root trial → IsAsGood net budget first plan → BeatsGreedy net absent root budget plan
+as_good net absent root budget trial first plan is tried good =
+    beats net absent root budget first plan (subst (λ (t : Option Plan). IsTrial net absent root t) is tried) good

@@ -1,5 +1,5 @@
 -- What a search ends with, whatever it tried.
-use Rattle.std.specs.Prelude.{◌≡◌, ℕ, ◌+◌, ◌*◌, All, Option, None, Some, IfSome}
+use Rattle.std.specs.Prelude.{◌≡◌, ℕ, ◌+◌, ◌*◌, ◌⊎◌, All, slice_get, take, Option, None, Some, IfSome}
 use Rattle.sd_plan.specs.topo.Network.{Network, greatest_up}
 use Rattle.sd_plan.specs.Plans.{Fits}
 use Rattle.sd_plan.specs.declared.Absent.{Absent}
@@ -7,6 +7,8 @@ use Rattle.sd_plan.specs.declared.Plan.{Plan}
 use Rattle.sd_checker.specs.check_root.Timing.{silence}
 use Rattle.sd_checker.specs.Verdicts.{IsAccepted, IsBreach}
 use Rattle.sd_planner.specs.Greedy.{IsGreedy, IsLeastWait}
+use Rattle.sd_drill.specs.declared.Budget.{Budget}
+use Rattle.sd_search.specs.Ratings.{IsNoWorse}
 use Rattle.sd_search.specs.declared.found.Found.{Found}
 use Rattle.sd_search.specs.declared.found.Found.TheVariants as found
 
@@ -42,7 +44,27 @@ abbrev pub IsFound : Network → Absent → Option ℕ → Found → Type 0
 IsFound net absent root (found.Plan plan) = IsJudged net absent root (found.Plan plan)
 IsFound net absent root (found.NoPlan plan breach) = IsJudged net absent root (found.NoPlan plan breach) × GreedyFails net absent root
 
--- a wanted plan that is accepted, from the greedy rule alone; or it fails
+-- the greedy plan from the root that is given, or else from the first candidate from which it is accepted
+abbrev pub IsFirstGreedy : Network → Absent → Option ℕ → Plan → Type 0
+IsFirstGreedy net absent (Some root) plan = IsGreedy net root absent plan
+IsFirstGreedy net absent None plan =
+    (k : ℕ) × (root : ℕ) × (slice_get net.roots k ≡ Some root) × All (FailsFrom net absent) (take k net.roots) × IsGreedy net root absent plan
+
+-- that plan, which is wanted and accepted; or the greedy rule fails
 abbrev pub IsTrial : Network → Absent → Option ℕ → Option Plan → Type 0
-IsTrial net absent root (Some plan) = IsWanted net absent root plan × IsAccepted net plan
+IsTrial net absent root (Some plan) = IsWanted net absent root plan × IsAccepted net plan × IsFirstGreedy net absent root plan
 IsTrial net absent root None = GreedyFails net absent root
+
+-- the plan is another one itself, or no worse by the drill
+abbrev pub IsAsGood : Network → Budget → Plan → Plan → Type 0
+IsAsGood net budget other plan = (plan ≡ other) ⊎ IsNoWorse net budget other plan
+
+-- the greedy rule fails, or the plan is as good as the first greedy one that is accepted
+abbrev pub BeatsGreedy : Network → Absent → Option ℕ → Budget → Plan → Type 0
+BeatsGreedy net absent root budget plan =
+    GreedyFails net absent root ⊎ ((greedy : Plan) × IsFirstGreedy net absent root greedy × IsAccepted net greedy × IsAsGood net budget greedy plan)
+
+-- a plan that is found is as good as the first greedy one that is accepted, if one is
+abbrev pub IsNoneWorse : Network → Absent → Option ℕ → Budget → Found → Type 0
+IsNoneWorse net absent root budget (found.Plan plan) = BeatsGreedy net absent root budget plan
+IsNoneWorse net absent root budget (found.NoPlan plan breach) = GreedyFails net absent root

@@ -1,1 +1,2 @@
+pub mod Ratings
 pub mod Finds

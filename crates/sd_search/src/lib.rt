@@ -3,9 +3,11 @@
 #![tactic(auto)]
 
 mod candidates;
+mod domains;
 pub mod draft;
 mod found;
 mod moves;
+mod rating;
 mod searching;
 mod trials;
 mod weight;

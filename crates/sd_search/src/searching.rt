@@ -1,6 +1,6 @@
 //! The search: the greedy rule under each pair of roots, and then moves from plan to plan.
 ghost use Rattle.std.specs.Prelude.{◌≡◌, ◌<◌, length, IfOk, IfSome};
-ghost use Rattle.sd_search.specs.Finds.{HasLeastWaits, IsFound, IsJudged, IsWanted};
+ghost use Rattle.sd_search.specs.Finds.{HasLeastWaits, IsAsGood, IsFound, IsJudged, IsNoneWorse, IsWanted};
 ghost use Rattle.sd_drill.specs.Budgets.{IsBudget};
 ghost use Rattle.sd_plan.specs.Plans.{Fits};
 ghost use Rattle.sd_planner.specs.Absences.{IsAbsentOf};
@@ -11,6 +11,7 @@ use crate::candidates::Candidates;
 use crate::draft::{Change, Draft, Greedy, Ground, Parallel};
 use crate::found::{Found, judge, plan_of};
 use crate::moves::Mover;
+use crate::rating::is_no_worse;
 use crate::trials::try_greedy;
 use crate::weight::{Scales, Trial, Weight};
 use sd_drill::Budget;
@@ -159,7 +160,6 @@ fn best_draft(
 ) -> Result<Draft, NoMemory>
     requires absent { IsAbsentOf (network topo.now) absent.now }
     requires frame { Fits (network topo.now) frame.now }
-    requires budget { IsBudget settings.budget }
 {
     let ground = Ground::new(alloc, topo, absent)?;
     let candidates = Candidates::new(alloc, &ground, root)?;
@@ -233,7 +233,6 @@ fn search_from(
     requires frame { Fits (network topo.now) frame.now }
     requires same { frame.now.absent ≡ absent.now }
     requires waits { HasLeastWaits (network topo.now) frame.now }
-    requires budget { IsBudget settings.budget }
     ensures { IfOk result (IsJudged (network topo.now) absent.now root) }
 {
     let draft = best_draft(alloc, topo, absent, root, frame, settings)?;
@@ -241,7 +240,13 @@ fn search_from(
     judge(alloc, topo, plan)
 }
 
-/// The accepted plan that a search comes to from an accepted plan.
+/// Whether two plans have the same roots and the same hops.
+fn has_same_hops(a: &Plan, b: &Plan) -> bool {
+    a.root == b.root && a.backup_root == b.backup_root && a.rows.as_slice() == b.rows.as_slice()
+}
+
+/// The accepted plan that a search comes to from an accepted plan: that one itself, or one that is no
+/// worse by the drill.
 fn refine(
     alloc: Global,
     topo: &Topology,
@@ -257,19 +262,23 @@ fn refine(
     requires budget { IsBudget settings.budget }
     ensures wanted { IfOk result (IsWanted (network topo.now) absent.now root) }
     ensures accepted { IfOk result (IsAccepted (network topo.now)) }
+    ensures good { IfOk result (IsAsGood (network topo.now) settings.budget first) }
 {
-    match search_from(alloc, topo, absent, root, &first, settings)? {
-        Found::Plan(plan) => Ok(plan),
-        // a search keeps its first plan until it has a better one
-        Found::NoPlan(_, _) => Ok(first),
+    // a search keeps its first plan until it has a better one
+    let Found::Plan(plan) = search_from(alloc, topo, absent, root, &first, settings)? else {
+        return Ok(first);
+    };
+    if has_same_hops(&plan, &first) || !is_no_worse(alloc, topo, &plan, &first, settings.budget)? {
+        return Ok(first);
     }
+    Ok(plan)
 }
 
 /// Searches for a plan without what is absent. Where a root is given the plan has that root, else
 /// any two of the candidates may be its roots. A plan is found wherever the greedy plan from such a
-/// root is accepted. Each plan has the least waits that the timing condition allows. The same settings
-/// over the same topology give the same plan.
-#[tactic(auto, using(crate::proofs::Greedy::none_either))]
+/// root is accepted, and it is no worse by the drill than the first of these. Each plan has the least
+/// waits that the timing condition allows. The same settings over the same topology give the same plan.
+#[tactic(auto, using(crate::proofs::Greedy::none_either, crate::proofs::Greedy::none_worse))]
 pub fn search(
     alloc: Global,
     topo: &Topology,
@@ -280,7 +289,8 @@ pub fn search(
     requires absent { IsAbsentOf (network topo.now) absent.now }
     requires root { IfSome root (λ r. r < length (network topo.now).devices) }
     requires budget { IsBudget settings.budget }
-    ensures { IfOk result (IsFound (network topo.now) absent.now root) }
+    ensures found { IfOk result (IsFound (network topo.now) absent.now root) }
+    ensures good { IfOk result (IsNoneWorse (network topo.now) absent.now root settings.budget) }
 {
     match try_greedy(alloc, topo, absent, root)? {
         Some(first) => Ok(Found::Plan(refine(alloc, topo, absent, root, first, settings)?)),

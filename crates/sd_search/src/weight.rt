@@ -1,23 +1,18 @@
 //! How good a draft is: its breaches, and where it has none, the numbers of its drill.
-ghost use Rattle.std.specs.Prelude.{◌≡◌, ◌<◌, length, IfOk, OnOk};
-ghost use Rattle.sd_checker.specs.Verdicts.{IsAccepted};
-ghost use Rattle.sd_plan.specs.domain.Lone.{IsDomain};
-ghost use Rattle.sd_drill.specs.Budgets.{IsBudget};
-ghost use Rattle.sd_drill.specs.Times.{IsDrillOf};
 ghost use Rattle.sd_plan.specs.Plans.{Fits};
 ghost use Rattle.sd_plan.specs.topo.Topologies.{network};
 ghost use Rattle.std.proofs.Props.{props};
 ghost use Rattle.sd_plan.specs.Props.{IsRow-prop};
 
+use crate::domains::{domain_at, domain_count};
 use crate::draft::tables::{copy_entries, set_entry};
-use crate::draft::{Change, Draft, Ground, Tally, place_of, places};
+use crate::draft::{Bounds, Change, Draft, DraftDrill, Ground, Tally, places};
 use crate::found::plan_of;
 use sd_checker::{Verdict, check};
-use sd_drill::{Budget, Drill};
+use sd_drill::Budget;
 use sd_num::NoMemory;
-use sd_plan::domain::DomainId;
+use sd_plan::Plan;
 use sd_plan::topo::Topology;
-use sd_plan::{IndexedPlan, Plan, WalkIndex};
 use std::alloc::Global;
 use std::mem::swap;
 
@@ -69,37 +64,6 @@ impl Weight {
     }
 }
 
-/// The bounds of all devices under one domain.
-#[derive(Clone, Copy)]
-struct Bounds {
-    unbounded: u64,
-    greatest: u128,
-    sum: u128,
-}
-
-impl Bounds {
-    const NONE: Bounds = Bounds {
-        unbounded: 0,
-        greatest: 0,
-        sum: 0,
-    };
-
-    /// Of these bounds.
-    fn of(bounds: &[Option<u128>]) -> Bounds {
-        let mut all = Bounds::NONE;
-        for bound in bounds {
-            match bound {
-                Some(bound) => {
-                    all.greatest = all.greatest.max(*bound);
-                    all.sum = all.sum.saturating_add(*bound);
-                }
-                None => all.unbounded = all.unbounded.saturating_add(1),
-            }
-        }
-        all
-    }
-}
-
 /// The bounds of two drafts by the place of each domain: of the one that is gone on from, and of the
 /// one that was drilled last.
 #[derive(Drop)]
@@ -144,23 +108,6 @@ impl BoundTable {
     }
 }
 
-/// The bounds under one domain.
-#[tactic(auto, using(sd_drill::proofs::Circles::no_circle))]
-fn bounds_under(
-    alloc: Global,
-    planned: IndexedPlan<'_>,
-    drill: &mut Drill,
-    domain: DomainId,
-) -> Result<Bounds, NoMemory>
-    requires accepted { IsAccepted (network planned.topo.now) planned.plan.now }
-    requires domain { IsDomain (network planned.topo.now) domain }
-    requires drill { IsDrillOf (network planned.topo.now) planned.plan.now drill.old }
-    ensures drill { IsDrillOf (network planned.entry.topo.now) planned.entry.plan.now drill.new }
-{
-    let bounds = drill.worst(alloc, planned, domain)?;
-    Ok(Bounds::of(bounds.as_slice()))
-}
-
 /// A draft that is tried: the one before, and what differs.
 #[derive(Clone, Copy)]
 pub(crate) struct Trial<'a> {
@@ -185,11 +132,10 @@ pub(crate) struct Scales<'a> {
     pub ground: &'a Ground<'a>,
     topo: &'a Topology,
     frame: &'a Plan,
-    budget: Budget,
     tally: Tally,
+    drill: DraftDrill,
     bounds: BoundTable,
     ghost fits: { Fits (network topo.now) frame.now } by { Prim.hlevel (props, IsRow-prop) },
-    ghost within: { IsBudget budget },
 }
 
 impl<'a> Scales<'a> {
@@ -201,79 +147,33 @@ impl<'a> Scales<'a> {
         frame: &'a Plan,
         budget: Budget,
     ) -> Result<Scales<'a>, NoMemory>
-        requires fits { Fits (network topo.now) frame.now }
-        requires budget { IsBudget budget }
+        requires { Fits (network topo.now) frame.now }
     {
         let tally = Tally::new(alloc, ground)?;
+        let drill = DraftDrill::new(alloc, ground, frame, budget)?;
         let bounds = BoundTable::new(alloc, places(ground))?;
         Ok(Scales {
             ground,
             topo,
             frame,
-            budget,
             tally,
+            drill,
             bounds,
         })
     }
 
-    /// Whether the bounds under a domain may differ from those of the draft before.
-    fn is_drilled(&self, domain: DomainId, only_changed: bool) -> bool {
-        !only_changed || self.tally.is_changed(place_of(self.ground, domain))
-    }
-
-    /// Notes the bounds under a domain.
-    fn set_bounds(&mut self, domain: DomainId, bounds: Bounds) {
-        let place = place_of(self.ground, domain);
-        set_entry(self.bounds.tried.as_mut_slice(), place, bounds);
-    }
-
-    /// Drills an accepted plan that is indexed, under all domains or those that changed.
-    fn drill_under(
-        &mut self,
-        alloc: Global,
-        planned: IndexedPlan<'_>,
-        only_changed: bool,
-    ) -> Result<(), NoMemory>
-        requires accepted { IsAccepted (network planned.topo.now) planned.plan.now }
-    {
-        let mut drill = Drill::new(alloc, planned, self.budget)?;
-        for listed in 0..planned.topo.domains() {
-            let domain = DomainId::Listed(listed);
-            if self.is_drilled(domain, only_changed) {
-                let bounds = bounds_under(alloc, planned, &mut drill, domain)?;
-                self.set_bounds(domain, bounds);
-            }
-        }
-        for d in 0..planned.topo.devices() {
-            let domain = DomainId::Device(d);
-            if self.is_drilled(domain, only_changed) {
-                let bounds = bounds_under(alloc, planned, &mut drill, domain)?;
-                self.set_bounds(domain, bounds);
-            }
-        }
-        for link in 0..planned.topo.links() {
-            let domain = DomainId::Link(link);
-            if self.is_drilled(domain, only_changed) {
-                let bounds = bounds_under(alloc, planned, &mut drill, domain)?;
-                self.set_bounds(domain, bounds);
+    /// Drills an accepted draft, under all domains or those that changed.
+    fn drill(&mut self, draft: &Draft, only_changed: bool) -> Result<(), NoMemory> {
+        let topo = self.topo;
+        self.drill.set_to(topo, draft)?;
+        for place in 0..domain_count(topo) {
+            if !only_changed || self.tally.is_changed(place) {
+                let domain = domain_at(topo, place);
+                let bounds = self.drill.under(self.ground, draft, domain)?;
+                set_entry(self.bounds.tried.as_mut_slice(), place, bounds);
             }
         }
         Ok(())
-    }
-
-    /// Drills an accepted plan.
-    fn drill(&mut self, alloc: Global, plan: &Plan, only_changed: bool) -> Result<(), NoMemory>
-        requires fits { Fits (network self.old.topo.now) plan.now }
-        requires accepted { IsAccepted (network self.old.topo.now) plan.now }
-    {
-        let topo = self.topo;
-        let index = WalkIndex::new(alloc, topo, plan)?;
-        let planned = IndexedPlan {
-            topo,
-            plan,
-            index: &index,
-        };
-        self.drill_under(alloc, planned, only_changed)
     }
 
     /// The weight of a draft without a breach that the tally knows.
@@ -291,7 +191,7 @@ impl<'a> Scales<'a> {
                 self.bounds.kept.as_slice(),
             );
         }
-        self.drill(alloc, &plan, only_changed)?;
+        self.drill(trial.draft, only_changed)?;
         self.bounds.is_tried_whole = true;
         Ok(self.bounds.weight())
     }

@@ -1,22 +1,24 @@
 //! How many breaches a draft has: of structure, of the ancestor condition, and under one fault domain.
 //! The checker stops at the first breach, so a search that goes from draft to draft needs a count of
 //! its own. A draft that is without a breach here is still judged by the checker.
+use crate::draft::children::Children;
 use crate::draft::draft::Draft;
-use crate::draft::failing::Failing;
 use crate::draft::ground::Ground;
+use crate::draft::struck::Struck;
 use crate::draft::tables::{clear_flags, is_set, no_flags, push, set_entry};
 use sd_num::NoMemory;
 use sd_plan::Hop;
 use sd_plan::domain::DomainId;
 use std::alloc::Global;
 
-/// Room for counting under a domain.
+/// Room for counting under a domain. It goes over the devices alone that the domain hits: no other one
+/// breaks a condition under it.
 #[derive(Drop)]
 pub(crate) struct Counter {
-    failing: Failing,
-    /// The members that the domain hits.
-    hit: Vec<bool>,
-    /// The members from which each way along hops ends, or that hear the acting end.
+    children: Children,
+    struck: Struck,
+    /// Of those that are hit, the members from which each way along hops ends, or that hear the acting
+    /// end.
     done: Vec<bool>,
     /// The members that the acting end is joined to.
     joined: Vec<bool>,
@@ -33,56 +35,33 @@ impl Counter {
     pub(crate) fn new(alloc: Global, ground: &Ground<'_>) -> Result<Counter, NoMemory> {
         let devices = ground.topo.devices();
         Ok(Counter {
-            failing: Failing::new(alloc, ground)?,
-            hit: no_flags(alloc, devices)?,
+            children: Children::new(alloc, ground.topo)?,
+            struck: Struck::new(alloc, ground)?,
             done: no_flags(alloc, devices)?,
             joined: no_flags(alloc, devices)?,
             waiting: Vec::new(alloc),
         })
     }
 
-    /// How many breaches there are under a domain, of a draft without a breach of structure.
+    /// A draft is counted next.
+    pub(crate) fn set_to(&mut self, ground: &Ground<'_>, draft: &Draft) {
+        self.children.set_to(ground.topo, draft);
+    }
+
+    /// How many breaches there are under a domain, of the draft that it was set to, which has no breach
+    /// of structure.
     pub(crate) fn under(
         &mut self,
         ground: &Ground<'_>,
         draft: &Draft,
         domain: DomainId,
     ) -> Result<u64, NoMemory> {
-        self.failing.flag(ground, domain, true);
+        self.struck.strike(ground, &self.children, draft, domain)?;
         let roots = self.root_breaches(ground, draft);
-        self.note_hit(ground, draft);
         let loops = self.loop_breaches(ground, draft);
         let others = self.hearing_breaches(ground, draft)?;
-        self.failing.flag(ground, domain, false);
+        self.struck.mend(ground, domain);
         Ok(roots.saturating_add(loops).saturating_add(others))
-    }
-
-    /// Whether the way from a device along primary hops, up to the first root, has something that fails.
-    fn is_hit(&self, ground: &Ground<'_>, draft: &Draft, d: u32) -> bool {
-        let mut here = d;
-        for _ in 0..ground.topo.params().depth {
-            match draft.primary(here) {
-                Some(hop) => {
-                    if self.failing.has_of(hop) {
-                        return true;
-                    }
-                    if draft.is_either_root(hop.parent) {
-                        return false;
-                    }
-                    here = hop.parent;
-                }
-                None => return false,
-            }
-        }
-        false
-    }
-
-    /// Notes which devices are hit.
-    fn note_hit(&mut self, ground: &Ground<'_>, draft: &Draft) {
-        for d in 0..ground.topo.devices() {
-            let hit = self.is_hit(ground, draft, d);
-            set_entry(self.hit.as_mut_slice(), d, hit);
-        }
     }
 
     /// Whether the walk of a device to the root has something that fails, its beginning and the root
@@ -92,8 +71,9 @@ impl Counter {
         for _ in 0..ground.topo.params().depth {
             match draft.primary(here) {
                 Some(hop) => {
-                    let is_inner = hop.parent != draft.root && self.failing.has_device(hop.parent);
-                    if self.failing.has_link(hop.link) || is_inner {
+                    let is_inner = hop.parent != draft.root
+                        && self.struck.failing.has_device(hop.parent);
+                    if self.struck.failing.has_link(hop.link) || is_inner {
                         return true;
                     }
                     here = hop.parent;
@@ -106,13 +86,13 @@ impl Counter {
 
     /// Whether both ways between the two roots fail, or both roots.
     fn root_breaches(&self, ground: &Ground<'_>, draft: &Draft) -> u64 {
-        let root_fails = self.failing.has_device(draft.root);
-        let both = root_fails && self.failing.has_device(draft.backup_root);
+        let root_fails = self.struck.failing.has_device(draft.root);
+        let both = root_fails && self.struck.failing.has_device(draft.backup_root);
         let first_fails = root_fails || self.fails_on_walk(ground, draft, draft.backup_root);
         let second_fails = match draft.backup(draft.backup_root) {
             Some(hop) => {
-                self.failing.has_link(hop.link)
-                    || (hop.parent != draft.root && self.failing.has_device(hop.parent))
+                self.struck.failing.has_link(hop.link)
+                    || (hop.parent != draft.root && self.struck.failing.has_device(hop.parent))
                     || self.fails_on_walk(ground, draft, hop.parent)
             }
             None => true,
@@ -120,25 +100,39 @@ impl Counter {
         one_if(both).saturating_add(one_if(first_fails && second_fails))
     }
 
-    /// Whether each way from a device along its hops ends at devices that are done.
-    fn ends_done(&self, draft: &Draft, d: u32) -> bool {
-        let first = match draft.primary(d) {
-            Some(hop) => is_set(self.done.as_slice(), hop.parent),
-            None => true,
-        };
-        let second = match draft.backup(d) {
-            Some(hop) if is_set(self.hit.as_slice(), d) => is_set(self.done.as_slice(), hop.parent),
-            _ => true,
-        };
-        first && second
+    /// Notes that no device that is hit is done.
+    fn begin(&mut self) {
+        for d in &self.struck.hit {
+            set_entry(self.done.as_mut_slice(), *d, false);
+        }
     }
 
-    /// Marks the devices whose ways all end, and answers how many are left.
+    /// Whether a device is a member that is done, or is not hit.
+    fn is_done(&self, ground: &Ground<'_>, d: u32) -> bool {
+        ground.is_member(d) && (!self.struck.hits(d) || is_set(self.done.as_slice(), d))
+    }
+
+    /// Whether each way from a device that is hit along its hops ends at devices that are done.
+    fn ends_done(&self, ground: &Ground<'_>, draft: &Draft, d: u32) -> bool {
+        let Some(row) = draft.row(d) else {
+            return true;
+        };
+        let first = self.is_done(ground, row.primary.parent);
+        match row.backup {
+            Some(hop) => first && self.is_done(ground, hop.parent),
+            None => first,
+        }
+    }
+
+    /// Marks the devices that are hit whose ways all end, and answers how many are left.
     fn peel(&mut self, ground: &Ground<'_>, draft: &Draft) -> u64 {
         let mut left = 0;
-        for d in 0..ground.topo.devices() {
-            if ground.is_member(d) && !is_set(self.done.as_slice(), d) {
-                if draft.is_either_root(d) || self.ends_done(draft, d) {
+        for place in 0..self.struck.hit.len() {
+            let Some(d) = self.struck.hit_at(place) else {
+                return left;
+            };
+            if !is_set(self.done.as_slice(), d) {
+                if draft.is_either_root(d) || self.ends_done(ground, draft, d) {
                     set_entry(self.done.as_mut_slice(), d, true);
                 } else {
                     left = u64::saturating_add(left, 1);
@@ -150,7 +144,7 @@ impl Counter {
 
     /// One, where hops lead in a circle.
     fn loop_breaches(&mut self, ground: &Ground<'_>, draft: &Draft) -> u64 {
-        clear_flags(self.done.as_mut_slice());
+        self.begin();
         let mut left = u64::MAX;
         for _ in 0..ground.topo.devices() {
             let now = self.peel(ground, draft);
@@ -170,28 +164,31 @@ impl Counter {
         }
     }
 
-    /// Whether a device hears the acting end, as far as it is known which others do.
-    fn hears(&self, draft: &Draft, acting: u32, d: u32) -> bool {
-        if d == acting || d == draft.backup_root || !is_set(self.hit.as_slice(), d) {
+    /// Whether a device that is hit hears the acting end, as far as it is known which others do.
+    fn hears(&self, ground: &Ground<'_>, draft: &Draft, acting: u32, d: u32) -> bool {
+        if d == acting || d == draft.backup_root {
             return true;
         }
         match self.next_hop(draft, d) {
-            Some(hop) => !self.failing.has_of(hop) && is_set(self.done.as_slice(), hop.parent),
+            Some(hop) => !self.struck.failing.has_of(hop) && self.is_done(ground, hop.parent),
             None => false,
         }
     }
 
     /// Whether a device is a member that does not fail.
     fn is_left(&self, ground: &Ground<'_>, d: u32) -> bool {
-        ground.is_member(d) && !self.failing.has_device(d)
+        ground.is_member(d) && !self.struck.failing.has_device(d)
     }
 
-    /// Marks the devices that hear the acting end, and answers how many do not.
+    /// Marks the devices that are hit and hear the acting end, and answers how many do not.
     fn listen(&mut self, ground: &Ground<'_>, draft: &Draft, acting: u32) -> u64 {
         let mut deaf = 0;
-        for d in 0..ground.topo.devices() {
+        for place in 0..self.struck.hit.len() {
+            let Some(d) = self.struck.hit_at(place) else {
+                return deaf;
+            };
             if self.is_left(ground, d) && !is_set(self.done.as_slice(), d) {
-                if self.hears(draft, acting, d) {
+                if self.hears(ground, draft, acting, d) {
                     set_entry(self.done.as_mut_slice(), d, true);
                 } else {
                     deaf = u64::saturating_add(deaf, 1);
@@ -201,9 +198,9 @@ impl Counter {
         deaf
     }
 
-    /// Marks all devices that hear the acting end.
+    /// Marks all devices that are hit and hear the acting end, and answers how many do not.
     fn note_hearing(&mut self, ground: &Ground<'_>, draft: &Draft, acting: u32) -> u64 {
-        clear_flags(self.done.as_mut_slice());
+        self.begin();
         let mut deaf = u64::MAX;
         for _ in 0..ground.topo.devices() {
             let now = self.listen(ground, draft, acting);
@@ -219,7 +216,8 @@ impl Counter {
     fn join_from(&mut self, ground: &Ground<'_>, d: u32) -> Result<(), NoMemory> {
         for neighbour in ground.neighbours(d) {
             let next = neighbour.device;
-            let joins = !self.failing.has_link(neighbour.link) && !self.failing.has_device(next);
+            let joins = !self.struck.failing.has_link(neighbour.link)
+                && !self.struck.failing.has_device(next);
             if joins && !is_set(self.joined.as_slice(), next) {
                 set_entry(self.joined.as_mut_slice(), next, true);
                 push(&mut self.waiting, next)?;
@@ -247,18 +245,16 @@ impl Counter {
     fn loses_backup(&self, draft: &Draft, d: u32) -> bool {
         match draft.backup(d) {
             Some(hop) => {
-                !draft.is_either_root(d)
-                    && is_set(self.hit.as_slice(), d)
-                    && self.failing.has_of(hop)
+                !draft.is_either_root(d) && self.struck.hits(d) && self.struck.failing.has_of(hop)
             }
             None => false,
         }
     }
 
-    /// How many devices are left, lose both hops or do not hear the acting end.
+    /// Whether a device is left that loses both hops.
     fn is_any_troubled(&self, ground: &Ground<'_>, draft: &Draft) -> bool {
-        for d in 0..ground.topo.devices() {
-            if self.is_left(ground, d) && self.loses_backup(draft, d) {
+        for d in &self.struck.hit {
+            if self.is_left(ground, *d) && self.loses_backup(draft, *d) {
                 return true;
             }
         }
@@ -267,18 +263,23 @@ impl Counter {
 
     /// How many devices that the acting end is joined to lose their backup, or do not hear it.
     fn hearing_breaches(&mut self, ground: &Ground<'_>, draft: &Draft) -> Result<u64, NoMemory> {
-        let acting = if self.failing.has_device(draft.root) {
+        let acting = if self.struck.failing.has_device(draft.root) {
             draft.backup_root
         } else {
             draft.root
         };
         let deaf = self.note_hearing(ground, draft, acting);
-        if self.failing.has_device(acting) || (deaf == 0 && !self.is_any_troubled(ground, draft)) {
+        if self.struck.failing.has_device(acting)
+            || (deaf == 0 && !self.is_any_troubled(ground, draft))
+        {
             return Ok(0);
         }
         self.note_joined(ground, acting)?;
         let mut count = 0;
-        for d in 0..ground.topo.devices() {
+        for place in 0..self.struck.hit.len() {
+            let Some(d) = self.struck.hit_at(place) else {
+                return Ok(count);
+            };
             if self.is_left(ground, d) && is_set(self.joined.as_slice(), d) {
                 let lost = one_if(self.loses_backup(draft, d));
                 let unheard = one_if(!is_set(self.done.as_slice(), d));

@@ -4,13 +4,33 @@ use crate::draft::tables::{is_set, no_flags, set_entry};
 use sd_num::NoMemory;
 use sd_plan::Hop;
 use sd_plan::domain::DomainId;
+use sd_plan::topo::Topology;
 use std::alloc::Global;
+use std::slice;
 
 /// What fails with one domain.
 #[derive(Drop)]
 pub(crate) struct Failing {
     devices: Vec<bool>,
     links: Vec<bool>,
+}
+
+/// The devices of a domain.
+pub(crate) fn devices_in<'a>(topo: &'a Topology, domain: &'a DomainId) -> &'a [u32] {
+    match domain {
+        DomainId::Listed(listed) if *listed < topo.domains() => topo.domain_devices(*listed),
+        DomainId::Device(d) => slice::from_ref(d),
+        _ => &[],
+    }
+}
+
+/// The links of a domain.
+pub(crate) fn links_in<'a>(topo: &'a Topology, domain: &'a DomainId) -> &'a [u32] {
+    match domain {
+        DomainId::Listed(listed) if *listed < topo.domains() => topo.domain_links(*listed),
+        DomainId::Link(link) => slice::from_ref(link),
+        _ => &[],
+    }
 }
 
 impl Failing {
@@ -24,19 +44,11 @@ impl Failing {
 
     /// Flags the things of a domain, or takes their flags away.
     pub(crate) fn flag(&mut self, ground: &Ground<'_>, domain: DomainId, fails: bool) {
-        match domain {
-            DomainId::Device(d) => set_entry(self.devices.as_mut_slice(), d, fails),
-            DomainId::Link(link) => set_entry(self.links.as_mut_slice(), link, fails),
-            DomainId::Listed(listed) => {
-                if listed < ground.topo.domains() {
-                    for d in ground.topo.domain_devices(listed) {
-                        set_entry(self.devices.as_mut_slice(), *d, fails);
-                    }
-                    for link in ground.topo.domain_links(listed) {
-                        set_entry(self.links.as_mut_slice(), *link, fails);
-                    }
-                }
-            }
+        for d in devices_in(ground.topo, &domain) {
+            set_entry(self.devices.as_mut_slice(), *d, fails);
+        }
+        for link in links_in(ground.topo, &domain) {
+            set_entry(self.links.as_mut_slice(), *link, fails);
         }
     }
 

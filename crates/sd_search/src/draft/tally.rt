@@ -195,6 +195,7 @@ impl Tally {
             return Ok(structure.saturating_mul(STRUCTURE));
         }
         self.choose_changed(ground, before, draft, change)?;
+        self.counter.set_to(ground, draft);
         let mut count = ancestor_breaches(ground, draft).saturating_add(self.sum_of_others());
         for turn in 0..self.chosen.len() {
             if count > limit {
