@@ -1,0 +1,167 @@
+-- What is kept says one device, and says none once a byte of it is another.
+use Rattle.std.specs.Prelude.{ℕ, zero, suc, ◌+◌, ◌-◌, ◌*◌, ◌^◌, ◌<◌, ◌≤◌, ◌≢◌, ◌⊎◌, List, [], ◌∷◌, ◌++◌, length, get_or}
+use Rattle.std.specs.List.{flat_map}
+use Rattle.std.proofs.Common.{◌≡◌, refl, sym, ap, ◌∙◌, subst, inl, inr, ⊎_elim, arith, append_assoc, length-append}
+use Rattle.std.proofs.lemmas.List.{append_cancel_left}
+use Rattle.sd_device_c.specs.declared.plain.PlainDevice.{PlainDevice}
+use Rattle.sd_device_c.specs.declared.plain.PlainPort.{PlainPort}
+use Rattle.sd_device_c.specs.Answers.{IsDevice}
+use Rattle.sd_device_c.specs.Crc.{crc_of}
+use Rattle.sd_device_c.specs.Kept.{little, title, header_bytes, state_bytes, port_bytes, body_bytes, checked, kept_bytes, kept_size, Says, AreKept, AreInTime, SaysOnly, IsSpoiled, IsProof, IsRead}
+use Rattle.sd_device_c.proofs.Bytes.{little_same, length_little, state_same, length_state, ports_same, length_ports}
+use Rattle.sd_device_c.proofs.Checksum.{AreBytes, at_front, differs}
+
+-- two lists whose ends are as long
+pub ends_same : {X : Type 0} (a b x y : List X) → length x ≡ length y → a ++ x ≡ b ++ y → (a ≡ b) × (x ≡ y)
+ends_same [] [] x y long same = (refl, same)
+ends_same [] (b ∷ bs) x y long same =
+    absurd (omega (arith, long, ap length same, length-append bs y))
+ends_same (a ∷ as) [] x y long same =
+    absurd (omega (arith, long, ap length same, length-append as x))
+ends_same (a ∷ as) (b ∷ bs) x y long same =
+    let heads : a ≡ b = cc in
+    let tails : as ++ x ≡ bs ++ y = cc in
+    let rest = ends_same as bs x y long tails in
+    (λ i. heads i ∷ rest.0 i, rest.1)
+
+pub checked_same : (a b : List ℕ) → checked a ≡ checked b → (a ≡ b) × (crc_of a ≡ crc_of b)
+unfolding checked
+checked_same a b same =
+    let ends = ends_same a b (little 4 (crc_of a)) (little 4 (crc_of b)) (length_little 4 (crc_of a) ∙ sym (length_little 4 (crc_of b))) same in
+    (ends.0, ap crc_of ends.0)
+
+pub header_same : (n m : ℕ) (x y : List ℕ) → header_bytes n ++ x ≡ header_bytes m ++ y → (n ≡ m) × (x ≡ y)
+unfolding header_bytes
+header_same n m x y same =
+    little_same 7 n m x y (append_cancel_left title (little 8 n ++ x) (little 8 m ++ y) same)
+
+pub length_header : (n : ℕ) → length (header_bytes n) ≡ 16
+unfolding header_bytes
+length_header n = length-append title (little 8 n) ∙ ap (λ (k : ℕ). 8 + k) (length_little 8 n)
+
+pub kept_same : (a b : PlainDevice) (as bs : List PlainPort) (al at bl bt : ℕ) → kept_bytes a as al at ≡ kept_bytes b bs bl bt
+    → (a ≡ b) × (as ≡ bs) × (al ≡ bl) × (at ≡ bt)
+unfolding kept_bytes body_bytes
+kept_same a b as bs al at bl bt same =
+    let bodies = checked_same (body_bytes a as al at) (body_bytes b bs bl bt) same in
+    let headers =
+    header_same (length as) (length bs) (state_bytes a al at ++ flat_map port_bytes as) (state_bytes b bl bt ++ flat_map port_bytes bs) bodies.0 in
+    let states = state_same a b al at bl bt (flat_map port_bytes as) (flat_map port_bytes bs) headers.1 in
+    (states.0, ports_same as bs headers.0 states.3, states.1, states.2)
+
+-- the place of an element is in the one part or in the other
+record Inside (part rest before : List ℕ) (x : ℕ) (after : List ℕ) : Type 0 where
+  more : List ℕ
+  part_is : part ≡ before ++ x ∷ more
+  rest_is : after ≡ more ++ rest
+
+record Past (part rest before : List ℕ) (x : ℕ) (after : List ℕ) : Type 0 where
+  more : List ℕ
+  before_is : before ≡ part ++ more
+  rest_is : rest ≡ more ++ x ∷ after
+
+place : (part rest before : List ℕ) (x : ℕ) (after : List ℕ) → part ++ rest ≡ before ++ x ∷ after
+    → Inside part rest before x after ⊎ Past part rest before x after
+place [] rest before x after same = inr (record { more = before; before_is = refl; rest_is = same })
+place (p ∷ ps) rest [] x after same =
+    let head : p ≡ x = cc in
+    let tail : ps ++ rest ≡ after = cc in
+    inl (record { more = ps; part_is = λ i. head i ∷ ps; rest_is = sym tail })
+place (p ∷ ps) rest (b ∷ bs) x after same =
+    let head : p ≡ b = cc in
+    let tail : ps ++ rest ≡ bs ++ x ∷ after = cc in
+    ⊎_elim
+    (λ (inside : Inside ps rest bs x after).
+        inl (record { more = inside.more; part_is = λ i. head i ∷ inside.part_is i; rest_is = inside.rest_is }))
+    (λ (past : Past ps rest bs x after).
+        inr (record { more = past.more; before_is = λ i. sym head i ∷ past.before_is i; rest_is = past.rest_is }))
+    (place ps rest bs x after tail)
+
+long : (part rest before : List ℕ) (x : ℕ) (after : List ℕ) → part ++ rest ≡ before ++ x ∷ after
+    → length part + length rest ≡ length before + (1 + length after)
+long part rest before x after same =
+    sym (length-append part rest) ∙ ap length same ∙ length-append before (x ∷ after)
+    ∙ omega arith
+
+inside_short : (part rest before : List ℕ) (x : ℕ) (after : List ℕ) → Inside part rest before x after → length before < length part
+inside_short part rest before x after inside =
+    omega (arith, ap length inside.part_is, length-append before (x ∷ inside.more))
+
+past_long : (part rest before : List ℕ) (x : ℕ) (after : List ℕ) → Past part rest before x after → length part ≤ length before
+past_long part rest before x after past =
+    omega (arith, ap length past.before_is, length-append part past.more)
+
+little_only : (k a b : ℕ) → little (suc k) a ≡ little (suc k) b → a ≡ b
+little_only k a b same = (little_same k a b [] [] (ap (λ (xs : List ℕ). xs ++ []) same)).0
+
+both_inside : (a b before after : List ℕ) (x y : ℕ) → AreBytes (checked a) → y < 256
+    → Inside a (little 4 (crc_of a)) before x after → Inside b (little 4 (crc_of b)) before y after → x ≡ y
+unfolding checked
+both_inside a b before after x y bytes y_byte of_a of_b =
+    let ends =
+    ends_same of_a.more of_b.more (little 4 (crc_of a)) (little 4 (crc_of b))
+    (length_little 4 (crc_of a) ∙ sym (length_little 4 (crc_of b))) (sym of_a.rest_is ∙ of_b.rest_is) in
+    let sums : crc_of a ≡ crc_of b = little_only 3 (crc_of a) (crc_of b) ends.1 in
+    let front : AreBytes (before ++ x ∷ of_a.more) =
+    subst (λ (xs : List ℕ). AreBytes xs) of_a.part_is (at_front a (little 4 (crc_of a)) bytes) in
+    differs before of_a.more x y front y_byte
+    (ap crc_of (sym of_a.part_is) ∙ sums ∙ ap crc_of of_b.part_is ∙ ap (λ (m : List ℕ). crc_of (before ++ y ∷ m)) (sym ends.0))
+
+both_past : (a b before after : List ℕ) (x y : ℕ) → length a ≡ length b
+    → Past a (little 4 (crc_of a)) before x after → Past b (little 4 (crc_of b)) before y after → x ≡ y
+both_past a b before after x y lengths of_a of_b =
+    let together : a ++ of_a.more ≡ b ++ of_b.more = sym of_a.before_is ∙ of_b.before_is in
+    let as_long : length of_a.more ≡ length of_b.more =
+    omega (arith, lengths, ap length together, length-append a of_a.more, length-append b of_b.more) in
+    let ends = ends_same a b of_a.more of_b.more as_long together in
+    let sums : of_a.more ++ x ∷ after ≡ of_a.more ++ y ∷ after =
+    sym of_a.rest_is ∙ ap (λ (xs : List ℕ). little 4 (crc_of xs)) ends.0 ∙ of_b.rest_is
+    ∙ ap (λ (m : List ℕ). m ++ y ∷ after) (sym ends.1) in
+    let heads : x ∷ after ≡ y ∷ after = append_cancel_left of_a.more (x ∷ after) (y ∷ after) sums in
+    cc
+
+-- bytes with a right checksum that differ in one byte are the same
+one_byte : (a b before after : List ℕ) (x y : ℕ) → checked a ≡ before ++ x ∷ after → checked b ≡ before ++ y ∷ after
+    → AreBytes (checked a) → y < 256 → x ≡ y
+unfolding checked
+one_byte a b before after x y of_a of_b bytes y_byte =
+    let long_a = long a (little 4 (crc_of a)) before x after of_a in
+    let long_b = long b (little 4 (crc_of b)) before y after of_b in
+    let lengths : length a ≡ length b =
+    omega (arith, long_a, long_b, length_little 4 (crc_of a), length_little 4 (crc_of b)) in
+    ⊎_elim
+    (λ (in_a : Inside a (little 4 (crc_of a)) before x after).
+        ⊎_elim
+        (λ (in_b : Inside b (little 4 (crc_of b)) before y after). both_inside a b before after x y bytes y_byte in_a in_b)
+        (λ (past_b : Past b (little 4 (crc_of b)) before y after).
+            absurd
+            (omega (arith, lengths, inside_short a (little 4 (crc_of a)) before x after in_a, past_long b (little 4 (crc_of b)) before y after past_b)))
+        (place b (little 4 (crc_of b)) before y after of_b))
+    (λ (past_a : Past a (little 4 (crc_of a)) before x after).
+        ⊎_elim
+        (λ (in_b : Inside b (little 4 (crc_of b)) before y after).
+            absurd
+            (omega (arith, lengths, past_long a (little 4 (crc_of a)) before x after past_a, inside_short b (little 4 (crc_of b)) before y after in_b)))
+        (λ (past_b : Past b (little 4 (crc_of b)) before y after). both_past a b before after x y lengths past_a past_b)
+        (place b (little 4 (crc_of b)) before y after of_b))
+    (place a (little 4 (crc_of a)) before x after of_a)
+
+-- what says a device says none once a byte is another
+pub is_proof : (count : ℕ) (kept : List ℕ) (device : PlainDevice) (ports : List PlainPort) (lowered ticked : ℕ)
+    → kept ≡ kept_bytes device ports lowered ticked → AreBytes kept → IsProof count kept
+unfolding kept_bytes
+is_proof count kept device ports lowered ticked is bytes spoiled spoils are =
+    let device_2 = are.0 in
+    let ports_2 = are.1 in
+    let body = body_bytes device ports lowered ticked in
+    let body_2 = body_bytes device_2 ports_2 are.2 are.3 in
+    spoils.differs
+    (sym
+    (one_byte body body_2 spoils.before spoils.after spoils.old_byte spoils.new_byte
+    (sym is ∙ spoils.old_is) (sym are.5.bytes ∙ spoils.new_is)
+    (subst (λ (xs : List ℕ). AreBytes xs) is bytes) spoils.is_byte))
+
+pub says_only : (kept : List ℕ) (device : PlainDevice) (ports : List PlainPort) (lowered ticked : ℕ)
+    → kept ≡ kept_bytes device ports lowered ticked → SaysOnly kept device ports lowered ticked
+says_only kept device ports lowered ticked is d ps l t says =
+    kept_same d device ps ports l t lowered ticked (sym says ∙ is)
