@@ -215,6 +215,12 @@ taken_bytes (suc k) [] bytes i = omega arith
 taken_bytes (suc k) (b ∷ bs) bytes zero = bytes zero
 taken_bytes (suc k) (b ∷ bs) bytes (suc i) = taken_bytes k bs (λ j. bytes (suc j)) i
 
+-- and so is what comes after
+pub dropped_bytes : (k : ℕ) (bs : List ℕ) → ((i : ℕ) → get_or bs i 0 < 256) → (i : ℕ) → get_or (drop k bs) i 0 < 256
+dropped_bytes zero bs bytes i = bytes i
+dropped_bytes (suc k) [] bytes i = omega arith
+dropped_bytes (suc k) (b ∷ bs) bytes i = dropped_bytes k bs (λ j. bytes (suc j)) i
+
 -- what is read of the front of bytes, and the rest
 pub next_8 : (all front rest : List ℕ) (n : ℕ) → n < 2 ^ 64 → 8 ≤ length all → ((i : ℕ) → get_or all i 0 < 256)
     → front ≡ take 8 all → rest ≡ drop 8 all → n ≡ from_le_bytes w64 front → all ≡ little 8 n ++ rest

@@ -1,28 +1,29 @@
 -- What is kept says one device, and says none once a byte of it is another.
-use Rattle.std.specs.Prelude.{ℕ, zero, suc, ◌+◌, ◌-◌, ◌*◌, ◌^◌, ◌<◌, ◌≤◌, ◌≢◌, ◌⊎◌, List, [], ◌∷◌, ◌++◌, length, get_or}
+use Rattle.std.specs.Prelude.{ℕ, zero, suc, ◌+◌, ◌-◌, ◌*◌, ◌^◌, ◌<◌, ◌≤◌, ◌≢◌, ◌⊎◌, List, [], ◌∷◌, ◌++◌, length, get_or, take, drop, Option, Some, None, IfNone}
 use Rattle.std.specs.List.{flat_map}
 use Rattle.std.proofs.Common.{◌≡◌, refl, sym, ap, ◌∙◌, subst, inl, inr, ⊎_elim, arith, append_assoc, length-append}
-use Rattle.std.proofs.lemmas.List.{append_cancel_left}
+use Rattle.std.specs.Int.{w32, from_le_bytes}
+use Rattle.std.proofs.lemmas.List.{append_cancel_left, take-append-drop, length-drop, take_all}
 use Rattle.sd_device_c.specs.declared.plain.PlainDevice.{PlainDevice}
 use Rattle.sd_device_c.specs.declared.plain.PlainPort.{PlainPort}
 use Rattle.sd_device_c.specs.Answers.{IsDevice}
 use Rattle.sd_device_c.specs.Crc.{crc_of}
 use Rattle.sd_device_c.specs.Kept.{little, title, header_bytes, state_bytes, port_bytes, body_bytes, checked, kept_bytes, kept_size, Says, AreKept, AreInTime, SaysOnly, IsSpoiled, IsProof, IsRead}
-use Rattle.sd_device_c.proofs.Bytes.{little_same, length_little, state_same, length_state, ports_same, length_ports}
+use Rattle.sd_device_c.proofs.Bytes.{read_4, dropped_bytes, little_same, length_little, state_same, length_state, ports_same, length_ports}
 use Rattle.sd_device_c.proofs.Checksum.{AreBytes, at_front, differs}
 
 -- two lists whose ends are as long
 pub ends_same : {X : Type 0} (a b x y : List X) → length x ≡ length y → a ++ x ≡ b ++ y → (a ≡ b) × (x ≡ y)
 ends_same [] [] x y long same = (refl, same)
-ends_same [] (b ∷ bs) x y long same =
-    absurd (omega (arith, long, ap length same, length-append bs y))
-ends_same (a ∷ as) [] x y long same =
-    absurd (omega (arith, long, ap length same, length-append as x))
-ends_same (a ∷ as) (b ∷ bs) x y long same =
+ends_same [] (b ∷ more) x y long same =
+    absurd (omega (arith, long, ap length same, length-append more y))
+ends_same (a ∷ rest) [] x y long same =
+    absurd (omega (arith, long, ap length same, length-append rest x))
+ends_same (a ∷ rest) (b ∷ more) x y long same =
     let heads : a ≡ b = cc in
-    let tails : as ++ x ≡ bs ++ y = cc in
-    let rest = ends_same as bs x y long tails in
-    (λ i. heads i ∷ rest.0 i, rest.1)
+    let tails : rest ++ x ≡ more ++ y = cc in
+    let ends = ends_same rest more x y long tails in
+    (λ i. heads i ∷ ends.0 i, ends.1)
 
 pub checked_same : (a b : List ℕ) → checked a ≡ checked b → (a ≡ b) × (crc_of a ≡ crc_of b)
 unfolding checked
@@ -39,15 +40,15 @@ pub length_header : (n : ℕ) → length (header_bytes n) ≡ 16
 unfolding header_bytes
 length_header n = length-append title (little 8 n) ∙ ap (λ (k : ℕ). 8 + k) (length_little 8 n)
 
-pub kept_same : (a b : PlainDevice) (as bs : List PlainPort) (al at bl bt : ℕ) → kept_bytes a as al at ≡ kept_bytes b bs bl bt
-    → (a ≡ b) × (as ≡ bs) × (al ≡ bl) × (at ≡ bt)
+pub kept_same : (a b : PlainDevice) (ps qs : List PlainPort) (al at bl bt : ℕ) → kept_bytes a ps al at ≡ kept_bytes b qs bl bt
+    → (a ≡ b) × (ps ≡ qs) × (al ≡ bl) × (at ≡ bt)
 unfolding kept_bytes body_bytes
-kept_same a b as bs al at bl bt same =
-    let bodies = checked_same (body_bytes a as al at) (body_bytes b bs bl bt) same in
+kept_same a b ps qs al at bl bt same =
+    let bodies = checked_same (body_bytes a ps al at) (body_bytes b qs bl bt) same in
     let headers =
-    header_same (length as) (length bs) (state_bytes a al at ++ flat_map port_bytes as) (state_bytes b bl bt ++ flat_map port_bytes bs) bodies.0 in
-    let states = state_same a b al at bl bt (flat_map port_bytes as) (flat_map port_bytes bs) headers.1 in
-    (states.0, ports_same as bs headers.0 states.3, states.1, states.2)
+    header_same (length ps) (length qs) (state_bytes a al at ++ flat_map port_bytes ps) (state_bytes b bl bt ++ flat_map port_bytes qs) bodies.0 in
+    let states = state_same a b al at bl bt (flat_map port_bytes ps) (flat_map port_bytes qs) headers.1 in
+    (states.0, ports_same ps qs headers.0 states.3, states.1, states.2)
 
 -- the place of an element is in the one part or in the other
 record Inside (part rest before : List ℕ) (x : ℕ) (after : List ℕ) : Type 0 where
@@ -165,3 +166,131 @@ pub says_only : (kept : List ℕ) (device : PlainDevice) (ports : List PlainPort
     → kept ≡ kept_bytes device ports lowered ticked → SaysOnly kept device ports lowered ticked
 says_only kept device ports lowered ticked is d ps l t says =
     kept_same d device ps ports l t lowered ticked (sym says ∙ is)
+
+in_none : {T : Type 0} (result : Option T) (P : Type 0) → P → IfNone result P
+in_none None P p = p
+in_none (Some x) P p = tt
+
+pub no_result : {T : Type 0} (result : Option T) {P : Type 0} → P → IfNone result P
+no_result result p = in_none result _ p
+
+-- what is no body with its checksum is not kept
+pub unchecked : (count : ℕ) (kept : List ℕ) → ((body : List ℕ) → kept ≡ checked body → ⊥) → AreKept count kept → ⊥
+unfolding kept_bytes
+unchecked count kept none are = none (body_bytes are.0 are.1 are.2 are.3) are.5.bytes
+
+-- what is kept after its header
+inner : (count : ℕ) (kept body : List ℕ) → kept ≡ checked body → (are : AreKept count kept)
+    → body ≡ header_bytes count ++ (state_bytes are.0 are.2 are.3 ++ flat_map port_bytes are.1)
+unfolding kept_bytes body_bytes
+inner count kept body is are =
+    (checked_same body (body_bytes are.0 are.1 are.2 are.3) (sym is ∙ are.5.bytes)).0
+    ∙ ap (λ (n : ℕ). header_bytes n ++ (state_bytes are.0 are.2 are.3 ++ flat_map port_bytes are.1)) are.4
+
+pub unheaded : (count : ℕ) (kept body : List ℕ) → kept ≡ checked body → ((rest : List ℕ) → body ≡ header_bytes count ++ rest → ⊥)
+    → AreKept count kept → ⊥
+unheaded count kept body is none are =
+    none (state_bytes are.0 are.2 are.3 ++ flat_map port_bytes are.1) (inner count kept body is are)
+
+rest_of : (count : ℕ) (kept body rest : List ℕ) → kept ≡ checked body → body ≡ header_bytes count ++ rest → (are : AreKept count kept)
+    → rest ≡ state_bytes are.0 are.2 are.3 ++ flat_map port_bytes are.1
+rest_of count kept body rest is headed are =
+    append_cancel_left (header_bytes count) rest (state_bytes are.0 are.2 are.3 ++ flat_map port_bytes are.1)
+    (sym headed ∙ inner count kept body is are)
+
+pub unsized : (count : ℕ) (kept body rest : List ℕ) → kept ≡ checked body → body ≡ header_bytes count ++ rest
+    → (length rest ≡ 298 + 17 * count → ⊥) → AreKept count kept → ⊥
+unsized count kept body rest is headed none are =
+    let long = ap length (rest_of count kept body rest is headed are) in
+    none
+    (omega
+    (arith, long, are.4, length-append (state_bytes are.0 are.2 are.3) (flat_map port_bytes are.1), length_state are.0 are.2 are.3, length_ports are.1))
+
+pub unsound : (count : ℕ) (kept body rest ports : List ℕ) (device : PlainDevice) (lowered ticked : ℕ) → kept ≡ checked body
+    → body ≡ header_bytes count ++ rest → rest ≡ state_bytes device lowered ticked ++ ports → (IsDevice device → ⊥) → AreKept count kept → ⊥
+unsound count kept body rest ports device lowered ticked is headed says none are =
+    let same =
+    state_same are.0 device are.2 are.3 lowered ticked (flat_map port_bytes are.1) ports
+    (sym (rest_of count kept body rest is headed are) ∙ says) in
+    none (subst IsDevice same.0 are.5.sound)
+
+pub is_read : (count : ℕ) (kept body rest ports : List ℕ) (device : PlainDevice) (lowered ticked : ℕ) → kept ≡ checked body
+    → body ≡ header_bytes count ++ rest → rest ≡ state_bytes device lowered ticked ++ ports → length rest ≡ 298 + 17 * count → IsDevice device
+    → IsRead count kept device lowered ticked ports
+is_read count kept body rest ports device lowered ticked is headed says long sound =
+    record {
+      bytes = is ∙ ap checked (headed ∙ ap (λ (xs : List ℕ). header_bytes count ++ xs) says);
+      size =
+          omega
+          (arith, long, ap length says, length-append (state_bytes device lowered ticked) ports, length_state device lowered ticked);
+      sound = sound;
+    }
+
+-- what is read says the device and the ports
+pub says_read : (count : ℕ) (kept bytes : List ℕ) (device : PlainDevice) (ports : List PlainPort) (lowered ticked : ℕ)
+    → IsRead count kept device lowered ticked bytes → bytes ≡ flat_map port_bytes ports → length ports ≡ count → Says kept device ports lowered ticked
+unfolding kept_bytes body_bytes
+says_read count kept bytes device ports lowered ticked read is long =
+    record {
+      bytes =
+          read.bytes
+          ∙ (λ i. checked (header_bytes (sym long i) ++ (state_bytes device lowered ticked ++ is i)));
+      sound = read.sound;
+    }
+
+-- the last four bytes as a number
+pub last_is : (all front back : List ℕ) (n : ℕ) → n < 2 ^ 32 → 4 ≤ length all → ((i : ℕ) → get_or all i 0 < 256)
+    → front ≡ take (length all - 4) all → back ≡ drop (length all - 4) all → n ≡ from_le_bytes w32 back → all ≡ front ++ little 4 n
+last_is all front back n fits long bytes front_is back_is is =
+    let at = length all - 4 in
+    let size : length (drop at all) ≡ 4 = length-drop at all ∙ omega (arith, long) in
+    let read = read_4 (drop at all) n fits size (dropped_bytes at all bytes) (is ∙ ap (from_le_bytes w32) back_is) in
+    sym (take-append-drop at all) ∙ (λ i. sym front_is i ++ sym read i)
+
+pub is_checked : (all front : List ℕ) (n : ℕ) → all ≡ front ++ little 4 n → n ≡ crc_of front → all ≡ checked front
+unfolding checked
+is_checked all front n is right = is ∙ ap (λ (k : ℕ). front ++ little 4 k) right
+
+pub not_checked : (all front : List ℕ) (n : ℕ) → all ≡ front ++ little 4 n → (n ≡ crc_of front → ⊥) → (body : List ℕ) → all ≡ checked body → ⊥
+unfolding checked
+not_checked all front n is wrong body other =
+    let ends =
+    ends_same front body (little 4 n) (little 4 (crc_of body)) (length_little 4 n ∙ sym (length_little 4 (crc_of body))) (sym is ∙ other) in
+    wrong (little_only 3 n (crc_of body) ends.1 ∙ ap crc_of (sym ends.0))
+
+pub too_short : (all : List ℕ) → length all < 4 → (body : List ℕ) → all ≡ checked body → ⊥
+unfolding checked
+too_short all short body is =
+    omega (arith, short, ap length is, length-append body (little 4 (crc_of body)), length_little 4 (crc_of body))
+
+pub title_is : little 8 0x016C6169646E7573 ≡ title
+unfolding little
+title_is = refl
+
+pub is_header : (count : ℕ) (body more rest : List ℕ) (t n : ℕ) → body ≡ little 8 t ++ more → more ≡ little 8 n ++ rest
+    → t ≡ 0x016C6169646E7573 → n ≡ count → body ≡ header_bytes count ++ rest
+unfolding header_bytes
+is_header count body more rest t n first second titled counted =
+    first ∙ ap (λ (k : ℕ). little 8 k ++ more) titled ∙ ap (λ (xs : List ℕ). xs ++ more) title_is ∙ ap (λ (xs : List ℕ). title ++ xs) second
+    ∙ ap (λ (k : ℕ). title ++ (little 8 k ++ rest)) counted
+
+pub headed : (count : ℕ) (body more rest other : List ℕ) (t n : ℕ) → body ≡ little 8 t ++ more → more ≡ little 8 n ++ rest
+    → body ≡ header_bytes count ++ other → (t ≡ 0x016C6169646E7573) × (n ≡ count)
+unfolding header_bytes
+headed count body more rest other t n first second is =
+    let regrouped : body ≡ little 8 0x016C6169646E7573 ++ (little 8 count ++ other) =
+    is ∙ ap (λ (xs : List ℕ). xs ++ (little 8 count ++ other)) (sym title_is) in
+    let titles = little_same 7 t 0x016C6169646E7573 more (little 8 count ++ other) (sym first ∙ regrouped) in
+    let counts = little_same 7 n count rest other (sym second ∙ titles.1) in
+    (titles.0, counts.0)
+
+pub no_header : (count : ℕ) (body rest : List ℕ) → length body < 16 → body ≡ header_bytes count ++ rest → ⊥
+no_header count body rest short is =
+    omega (arith, short, ap length is, length-append (header_bytes count) rest, length_header count)
+
+-- all is written
+pub is_written : (last before body : List ℕ) (at end check : ℕ) → take end last ≡ take at before ++ little 4 check
+    → check ≡ crc_of (take at before) → take at before ≡ body → length last ≤ end → last ≡ checked body
+unfolding checked
+is_written last before body at end check is right so_far all =
+    sym (take_all end last all) ∙ is ∙ (λ i. so_far i ++ little 4 (right i)) ∙ ap (λ (xs : List ℕ). body ++ little 4 (crc_of xs)) so_far

@@ -86,7 +86,7 @@ fn write(bytes: &mut [u8], device: &PlainDevice, ports: &[PlainPort], lowered: u
 
 /// Reads what was kept of a device with so many ports.
 #[unsafe(no_mangle)]
-#[tactic(auto, using(crate::proofs::Saying::is_proof, crate::proofs::Saying::says_only))]
+#[tactic(auto, using(crate::proofs::Saying::is_proof, crate::proofs::Saying::says_only, crate::proofs::Saying::says_read))]
 pub extern "C" fn sundial_kept(
     bytes: &[u8],
     device: &mut PlainDevice,
@@ -162,9 +162,9 @@ fn read(bytes: &[u8], ports: usize) -> Option<(State, &[u8])>
         return None;
     }
     let (state, of_ports) = next_state(rest);
-    if held(&state.device).is_err() {
+    let Ok(_) = held(&state.device) else {
         return None;
-    }
+    };
     Some((state, of_ports))
 }
 
