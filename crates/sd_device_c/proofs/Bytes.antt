@@ -1,10 +1,10 @@
 -- Numbers and structs as bytes: how many these are, and that they say what they were made of.
-use Rattle.std.specs.Prelude.{ℕ, zero, suc, ◌+◌, ◌*◌, ◌/◌, ◌%◌, ◌^◌, ◌<◌, ◌≤◌, List, [], ◌∷◌, ◌++◌, length, get_or, take, drop}
-use Rattle.std.proofs.Common.{◌≡◌, refl, sym, ap, ◌∙◌, subst, arith, append_assoc, length-append}
+use Rattle.std.specs.Prelude.{ℕ, zero, suc, ◌*◌, ◌/◌, ◌%◌, ◌^◌, ◌<◌, ◌≤◌, List, [], ◌∷◌, ◌++◌, length, get_or, take, drop}
+use Rattle.std.proofs.Common.{◌≡◌, refl, sym, ap, ◌∙◌, arith, append_assoc, length-append}
 use Rattle.std.specs.Int.{w32, w64, to_le_bytes, from_le_bytes}
 use Rattle.std.proofs.Math.Nat.{div-div-eq-div-mul}
 use Rattle.std.proofs.lemmas.Nat.{le_bytes_4, le_bytes_8}
-use Rattle.std.proofs.lemmas.List.{take-append-drop, length-take-le}
+use Rattle.std.proofs.lemmas.List.{take-append-drop, length-take-le, length-drop, drop-drop, nil_from_length}
 use Rattle.std.specs.List.{flat_map}
 use Rattle.sd_device_c.specs.declared.plain.PlainWide.{PlainWide}
 use Rattle.sd_device_c.specs.declared.plain.PlainRates.{PlainRates}
@@ -235,3 +235,49 @@ next_4 all front rest n fits long bytes front_is rest_is is =
     let read = read_4 (take 4 all) n fits (length-take-le 4 all long) (taken_bytes 4 all bytes) (is ∙ ap (from_le_bytes w32) front_is) in
     sym (take-append-drop 4 all) ∙ ap (λ (xs : List ℕ). xs ++ drop 4 all) (sym read)
     ∙ ap (λ (xs : List ℕ). little 4 n ++ xs) (sym rest_is)
+
+-- the number of eight bytes
+eight_fit : (bs : List ℕ) → ((i : ℕ) → get_or bs i 0 < 256) → from_le_bytes w64 bs < 2 ^ 64
+eight_fit bs bytes = omega (arith, bytes 0, bytes 1, bytes 2, bytes 3, bytes 4, bytes 5, bytes 6, bytes 7)
+
+-- eight bytes or more begin with those of a number
+some_8 : (all : List ℕ) → ((i : ℕ) → get_or all i 0 < 256) → 8 ≤ length all → all ≡ little 8 (from_le_bytes w64 (take 8 all)) ++ drop 8 all
+some_8 all bytes long =
+    next_8 all (take 8 all) (drop 8 all) (from_le_bytes w64 (take 8 all)) (eight_fit (take 8 all) (taken_bytes 8 all bytes)) long bytes refl refl refl
+
+some_1 : (all : List ℕ) → 1 ≤ length all → all ≡ little 1 (get_or all 0 0) ++ drop 1 all
+unfolding little
+some_1 [] long = absurd (omega (arith, long))
+some_1 (x ∷ xs) long = refl
+
+-- 17 bytes are those of a port
+some_port : (all : List ℕ) → ((i : ℕ) → get_or all i 0 < 256) → 17 ≤ length all → (port : PlainPort) × (all ≡ port_bytes port ++ drop 17 all)
+unfolding port_bytes wide_bytes
+some_port all bytes long =
+    let rest = drop 8 all in
+    let last = drop 8 rest in
+    let rest_bytes = dropped_bytes 8 all bytes in
+    let rest_long : 9 ≤ length rest = omega (arith, long, length-drop 8 all) in
+    let last_long : 1 ≤ length last = omega (arith, rest_long, length-drop 8 rest) in
+    let low = some_8 all bytes (omega (arith, long)) in
+    let high = some_8 rest rest_bytes (omega (arith, rest_long)) in
+    let flag = some_1 last last_long in
+    let end : drop 1 last ≡ drop 17 all = ap (drop 1) (drop-drop 8 8 all) ∙ drop-drop 1 16 all in
+    let low_number = from_le_bytes w64 (take 8 all) in
+    let high_number = from_le_bytes w64 (take 8 rest) in
+    let open_number = get_or last 0 0 in (
+      record { clear = record { low = low_number; high = high_number }; is_open = open_number },
+      low
+          ∙ ap (λ (xs : List ℕ). little 8 low_number ++ xs)
+          (high ∙ ap (λ (xs : List ℕ). little 8 high_number ++ xs) (flag ∙ ap (λ (xs : List ℕ). little 1 open_number ++ xs) end))
+          ∙ simp append_assoc,
+    )
+
+-- and so many times 17 are those of so many ports
+pub some_ports : (n : ℕ) (all : List ℕ) → ((i : ℕ) → get_or all i 0 < 256) → length all ≡ 17 * n
+    → (ports : List PlainPort) × (length ports ≡ n) × (all ≡ flat_map port_bytes ports)
+some_ports zero all bytes long = ([], refl, nil_from_length all long)
+some_ports (suc n) all bytes long =
+    let first = some_port all bytes (omega (arith, long)) in
+    let rest = some_ports n (drop 17 all) (dropped_bytes 17 all bytes) (length-drop 17 all ∙ omega (arith, long)) in
+    (first.0 ∷ rest.0, ap suc rest.1, first.1 ∙ ap (λ (xs : List ℕ). port_bytes first.0 ++ xs) rest.2)

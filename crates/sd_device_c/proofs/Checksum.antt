@@ -1,5 +1,5 @@
 -- The checksum: it tells bytes from others that differ in one.
-use Rattle.std.specs.Prelude.{ℕ, zero, suc, ◌+◌, ◌-◌, ◌/◌, ◌%◌, ◌^◌, ◌<◌, ◌≤◌, ◌≢◌, ◌⊎◌, Bool, true, false, List, [], ◌∷◌, ◌++◌, length, nat_eq, bit_xor, get_or}
+use Rattle.std.specs.Prelude.{ℕ, zero, suc, ◌+◌, ◌-◌, ◌/◌, ◌%◌, ◌^◌, ◌<◌, ◌≢◌, ◌⊎◌, List, [], ◌∷◌, ◌++◌, bit_xor, get_or}
 use Rattle.std.proofs.Common.{◌≡◌, sym, ap, ◌∙◌, subst, inl, inr, ⊎_elim, arith}
 use Rattle.std.specs.Int.{bit_at}
 use Rattle.std.specs.List.{fold}
@@ -68,23 +68,23 @@ turned_same : (a b : ℕ) → a < 2 ^ 32 → b < 2 ^ 32 → turned a ≡ turned 
 turned_same a b a_fits b_fits same =
     ⊎_elim
     (λ (even : a % 2 ≡ 0).
-        ⊎_elim
-        (λ (other : b % 2 ≡ 0). whole a b 0 even other (sym (turned_even a even) ∙ same ∙ turned_even b other))
-        (λ (other : b % 2 ≡ 1).
-            absurd
-            (tops_differ (b / 2) (a / 2) (half_small b b_fits) (half_small a a_fits)
-            (sym (turned_odd b other) ∙ sym same ∙ turned_even a even)))
-        (even_or_odd b))
+    ⊎_elim
+    (λ (other : b % 2 ≡ 0). whole a b 0 even other (sym (turned_even a even) ∙ same ∙ turned_even b other))
+    (λ (other : b % 2 ≡ 1).
+    absurd
+    (tops_differ (b / 2) (a / 2) (half_small b b_fits) (half_small a a_fits)
+    (sym (turned_odd b other) ∙ sym same ∙ turned_even a even)))
+    (even_or_odd b))
     (λ (odd : a % 2 ≡ 1).
-        ⊎_elim
-        (λ (other : b % 2 ≡ 0).
-            absurd
-            (tops_differ (a / 2) (b / 2) (half_small a a_fits) (half_small b b_fits)
-            (sym (turned_odd a odd) ∙ same ∙ turned_even b other)))
-        (λ (other : b % 2 ≡ 1).
-            whole a b 1 odd other
-            (xor_same_left 0xEDB88320 (a / 2) (b / 2) (sym (turned_odd a odd) ∙ same ∙ turned_odd b other)))
-        (even_or_odd b))
+    ⊎_elim
+    (λ (other : b % 2 ≡ 0).
+    absurd
+    (tops_differ (a / 2) (b / 2) (half_small a a_fits) (half_small b b_fits)
+    (sym (turned_odd a odd) ∙ same ∙ turned_even b other)))
+    (λ (other : b % 2 ≡ 1).
+    whole a b 1 odd other
+    (xor_same_left 0xEDB88320 (a / 2) (b / 2) (sym (turned_odd a odd) ∙ same ∙ turned_odd b other)))
+    (even_or_odd b))
     (even_or_odd a)
 
 turns_lt : (k r : ℕ) → r < 2 ^ 32 → turns k r < 2 ^ 32

@@ -1,15 +1,19 @@
 -- What is kept says one device, and says none once a byte of it is another.
-use Rattle.std.specs.Prelude.{ℕ, zero, suc, ◌+◌, ◌-◌, ◌*◌, ◌^◌, ◌<◌, ◌≤◌, ◌≢◌, ◌⊎◌, List, [], ◌∷◌, ◌++◌, length, get_or, take, drop, Option, Some, None, IfNone}
+use Rattle.std.specs.Prelude.{ℕ, suc, ◌+◌, ◌-◌, ◌*◌, ◌^◌, ◌<◌, ◌≤◌, ◌⊎◌, List, [], ◌∷◌, ◌++◌, length, get_or, take, drop, Option, Some, None, IfNone, IsTrue, Bool, true, false}
 use Rattle.std.specs.List.{flat_map}
-use Rattle.std.proofs.Common.{◌≡◌, refl, sym, ap, ◌∙◌, subst, inl, inr, ⊎_elim, arith, append_assoc, length-append}
+use Rattle.std.proofs.Common.{◌≡◌, refl, sym, ap, ◌∙◌, subst, inl, inr, ⊎_elim, arith, length-append}
 use Rattle.std.specs.Int.{w32, from_le_bytes}
 use Rattle.std.proofs.lemmas.List.{append_cancel_left, take-append-drop, length-drop, take_all}
 use Rattle.sd_device_c.specs.declared.plain.PlainDevice.{PlainDevice}
 use Rattle.sd_device_c.specs.declared.plain.PlainPort.{PlainPort}
-use Rattle.sd_device_c.specs.Answers.{IsDevice}
+use Rattle.sd_num.specs.Counts.{one_if}
+use Rattle.sd_device_c.specs.declared.faults.Fault.{Fault}
+use Rattle.sd_device_c.specs.Plain.{rates_from}
+use Rattle.sd_device_c.specs.Pauses.{advance, is_in_time}
+use Rattle.sd_device_c.specs.Answers.{IsAnswerFor, IsDevice}
 use Rattle.sd_device_c.specs.Crc.{crc_of}
-use Rattle.sd_device_c.specs.Kept.{little, title, header_bytes, state_bytes, port_bytes, body_bytes, checked, kept_bytes, kept_size, Says, AreKept, AreInTime, SaysOnly, IsSpoiled, IsProof, IsRead}
-use Rattle.sd_device_c.proofs.Bytes.{read_4, dropped_bytes, little_same, length_little, state_same, length_state, ports_same, length_ports}
+use Rattle.sd_device_c.specs.Kept.{little, title, header_bytes, state_bytes, port_bytes, body_bytes, checked, kept_bytes, Says, AreKept, AreInTime, SaysOnly, IsProof, IsRead}
+use Rattle.sd_device_c.proofs.Bytes.{read_4, dropped_bytes, little_same, length_little, state_same, length_state, ports_same, length_ports, some_ports}
 use Rattle.sd_device_c.proofs.Checksum.{AreBytes, at_front, differs}
 
 -- two lists whose ends are as long
@@ -73,9 +77,9 @@ place (p ∷ ps) rest (b ∷ bs) x after same =
     let tail : ps ++ rest ≡ bs ++ x ∷ after = cc in
     ⊎_elim
     (λ (inside : Inside ps rest bs x after).
-        inl (record { more = inside.more; part_is = λ i. head i ∷ inside.part_is i; rest_is = inside.rest_is }))
+    inl (record { more = inside.more; part_is = λ i. head i ∷ inside.part_is i; rest_is = inside.rest_is }))
     (λ (past : Past ps rest bs x after).
-        inr (record { more = past.more; before_is = λ i. sym head i ∷ past.before_is i; rest_is = past.rest_is }))
+    inr (record { more = past.more; before_is = λ i. sym head i ∷ past.before_is i; rest_is = past.rest_is }))
     (place ps rest bs x after tail)
 
 long : (part rest before : List ℕ) (x : ℕ) (after : List ℕ) → part ++ rest ≡ before ++ x ∷ after
@@ -132,19 +136,19 @@ one_byte a b before after x y of_a of_b bytes y_byte =
     omega (arith, long_a, long_b, length_little 4 (crc_of a), length_little 4 (crc_of b)) in
     ⊎_elim
     (λ (in_a : Inside a (little 4 (crc_of a)) before x after).
-        ⊎_elim
-        (λ (in_b : Inside b (little 4 (crc_of b)) before y after). both_inside a b before after x y bytes y_byte in_a in_b)
-        (λ (past_b : Past b (little 4 (crc_of b)) before y after).
-            absurd
-            (omega (arith, lengths, inside_short a (little 4 (crc_of a)) before x after in_a, past_long b (little 4 (crc_of b)) before y after past_b)))
-        (place b (little 4 (crc_of b)) before y after of_b))
+    ⊎_elim
+    (λ (in_b : Inside b (little 4 (crc_of b)) before y after). both_inside a b before after x y bytes y_byte in_a in_b)
+    (λ (past_b : Past b (little 4 (crc_of b)) before y after).
+    absurd
+    (omega (arith, lengths, inside_short a (little 4 (crc_of a)) before x after in_a, past_long b (little 4 (crc_of b)) before y after past_b)))
+    (place b (little 4 (crc_of b)) before y after of_b))
     (λ (past_a : Past a (little 4 (crc_of a)) before x after).
-        ⊎_elim
-        (λ (in_b : Inside b (little 4 (crc_of b)) before y after).
-            absurd
-            (omega (arith, lengths, past_long a (little 4 (crc_of a)) before x after past_a, inside_short b (little 4 (crc_of b)) before y after in_b)))
-        (λ (past_b : Past b (little 4 (crc_of b)) before y after). both_past a b before after x y lengths past_a past_b)
-        (place b (little 4 (crc_of b)) before y after of_b))
+    ⊎_elim
+    (λ (in_b : Inside b (little 4 (crc_of b)) before y after).
+    absurd
+    (omega (arith, lengths, past_long a (little 4 (crc_of a)) before x after past_a, inside_short b (little 4 (crc_of b)) before y after in_b)))
+    (λ (past_b : Past b (little 4 (crc_of b)) before y after). both_past a b before after x y lengths past_a past_b)
+    (place b (little 4 (crc_of b)) before y after of_b))
     (place a (little 4 (crc_of a)) before x after of_a)
 
 -- what says a device says none once a byte is another
@@ -294,3 +298,45 @@ pub is_written : (last before body : List ℕ) (at end check : ℕ) → take end
 unfolding checked
 is_written last before body at end check is right so_far all =
     sym (take_all end last all) ∙ is ∙ (λ i. so_far i ++ little 4 (right i)) ∙ ap (λ (xs : List ℕ). body ++ little 4 (crc_of xs)) so_far
+
+pub answers_done : (May : Type 0) (Has : Fault → Type 0) → May → IsAnswerFor 0 May Has
+answers_done May Has may = record { done = (λ _. may, λ _. refl); refused = λ fault. absurd (fault refl) }
+
+-- the end of bytes are bytes
+end_bytes : (front rest : List ℕ) → AreBytes (front ++ rest) → AreBytes rest
+end_bytes [] rest bytes = bytes
+end_bytes (x ∷ front) rest bytes = end_bytes front rest (λ k. bytes (suc k))
+
+-- what is read is kept of some ports
+pub read_kept : (count : ℕ) (kept ports : List ℕ) (device : PlainDevice) (lowered ticked : ℕ) → AreBytes kept
+    → IsRead count kept device lowered ticked ports → AreKept count kept
+unfolding checked
+read_kept count kept ports device lowered ticked bytes read =
+    let header = header_bytes count in
+    let state = state_bytes device lowered ticked in
+    let body = header ++ (state ++ ports) in
+    let all = subst (λ (xs : List ℕ). AreBytes xs) read.bytes bytes in
+    let of_ports = end_bytes state ports (end_bytes header (state ++ ports) (at_front body (little 4 (crc_of body)) all)) in
+    let some = some_ports count ports of_ports read.size in
+    (device, some.0, lowered, ticked, some.1, says_read count kept ports device some.0 lowered ticked read some.2 some.1)
+
+-- what is read too late says no device that is in time
+pub read_late : (tick hardware count : ℕ) (kept ports : List ℕ) (device : PlainDevice) (lowered ticked : ℕ)
+    → IsRead count kept device lowered ticked ports → (IsTrue (is_in_time (rates_from device.rates) tick (advance ticked hardware)) → ⊥)
+    → AreInTime tick hardware count kept → ⊥
+unfolding kept_bytes body_bytes
+read_late tick hardware count kept ports device lowered ticked read late are =
+    let body = checked_same (header_bytes count ++ (state_bytes device lowered ticked ++ ports)) (body_bytes are.0 are.1 are.2 are.3) (sym read.bytes ∙ are.5.bytes) in
+    let headers =
+    header_same count (length are.1) (state_bytes device lowered ticked ++ ports) (state_bytes are.0 are.2 are.3 ++ flat_map port_bytes are.1) body.0 in
+    let states = state_same device are.0 lowered ticked are.2 are.3 ports (flat_map port_bytes are.1) headers.1 in
+    late
+    (subst (λ (d : PlainDevice). IsTrue (is_in_time (rates_from d.rates) tick (advance ticked hardware))) (sym states.0)
+    (subst (λ (t : ℕ). IsTrue (is_in_time (rates_from are.0.rates) tick (advance t hardware))) (sym states.2) are.6))
+
+pub told_true : (told : Bool) (answer : ℕ) → answer ≡ one_if told → (answer ≡ 0 → ⊥) → IsTrue told
+told_true true answer is not = refl
+told_true false answer is not = absurd (not is)
+
+pub told_false : (told : Bool) (answer : ℕ) → answer ≡ one_if told → answer ≡ 0 → IsTrue told → ⊥
+told_false told answer is none so = omega (arith, sym is ∙ none, ap one_if so)

@@ -86,7 +86,6 @@ fn write(bytes: &mut [u8], device: &PlainDevice, ports: &[PlainPort], lowered: u
 
 /// Reads what was kept of a device with so many ports.
 #[unsafe(no_mangle)]
-#[tactic(auto, using(crate::proofs::Saying::is_proof, crate::proofs::Saying::says_only, crate::proofs::Saying::says_read))]
 pub extern "C" fn sundial_kept(
     bytes: &[u8],
     device: &mut PlainDevice,

@@ -46,10 +46,7 @@ fn next_wide(bytes: &[u8]) -> (PlainWide, &[u8])
 {
     let (low, bytes) = next_u64(bytes);
     let (high, bytes) = next_u64(bytes);
-    let wide = PlainWide {
-        low,
-        high,
-    };
+    let wide = PlainWide { low, high };
     (wide, bytes)
 }
 
@@ -61,10 +58,7 @@ fn next_rates(bytes: &[u8]) -> (PlainRates, &[u8])
 {
     let (grain, bytes) = next_u64(bytes);
     let (ppm, bytes) = next_u32(bytes);
-    let rates = PlainRates {
-        grain,
-        ppm,
-    };
+    let rates = PlainRates { grain, ppm };
     (rates, bytes)
 }
 
@@ -129,11 +123,7 @@ fn next_estimate(bytes: &[u8]) -> (PlainEstimate, &[u8])
     let (clock, bytes) = next_wide(bytes);
     let (base, bytes) = next_wide(bytes);
     let (at, bytes) = next_u64(bytes);
-    let estimate = PlainEstimate {
-        clock,
-        base,
-        at,
-    };
+    let estimate = PlainEstimate { clock, base, at };
     (estimate, bytes)
 }
 
@@ -145,10 +135,7 @@ fn next_stamp(bytes: &[u8]) -> (PlainStamp, &[u8])
 {
     let (round, bytes) = next_u64(bytes);
     let (term, bytes) = next_u32(bytes);
-    let stamp = PlainStamp {
-        round,
-        term,
-    };
+    let stamp = PlainStamp { round, term };
     (stamp, bytes)
 }
 
@@ -193,10 +180,7 @@ fn next_port(bytes: &[u8]) -> (PlainPort, &[u8])
 {
     let (clear, bytes) = next_wide(bytes);
     let (is_open, bytes) = next_u8(bytes);
-    let port = PlainPort {
-        clear,
-        is_open,
-    };
+    let port = PlainPort { clear, is_open };
     (port, bytes)
 }
 

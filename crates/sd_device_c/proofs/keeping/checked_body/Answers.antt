@@ -1,5 +1,4 @@
-use Rattle.std.proofs.Common.{arith, sym, ◌∙◌, ◌≡◌, List, ◌++◌, ◌≤◌, ℕ, length}
-use Rattle.sd_device_c.specs.Kept.{little}
+use Rattle.std.proofs.Common.{arith, sym, ◌∙◌, ◌≤◌, length}
 use Rattle.sd_device_c.proofs.Saying.{last_is, is_checked, not_checked, too_short, no_result}
 use Rattle.sd_device_c.proofs.keeping.checked_body.Goals as goal
 

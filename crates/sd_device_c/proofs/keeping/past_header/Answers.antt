@@ -1,4 +1,3 @@
-use Rattle.std.proofs.Common.{sym, ◌∙◌}
 use Rattle.sd_device_c.proofs.Saying.{is_header, headed, no_header}
 use Rattle.sd_device_c.proofs.keeping.past_header.Goals as goal
 use Rattle.sd_device_c.proofs.keeping.past_header.Goals.{else-title-eq-TITLE-via-then-title-eq-TITLE+else-count-ports, else-title-eq-TITLE-via-else-title-eq-TITLE}
@@ -17,6 +16,6 @@ returns-else-title-eq-TITLE-clause-none c = λ rest is.
     headed c.args.ports c.args.body.now c.next_u64-title.result.1.now c.next_u64-count.result.1.now rest c.next_u64-title.result.0
     c.next_u64-count.result.0 c.next_u64-title.ensures.bytes c.next_u64-count.ensures.bytes is in
     elim c.else-title-eq-TITLE.branch [
-      else-title-eq-TITLE-via-then-title-eq-TITLE+else-count-ports w ↦ w.if-count-ports.false both.1
-    | else-title-eq-TITLE-via-else-title-eq-TITLE w ↦ w.if-title-eq-TITLE.false both.0
+      | else-title-eq-TITLE-via-then-title-eq-TITLE+else-count-ports w ↦ w.if-count-ports.false both.1
+      | else-title-eq-TITLE-via-else-title-eq-TITLE w ↦ w.if-title-eq-TITLE.false both.0
     ]
