@@ -16,20 +16,23 @@ use Rattle.sd_device_c.specs.declared.plain.PlainDevice.{PlainDevice}
 use Rattle.sd_device_c.specs.declared.plain.PlainPort.{PlainPort}
 use Rattle.sd_device_c.specs.Kept.{little, wide_bytes, rates_bytes, edge_bytes, duty_bytes, estimate_bytes, stamp_bytes, device_bytes, port_bytes, state_bytes}
 
-heads_same : {X : Type 0} (x y : X) (xs ys : List X) → x ∷ xs ≡ y ∷ ys → (x ≡ y) × (xs ≡ ys)
-heads_same x y xs ys same = (cc, cc)
-
 parts_same : (a b : ℕ) → a % 256 ≡ b % 256 → a / 256 ≡ b / 256 → a ≡ b
 parts_same a b low high = omega (arith, low, high)
 
 -- the bytes of a number that others follow say the number and those others
 pub little_same : (k a b : ℕ) (x y : List ℕ) → little (suc k) a ++ x ≡ little (suc k) b ++ y → (a ≡ b) × (x ≡ y)
 unfolding little
-little_same zero a b x y same = heads_same a b x y same
+little_same zero a b x y same =
+    let lists : a ∷ x ≡ b ∷ y = same in
+    let head : a ≡ b = cc in
+    let tail : x ≡ y = cc in
+    (head, tail)
 little_same (suc k) a b x y same =
-    let first = heads_same (a % 256) (b % 256) (little (suc k) (a / 256) ++ x) (little (suc k) (b / 256) ++ y) same in
-    let rest = little_same k (a / 256) (b / 256) x y first.1 in
-    (parts_same a b first.0 rest.0, rest.1)
+    let lists : a % 256 ∷ (little (suc k) (a / 256) ++ x) ≡ b % 256 ∷ (little (suc k) (b / 256) ++ y) = same in
+    let head : a % 256 ≡ b % 256 = cc in
+    let tail : little (suc k) (a / 256) ++ x ≡ little (suc k) (b / 256) ++ y = cc in
+    let rest = little_same k (a / 256) (b / 256) x y tail in
+    (parts_same a b head rest.0, rest.1)
 
 pub length_little : (k n : ℕ) → length (little k n) ≡ k
 unfolding little

@@ -135,15 +135,11 @@ folded_same (x ∷ xs) a b bytes a_fits b_fits same =
     fed_same x a b x_fits a_fits b_fits
     (folded_same xs (fed a x) (fed b x) (λ k. bytes (suc k)) (fed_lt a x a_fits x_fits) (fed_lt b x b_fits x_fits) same)
 
-pub crc_lt : (xs : List ℕ) → crc_of xs < 2 ^ 32
-unfolding crc_of
-crc_lt xs = omega arith
-
 -- one checksum is one register
 unturned : (a b : ℕ) → a < 2 ^ 32 → b < 2 ^ 32 → 2 ^ 32 - 1 - a ≡ 2 ^ 32 - 1 - b → a ≡ b
 unturned a b a_fits b_fits same = omega (arith, a_fits, b_fits, same)
 
-ahead : (xs ys : List ℕ) → AreBytes (xs ++ ys) → AreBytes ys
+pub ahead : (xs ys : List ℕ) → AreBytes (xs ++ ys) → AreBytes ys
 ahead [] ys bytes = bytes
 ahead (x ∷ xs) ys bytes = ahead xs ys (λ k. bytes (suc k))
 

@@ -14,7 +14,7 @@ use Rattle.sd_device_c.specs.Answers.{IsAnswerFor, IsDevice}
 use Rattle.sd_device_c.specs.Crc.{crc_of}
 use Rattle.sd_device_c.specs.Kept.{little, title, header_bytes, state_bytes, port_bytes, body_bytes, checked, kept_bytes, Says, AreKept, AreInTime, SaysOnly, IsProof, IsRead}
 use Rattle.sd_device_c.proofs.Bytes.{read_4, dropped_bytes, little_same, length_little, state_same, length_state, ports_same, length_ports, some_ports}
-use Rattle.sd_device_c.proofs.Checksum.{AreBytes, at_front, differs}
+use Rattle.sd_device_c.proofs.Checksum.{AreBytes, at_front, ahead, differs}
 
 -- two lists whose ends are as long
 pub ends_same : {X : Type 0} (a b x y : List X) → length x ≡ length y → a ++ x ≡ b ++ y → (a ≡ b) × (x ≡ y)
@@ -302,11 +302,6 @@ is_written last before body at end check is right so_far all =
 pub answers_done : (May : Type 0) (Has : Fault → Type 0) → May → IsAnswerFor 0 May Has
 answers_done May Has may = record { done = (λ _. may, λ _. refl); refused = λ fault. absurd (fault refl) }
 
--- the end of bytes are bytes
-end_bytes : (front rest : List ℕ) → AreBytes (front ++ rest) → AreBytes rest
-end_bytes [] rest bytes = bytes
-end_bytes (x ∷ front) rest bytes = end_bytes front rest (λ k. bytes (suc k))
-
 -- what is read is kept of some ports
 pub read_kept : (count : ℕ) (kept ports : List ℕ) (device : PlainDevice) (lowered ticked : ℕ) → AreBytes kept
     → IsRead count kept device lowered ticked ports → AreKept count kept
@@ -316,7 +311,7 @@ read_kept count kept ports device lowered ticked bytes read =
     let state = state_bytes device lowered ticked in
     let body = header ++ (state ++ ports) in
     let all = subst (λ (xs : List ℕ). AreBytes xs) read.bytes bytes in
-    let of_ports = end_bytes state ports (end_bytes header (state ++ ports) (at_front body (little 4 (crc_of body)) all)) in
+    let of_ports = ahead state ports (ahead header (state ++ ports) (at_front body (little 4 (crc_of body)) all)) in
     let some = some_ports count ports of_ports read.size in
     (device, some.0, lowered, ticked, some.1, says_read count kept ports device some.0 lowered ticked read some.2 some.1)
 

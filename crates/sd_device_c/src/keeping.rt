@@ -70,6 +70,7 @@ fn size_of_kept(ports: usize) -> u128
     SIZE + PORT_SIZE * ports as u128
 }
 
+#[inline(always)]
 fn write(bytes: &mut [u8], device: &PlainDevice, ports: &[PlainPort], lowered: u64, ticked: u64)
     requires { length bytes.old ≡ kept_size (length ports.now) }
     ensures { bytes.new ≡ kept_bytes device.now ports.now lowered ticked }
@@ -150,6 +151,7 @@ pub extern "C" fn sundial_restore(
 }
 
 /// What the bytes say but for the ports, and the bytes of so many ports.
+#[inline(always)]
 fn read(bytes: &[u8], ports: usize) -> Option<(State, &[u8])>
     ensures some { IfSome result (λ read. IsRead ports bytes.now
         read.0.device read.0.lowered read.0.ticked read.1.now) }
@@ -168,6 +170,7 @@ fn read(bytes: &[u8], ports: usize) -> Option<(State, &[u8])>
 }
 
 /// All but the checksum, where that is right.
+#[inline(always)]
 fn checked_body(bytes: &[u8]) -> Option<&[u8]>
     ensures some { IfSome result (λ body. bytes.now ≡ checked body.now) }
     ensures none { IfNone result ((body : List ℕ) → bytes.now ≡ checked body → ⊥) }
@@ -181,6 +184,7 @@ fn checked_body(bytes: &[u8]) -> Option<&[u8]>
 }
 
 /// What comes after the title and the number of the ports, where these are right.
+#[inline(always)]
 fn past_header(body: &[u8], ports: usize) -> Option<&[u8]>
     ensures some { IfSome result (λ rest. body.now ≡ header_bytes ports ++ rest.now) }
     ensures none { IfNone result ((rest : List ℕ)
@@ -198,6 +202,7 @@ fn past_header(body: &[u8], ports: usize) -> Option<&[u8]>
     }
 }
 
+#[inline(always)]
 #[tactic(auto, unfolding(crate::specs::Kept::state_bytes))]
 fn next_state(bytes: &[u8]) -> (State, &[u8])
     requires { 298 ≤ length bytes.now }

@@ -8,6 +8,7 @@ use crate::plain::{
     PlainDevice, PlainDuty, PlainEdge, PlainEstimate, PlainPort, PlainRates, PlainStamp, PlainWide,
 };
 
+#[inline(always)]
 fn put(bytes: &mut [u8], at: usize, piece: &[u8]) -> usize
     requires { at + length piece.now ≤ length bytes.old }
     ensures end { result ≡ at + length piece.now }
@@ -18,6 +19,7 @@ fn put(bytes: &mut [u8], at: usize, piece: &[u8]) -> usize
     end
 }
 
+#[inline(always)]
 pub(crate) fn put_u64(bytes: &mut [u8], at: usize, number: u64) -> usize
     requires { at + 8 ≤ length bytes.old }
     ensures end { result ≡ at + 8 }
@@ -26,6 +28,7 @@ pub(crate) fn put_u64(bytes: &mut [u8], at: usize, number: u64) -> usize
     put(bytes, at, &number.to_le_bytes())
 }
 
+#[inline(always)]
 pub(crate) fn put_u32(bytes: &mut [u8], at: usize, number: u32) -> usize
     requires { at + 4 ≤ length bytes.old }
     ensures end { result ≡ at + 4 }
@@ -34,6 +37,7 @@ pub(crate) fn put_u32(bytes: &mut [u8], at: usize, number: u32) -> usize
     put(bytes, at, &number.to_le_bytes())
 }
 
+#[inline(always)]
 #[tactic(auto, using(crate::proofs::Bytes::little_1))]
 pub(crate) fn put_u8(bytes: &mut [u8], at: usize, number: u8) -> usize
     requires { at + 1 ≤ length bytes.old }
@@ -43,6 +47,7 @@ pub(crate) fn put_u8(bytes: &mut [u8], at: usize, number: u8) -> usize
     put(bytes, at, &[number])
 }
 
+#[inline(always)]
 #[tactic(auto, unfolding(crate::specs::Kept::wide_bytes))]
 fn put_wide(bytes: &mut [u8], at: usize, wide: &PlainWide) -> usize
     requires { at + 16 ≤ length bytes.old }
@@ -53,6 +58,7 @@ fn put_wide(bytes: &mut [u8], at: usize, wide: &PlainWide) -> usize
     put_u64(bytes, at, wide.high)
 }
 
+#[inline(always)]
 #[tactic(auto, unfolding(crate::specs::Kept::rates_bytes))]
 fn put_rates(bytes: &mut [u8], at: usize, rates: &PlainRates) -> usize
     requires { at + 12 ≤ length bytes.old }
@@ -63,6 +69,7 @@ fn put_rates(bytes: &mut [u8], at: usize, rates: &PlainRates) -> usize
     put_u32(bytes, at, rates.ppm)
 }
 
+#[inline(always)]
 #[tactic(auto, unfolding(crate::specs::Kept::edge_bytes))]
 fn put_edge(bytes: &mut [u8], at: usize, edge: &PlainEdge) -> usize
     requires { at + 24 ≤ length bytes.old }
@@ -75,6 +82,7 @@ fn put_edge(bytes: &mut [u8], at: usize, edge: &PlainEdge) -> usize
     put_u32(bytes, at, edge.link)
 }
 
+#[inline(always)]
 #[tactic(auto, unfolding(crate::specs::Kept::duty_bytes))]
 fn put_duty(bytes: &mut [u8], at: usize, duty: &PlainDuty) -> usize
     requires { at + 99 ≤ length bytes.old }
@@ -94,6 +102,7 @@ fn put_duty(bytes: &mut [u8], at: usize, duty: &PlainDuty) -> usize
     put_u8(bytes, at, duty.has_backup)
 }
 
+#[inline(always)]
 #[tactic(auto, unfolding(crate::specs::Kept::estimate_bytes))]
 fn put_estimate(bytes: &mut [u8], at: usize, estimate: &PlainEstimate) -> usize
     requires { at + 40 ≤ length bytes.old }
@@ -105,6 +114,7 @@ fn put_estimate(bytes: &mut [u8], at: usize, estimate: &PlainEstimate) -> usize
     put_u64(bytes, at, estimate.at)
 }
 
+#[inline(always)]
 #[tactic(auto, unfolding(crate::specs::Kept::stamp_bytes))]
 fn put_stamp(bytes: &mut [u8], at: usize, stamp: &PlainStamp) -> usize
     requires { at + 12 ≤ length bytes.old }
@@ -115,6 +125,7 @@ fn put_stamp(bytes: &mut [u8], at: usize, stamp: &PlainStamp) -> usize
     put_u32(bytes, at, stamp.term)
 }
 
+#[inline(always)]
 #[tactic(auto, unfolding(crate::specs::Kept::device_bytes))]
 pub(crate) fn put_device(bytes: &mut [u8], at: usize, device: &PlainDevice) -> usize
     requires { at + 282 ≤ length bytes.old }
@@ -134,6 +145,7 @@ pub(crate) fn put_device(bytes: &mut [u8], at: usize, device: &PlainDevice) -> u
     put_u8(bytes, at, device.sealed)
 }
 
+#[inline(always)]
 #[tactic(auto, unfolding(crate::specs::Kept::port_bytes))]
 fn put_port(bytes: &mut [u8], at: usize, port: &PlainPort) -> usize
     requires { at + 17 ≤ length bytes.old }
@@ -144,6 +156,7 @@ fn put_port(bytes: &mut [u8], at: usize, port: &PlainPort) -> usize
     put_u8(bytes, at, port.is_open)
 }
 
+#[inline(always)]
 pub(crate) fn put_ports(bytes: &mut [u8], at: usize, ports: &[PlainPort]) -> usize
     requires { at + 17 * length ports.now ≤ length bytes.old }
     ensures end { result ≡ at + 17 * length ports.now }

@@ -8,6 +8,7 @@ use crate::plain::{
     PlainDevice, PlainDuty, PlainEdge, PlainEstimate, PlainPort, PlainRates, PlainStamp, PlainWide,
 };
 
+#[inline(always)]
 pub(crate) fn next_u64(bytes: &[u8]) -> (u64, &[u8])
     requires { 8 ≤ length bytes.now }
     ensures bytes { bytes.now ≡ little 8 result.0 ++ result.1.now }
@@ -19,6 +20,7 @@ pub(crate) fn next_u64(bytes: &[u8]) -> (u64, &[u8])
     (u64::from_le_bytes(*number), rest)
 }
 
+#[inline(always)]
 pub(crate) fn next_u32(bytes: &[u8]) -> (u32, &[u8])
     requires { 4 ≤ length bytes.now }
     ensures bytes { bytes.now ≡ little 4 result.0 ++ result.1.now }
@@ -30,6 +32,7 @@ pub(crate) fn next_u32(bytes: &[u8]) -> (u32, &[u8])
     (u32::from_le_bytes(*number), rest)
 }
 
+#[inline(always)]
 pub(crate) fn next_u8(bytes: &[u8]) -> (u8, &[u8])
     requires { 1 ≤ length bytes.now }
     ensures bytes { bytes.now ≡ little 1 result.0 ++ result.1.now }
@@ -38,6 +41,7 @@ pub(crate) fn next_u8(bytes: &[u8]) -> (u8, &[u8])
     (bytes[0], &bytes[1..])
 }
 
+#[inline(always)]
 #[tactic(auto, unfolding(crate::specs::Kept::wide_bytes))]
 fn next_wide(bytes: &[u8]) -> (PlainWide, &[u8])
     requires { 16 ≤ length bytes.now }
@@ -50,6 +54,7 @@ fn next_wide(bytes: &[u8]) -> (PlainWide, &[u8])
     (wide, bytes)
 }
 
+#[inline(always)]
 #[tactic(auto, unfolding(crate::specs::Kept::rates_bytes))]
 fn next_rates(bytes: &[u8]) -> (PlainRates, &[u8])
     requires { 12 ≤ length bytes.now }
@@ -62,6 +67,7 @@ fn next_rates(bytes: &[u8]) -> (PlainRates, &[u8])
     (rates, bytes)
 }
 
+#[inline(always)]
 #[tactic(auto, unfolding(crate::specs::Kept::edge_bytes))]
 fn next_edge(bytes: &[u8]) -> (PlainEdge, &[u8])
     requires { 24 ≤ length bytes.now }
@@ -81,6 +87,7 @@ fn next_edge(bytes: &[u8]) -> (PlainEdge, &[u8])
     (edge, bytes)
 }
 
+#[inline(always)]
 #[tactic(auto, unfolding(crate::specs::Kept::duty_bytes))]
 fn next_duty(bytes: &[u8]) -> (PlainDuty, &[u8])
     requires { 99 ≤ length bytes.now }
@@ -114,6 +121,7 @@ fn next_duty(bytes: &[u8]) -> (PlainDuty, &[u8])
     (duty, bytes)
 }
 
+#[inline(always)]
 #[tactic(auto, unfolding(crate::specs::Kept::estimate_bytes))]
 fn next_estimate(bytes: &[u8]) -> (PlainEstimate, &[u8])
     requires { 40 ≤ length bytes.now }
@@ -127,6 +135,7 @@ fn next_estimate(bytes: &[u8]) -> (PlainEstimate, &[u8])
     (estimate, bytes)
 }
 
+#[inline(always)]
 #[tactic(auto, unfolding(crate::specs::Kept::stamp_bytes))]
 fn next_stamp(bytes: &[u8]) -> (PlainStamp, &[u8])
     requires { 12 ≤ length bytes.now }
@@ -139,6 +148,7 @@ fn next_stamp(bytes: &[u8]) -> (PlainStamp, &[u8])
     (stamp, bytes)
 }
 
+#[inline(always)]
 #[tactic(auto, unfolding(crate::specs::Kept::device_bytes))]
 pub(crate) fn next_device(bytes: &[u8]) -> (PlainDevice, &[u8])
     requires { 282 ≤ length bytes.now }
@@ -172,6 +182,7 @@ pub(crate) fn next_device(bytes: &[u8]) -> (PlainDevice, &[u8])
     (device, bytes)
 }
 
+#[inline(always)]
 #[tactic(auto, unfolding(crate::specs::Kept::port_bytes))]
 fn next_port(bytes: &[u8]) -> (PlainPort, &[u8])
     requires { 17 ≤ length bytes.now }
@@ -185,6 +196,7 @@ fn next_port(bytes: &[u8]) -> (PlainPort, &[u8])
 }
 
 /// As many ports as there are, which the bytes are.
+#[inline(always)]
 pub(crate) fn read_ports(ports: &mut [PlainPort], bytes: &[u8])
     requires { length bytes.now ≡ 17 * length ports.old }
     ensures { bytes.now ≡ flat_map port_bytes ports.new }
