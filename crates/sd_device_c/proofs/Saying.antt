@@ -12,7 +12,7 @@ use Rattle.sd_device_c.specs.Plain.{rates_from}
 use Rattle.sd_device_c.specs.Pauses.{advance, is_in_time}
 use Rattle.sd_device_c.specs.Answers.{IsAnswerFor, IsDevice}
 use Rattle.sd_device_c.specs.Crc.{crc_of}
-use Rattle.sd_device_c.specs.Kept.{little, title, header_bytes, state_bytes, port_bytes, body_bytes, checked, kept_bytes, Says, AreKept, AreInTime, SaysOnly, IsProof, IsRead}
+use Rattle.sd_device_c.specs.Kept.{little, title, header_bytes, state_bytes, port_bytes, body_bytes, checked, kept_bytes, Says, AreKept, AreInTime, SaysOnly, ShowsSpoiling, IsRead}
 use Rattle.sd_device_c.proofs.Bytes.{read_4, dropped_bytes, little_same, length_little, state_same, length_state, ports_same, length_ports, some_ports}
 use Rattle.sd_device_c.proofs.Checksum.{AreBytes, at_front, ahead, differs}
 
@@ -152,10 +152,10 @@ one_byte a b before after x y of_a of_b bytes y_byte =
     (place a (little 4 (crc_of a)) before x after of_a)
 
 -- what says a device says none once a byte is another
-pub is_proof : (count : ℕ) (kept : List ℕ) (device : PlainDevice) (ports : List PlainPort) (lowered ticked : ℕ)
-    → kept ≡ kept_bytes device ports lowered ticked → AreBytes kept → IsProof count kept
+pub shows_spoiling : (count : ℕ) (kept : List ℕ) (device : PlainDevice) (ports : List PlainPort) (lowered ticked : ℕ)
+    → kept ≡ kept_bytes device ports lowered ticked → AreBytes kept → ShowsSpoiling count kept
 unfolding kept_bytes
-is_proof count kept device ports lowered ticked is bytes spoiled spoils are =
+shows_spoiling count kept device ports lowered ticked is bytes spoiled spoils are =
     let device_2 = are.0 in
     let ports_2 = are.1 in
     let body = body_bytes device ports lowered ticked in

@@ -139,8 +139,8 @@ pub record IsSpoiled (old new : List ℕ) : Type 0 where
   pub is_byte : new_byte < 256
 
 -- what is spoiled in one byte says no device any more
-abbrev pub IsProof : (ports : ℕ) → List ℕ → Type 0
-IsProof count kept = (spoiled : List ℕ) → IsSpoiled kept spoiled → AreKept count spoiled → ⊥
+abbrev pub ShowsSpoiling : (ports : ℕ) → List ℕ → Type 0
+ShowsSpoiling count kept = (spoiled : List ℕ) → IsSpoiled kept spoiled → AreKept count spoiled → ⊥
 
 -- it may be kept in so many bytes
 abbrev pub MayKeep : PlainDevice → (ports size : ℕ) → Type 0

@@ -1,11 +1,10 @@
 //! The calls that keep a device over a restart of its process, and restore it.
-ghost use Rattle.std.specs.Prelude.{◌≡◌, ◌≢◌, ◌≤◌, ◌+◌, ◌*◌, ◌++◌, ◌↔◌, ℕ, IsTrue, List, length, take, OnOk, IfOk, IfErr, IfSome, IfNone};
-ghost use Rattle.std.specs.List.{flat_map};
+ghost use Rattle.std.specs.Prelude.{◌≡◌, ◌≢◌, ◌≤◌, ◌+◌, ◌++◌, ℕ, IsTrue, List, length, IfSome, IfNone};
 ghost use Rattle.sd_num.specs.Numbers.{keeps_rate};
 ghost use Rattle.sd_device_c.specs.Plain.{rates_from};
-ghost use Rattle.sd_device_c.specs.Pauses.{advance, is_in_time};
-ghost use Rattle.sd_device_c.specs.Answers.{IsAnswerFor, IsDevice};
-ghost use Rattle.sd_device_c.specs.Kept.{kept_size, kept_bytes, checked, header_bytes, state_bytes, Says, SaysOnly, IsRead, IsProof, AreKept, AreInTime, MayKeep, HasKeepFault, IsNotKept, HasRestoreFault};
+ghost use Rattle.sd_device_c.specs.Pauses.{advance};
+ghost use Rattle.sd_device_c.specs.Answers.{IsAnswerFor};
+ghost use Rattle.sd_device_c.specs.Kept.{kept_size, kept_bytes, checked, header_bytes, state_bytes, Says, SaysOnly, IsRead, ShowsSpoiling, AreKept, AreInTime, MayKeep, HasKeepFault, IsNotKept, HasRestoreFault};
 
 use crate::checks::held;
 use crate::crc::crc;
@@ -101,7 +100,7 @@ pub extern "C" fn sundial_kept(
         → (lowered.new ≡ lowered.old) × (ticked.new ≡ ticked.old) }
     ensures said { result ≡ 0 → Says bytes.now device.new ports.new lowered.new ticked.new }
     ensures only { result ≡ 0 → SaysOnly bytes.now device.new ports.new lowered.new ticked.new }
-    ensures proof { result ≡ 0 → IsProof (length ports.old) bytes.now }
+    ensures spoiled { result ≡ 0 → ShowsSpoiling (length ports.old) bytes.now }
 {
     let Some((state, of_ports)) = read(bytes, ports.len()) else {
         return Fault::NotKept.code();

@@ -1,6 +1,6 @@
 use Rattle.std.proofs.Common.{arith, refl, length}
 use Rattle.sd_device_c.specs.Kept.{Says, AreKept, IsNotKept}
-use Rattle.sd_device_c.proofs.Saying.{answers_done, says_read, says_only, is_proof}
+use Rattle.sd_device_c.proofs.Saying.{answers_done, says_read, says_only, shows_spoiling}
 use Rattle.sd_device_c.proofs.keeping.sundial_kept.Goals as goal
 
 pub returns-clause-said : goal.returns-clause-said
@@ -20,7 +20,7 @@ returns-clause-only c = λ done.
     says_only c.args.bytes.now c.in-Some.state.device c.read_ports.new.ports c.in-Some.state.lowered c.in-Some.state.ticked
     (returns-clause-said c done).bytes
 
-pub returns-clause-proof : goal.returns-clause-proof
-returns-clause-proof c = λ done.
-    is_proof (length c.args.ports.now) c.args.bytes.now c.in-Some.state.device c.read_ports.new.ports c.in-Some.state.lowered
+pub returns-clause-spoiled : goal.returns-clause-spoiled
+returns-clause-spoiled c = λ done.
+    shows_spoiling (length c.args.ports.now) c.args.bytes.now c.in-Some.state.device c.read_ports.new.ports c.in-Some.state.lowered
     c.in-Some.state.ticked (returns-clause-said c done).bytes (λ i. omega (arith, c.type_inv.bytes i))
