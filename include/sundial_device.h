@@ -72,9 +72,10 @@
  * (is_history of sd_beside). That your program calls as such a fleet does is yours to see to.
  * The definition is crates/sd_beside/specs/deployment/Deployment.antt, and docs/EMBED.md has it in words.
  *
- * A restored device is the latest. Keep the struct and its ports after each call and before you send
- * what the call sent, with a checksum: sundial_made finds few wrong bits. A device whose latest struct or
- * whose counter is lost, or whose latest tick is longer ago than `tick`, goes on only by sundial_join.
+ * A restored device is the latest. Keep it with sundial_keep after each call and before you send what the
+ * call sent, and restore it with sundial_restore: sundial_made alone finds few wrong bits. A device whose
+ * latest state or whose counter is lost, or whose latest tick is longer ago than `tick`, goes on only by
+ * sundial_join.
  *
  * What ends. Nothing does within a lifetime: a root sends 2^62 rounds, 146000 years at a period of
  * 1 us. Terms end at 2^31: 68 years, if a device takes over or commits anew each second. Plans end at
@@ -138,7 +139,13 @@ enum {
     /* the message's clock or eps is 2^100 or more, its term 2^31 or more, or its round 2^62 or more */
     SUNDIAL_MESSAGE_TOO_GREAT = 9,
     /* no duty of a root was given to the device */
-    SUNDIAL_NOT_ROOT = 10
+    SUNDIAL_NOT_ROOT = 10,
+    /* what is kept of so many ports takes SUNDIAL_KEPT_SIZE of them in bytes, and not so many */
+    SUNDIAL_WRONG_SIZE = 11,
+    /* the bytes are not what sundial_keep of this version writes of a device with so many ports */
+    SUNDIAL_NOT_KEPT = 12,
+    /* more than a tick may have passed since the device's latest tick */
+    SUNDIAL_TOO_LATE = 13
 };
 
 /* The role of a duty. */
@@ -303,7 +310,7 @@ SUNDIAL_ASSERT(offsetof(struct sundial_device, sealed) == 299);
 SUNDIAL_ASSERT(sizeof(struct sundial_port) == 24);
 SUNDIAL_ASSERT(offsetof(struct sundial_port, is_open) == 16);
 
-/* Whether the struct holds a device. Call it on a struct that was kept over a restart.
+/* Whether the struct holds a device.
  * Faults: NO_DEVICE. */
 uint32_t sundial_made(const struct sundial_device *device);
 
@@ -417,6 +424,47 @@ uint32_t sundial_port_takes(const struct sundial_port *port, uint64_t counter);
  * past their limits the answer is 0. */
 uint32_t sundial_in_time(const struct sundial_rates *rates, uint64_t tick, uint64_t ticked, uint64_t hardware);
 
+/* What is kept of a device: its ports too, what was lowered, and its latest tick. Numbers are unsigned, with the least
+ * byte first.
+ *
+ *     bytes of it             from
+ *     8                       0     the letters "sundial", and the version: 1
+ *     8                       8     the number of the ports
+ *     99                      16    the duty: both edges (mid, half, parent, link: 24 bytes each), period, wait_first,
+ *                                   wait_second, wait, grain, ppm, epoch, role, has_primary, has_backup
+ *     99                      115   the given duty
+ *     40                      214   the estimate: clock, base, at
+ *     12                      254   the stamp: round, term
+ *     12                      266   the rates: grain, ppm
+ *     20                      278   last, sent, has_duty, has_given, mode, sealed
+ *     16                      298   lowered, ticked
+ *     17 for each port        314   clear, is_open
+ *     4                             the CRC-32 of all before it, as zlib, gzip and Ethernet have it */
+#define SUNDIAL_KEPT_SIZE(ports) (318 + 17 * (size_t)(ports))
+
+/* Writes what is to be kept of a device and of this many ports, from `ports` on, which is not null: SUNDIAL_KEPT_SIZE of
+ * them in bytes. `lowered` is the sum, modulo 2^64, of all by which the counter of the calls is lower than the
+ * hardware's. The hardware's counter showed `ticked` at the device's latest tick, or at the start or join where that is
+ * later. Keep the bytes in one step after each call that changed any of it, and before you send what that call sent.
+ * Faults: NO_DEVICE, WRONG_SIZE. */
+uint32_t sundial_keep(const struct sundial_device *device, const struct sundial_port *ports, size_t count,
+                      uint64_t lowered, uint64_t ticked, uint8_t *bytes, size_t size);
+
+/* Reads what was kept, whatever the bytes are: a device with this many ports, what was lowered, and its latest tick. It
+ * is made exactly where sundial_keep of this version writes these bytes of some device with this many ports, and then it
+ * gives what was kept. So where a byte of what was kept has changed, the answer is NOT_KEPT: this is proved. Where more
+ * have, the checksum finds it in all but one of some 4 * 10^9 cases. It cannot tell the latest bytes from older ones.
+ * Faults: NOT_KEPT. */
+uint32_t sundial_kept(const uint8_t *bytes, size_t size, struct sundial_device *device, struct sundial_port *ports,
+                      size_t count, uint64_t *lowered, uint64_t *ticked);
+
+/* The same, for a device that is to go on: where surely no more than `tick` ps have passed since its latest tick, by an
+ * oscillator with the device's rates. The hardware's counter shows `hardware` now. It may have begun again after
+ * 2^64 - 1, once. Then call sundial_tick at once, before that much has passed. Faults: NOT_KEPT, TOO_LATE. */
+uint32_t sundial_restore(const uint8_t *bytes, size_t size, uint64_t tick, uint64_t hardware,
+                         struct sundial_device *device, struct sundial_port *ports, size_t count, uint64_t *lowered,
+                         uint64_t *ticked);
+
 /* What the device takes the reference time for while its counter shows this, and by how much it may
  * be off, in ps (event `ask`). The counter is as for a commit.
  * Faults: NO_DEVICE, COUNTER_FELL, ESTIMATE_TOO_GREAT. */
@@ -441,7 +489,7 @@ SUNDIAL_INLINE const char *sundial_answer_name(uint32_t answer)
 {
     static const char *const NAMES[] = {"DONE", "NO_DEVICE", "NO_DUTY", "RATES_TOO_GREAT", "COUNTER_FELL", "unknown",
                                         "CLOCK_TOO_GREAT", "ESTIMATE_TOO_GREAT", "STAMP_TOO_GREAT",
-                                        "MESSAGE_TOO_GREAT", "NOT_ROOT"};
+                                        "MESSAGE_TOO_GREAT", "NOT_ROOT", "WRONG_SIZE", "NOT_KEPT", "TOO_LATE"};
     return answer < sizeof NAMES / sizeof NAMES[0] ? NAMES[answer] : "unknown";
 }
 

@@ -24,6 +24,7 @@ static void (*const ENTRY[CALLS])(void) = {
     ENTRY_OF(fix),     ENTRY_OF(tick),       ENTRY_OF(receive),   ENTRY_OF(start_wide), ENTRY_OF(join_wide),
     ENTRY_OF(fix_wide), ENTRY_OF(rebase),    ENTRY_OF(report),    ENTRY_OF(parent),   ENTRY_OF(acts),   ENTRY_OF(epoch),
     ENTRY_OF(rebase_with_ports), ENTRY_OF(port_open), ENTRY_OF(port_close), ENTRY_OF(port_takes), ENTRY_OF(in_time),
+    ENTRY_OF(keep),    ENTRY_OF(kept),       ENTRY_OF(restore),
 #undef ENTRY_OF
 };
 
@@ -44,7 +45,8 @@ static void run_child(uint64_t wanted)
         room(sizeof *at.device), room(sizeof *at.duty),   room(sizeof *at.rates),
         room(sizeof *at.message), room(sizeof *at.clock), room(sizeof *at.eps),
         room(sizeof *at.effect), room(sizeof *at.report), room(sizeof *at.parent),
-        room(sizeof *at.lowered), room(sizeof *at.acts),  room(sizeof *at.epoch), room(sizeof *at.ports),
+        room(sizeof *at.lowered), room(sizeof *at.ticked), room(sizeof *at.acts),  room(sizeof *at.epoch),
+        room(sizeof *at.ports),   room(sizeof *at.bytes),
     };
     volatile char touched[16 * STACK]; /* (so that all of the stack is there) */
     for (size_t i = 0; i < sizeof touched; i += 512)

@@ -6,7 +6,7 @@
 # LIBRARY is libsd_device_c.a. With each compiler that is there: header and bindings compile
 # without a warning, as C11 and as C++17, and a program in C++ makes every call. Then, where the
 # compiler can: the duties of sundial-duty beside those of fabric.h, the compact log beside the schedule, what the header
-# computes, a device for years, sundial_clock.h (clock_checks.sh), what the host takes and drops, the example, the
+# computes, what is kept, a device for years, sundial_clock.h (clock_checks.sh), what the host takes and drops, the example, the
 # recorder and the host under the address and undefined-behaviour sanitizers, the fuzzer for SECONDS (3), a program without a C library, and
 # what pkg-config says. A line with "left out" names what is not there.
 set -u
@@ -47,7 +47,7 @@ compile() { # compiler standard language file..
 headers=(sundial_device.h recorder.h sundial_clock.h)
 for compiler in gcc clang; do
     there "$compiler" || { echo "checks: left out, as there is no $compiler"; continue; }
-    compile "$compiler" c11 c "${headers[@]}" recorder.c recorder_test.c embed.c fuzz.c years.c header_test.c clock_test.c clock_run.c clock_reader.c clock_writer.c sundial.c host/host.c ../../bench/embed/time.c
+    compile "$compiler" c11 c "${headers[@]}" recorder.c recorder_test.c embed.c fuzz.c years.c header_test.c kept_test.c clock_test.c clock_run.c clock_reader.c clock_writer.c sundial.c host/host.c ../../bench/embed/time.c
 done
 for compiler in g++ clang++; do
     there "$compiler" || { echo "checks: left out, as there is no $compiler"; continue; }
@@ -92,6 +92,8 @@ fi
     || fail "the recorder"
 "$compiler" -std=c11 -O2 "${warnings[@]}" -o "$work/header" header_test.c "$library" && "$work/header" \
     || fail "what the header computes"
+"$compiler" -std=c11 -O2 "${warnings[@]}" -o "$work/kept" kept_test.c "$library" && "$work/kept" \
+    || fail "what is kept"
 "$compiler" -std=c11 -O2 "${warnings[@]}" -o "$work/years" years.c "$library" && "$work/years" 1 \
     || fail "a device for years"
 

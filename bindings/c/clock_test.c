@@ -437,8 +437,9 @@ static void names(void)
     CLOCK_NAMED(BAD_RAW), CLOCK_NAMED(BAD_TERMS);
     NAMED(NO_DEVICE), NAMED(NO_DUTY), NAMED(RATES_TOO_GREAT), NAMED(COUNTER_FELL), NAMED(CLOCK_TOO_GREAT);
     NAMED(ESTIMATE_TOO_GREAT), NAMED(STAMP_TOO_GREAT), NAMED(MESSAGE_TOO_GREAT), NAMED(NOT_ROOT);
+    NAMED(WRONG_SIZE), NAMED(NOT_KEPT), NAMED(TOO_LATE);
     expect(strcmp(sundial_answer_name(0), "DONE") == 0, "the name of DONE");
-    static const uint32_t NONE[] = {5, 11, 99, 112, UINT32_MAX};
+    static const uint32_t NONE[] = {5, 14, 99, 112, UINT32_MAX};
     for (size_t i = 0; i < sizeof NONE / sizeof NONE[0]; i++)
         expect(strcmp(sundial_clock_name(NONE[i]), "unknown") == 0, "the name of no answer");
 }

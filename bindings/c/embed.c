@@ -382,17 +382,22 @@ static void seal(void)
     }
 }
 
-/* The process of l1 ends and begins anew. It kept its device, and its counter goes on. */
+/* The process of l1 ends and begins anew at once. What it kept goes on, and so does its counter. */
 static void restart(void)
 {
-    unsigned char kept[sizeof(struct sundial_device)];
-    struct sundial_device *device = &nodes[L1].device;
-    memcpy(kept, device, sizeof kept);
-    memset(device, 0, sizeof *device);
-    if (sundial_made(device) != SUNDIAL_NO_DEVICE)
+    static uint8_t kept[SUNDIAL_KEPT_SIZE(LINKS)];
+    struct node *node = &nodes[L1];
+    uint64_t hardware = counter_of(node), ticked = 0;
+    check(sundial_keep(&node->device, node->ports, LINKS, node->lowered, hardware, kept, sizeof kept), "keep");
+    memset(&node->device, 0, sizeof node->device);
+    memset(node->ports, 0, sizeof node->ports);
+    node->lowered = 0;
+    if (sundial_made(&node->device) != SUNDIAL_NO_DEVICE)
         stop("nothing passes for a device");
-    memcpy(device, kept, sizeof kept);
-    check(sundial_made(device), "made");
+    check(sundial_restore(kept, sizeof kept, DUTIES[0][L1].rates.grain, hardware, &node->device, node->ports, LINKS,
+                          &node->lowered, &ticked),
+          "restore");
+    check(sundial_made(&node->device), "made");
 }
 
 /* Each device follows its primary parent of plan 3, and s1 acts. */

@@ -21,7 +21,7 @@
 
 #include "sundial_device.h"
 
-enum { ANSWERS = 11, REBASE_WITH_PORTS = 17, PORT_OPEN, PORT_CLOSE, PORT_TAKES, IN_TIME, CALLS, PORTS = 3 };
+enum { ANSWERS = 14, REBASE_WITH_PORTS = 17, PORT_OPEN, PORT_CLOSE, PORT_TAKES, IN_TIME, KEEP, KEPT, RESTORE, CALLS, PORTS = 3 };
 
 static const uint64_t FEWEST = 200000; /* calls, on a machine that is busy too */
 
@@ -35,6 +35,7 @@ static const struct {
     {"rebase", 0x093},     {"report", 0x093},    {"parent", 0x003},   {"acts", 0x003},
     {"epoch", 0x003},      {"rebase_with_ports", 0x093}, {"port_open", 0x00d}, {"port_close", 0x001},
     {"port_takes", 0x003}, {"in_time", 0x003}, /* (these two answer 1 or 0) */
+    {"keep", 0x0803},      {"kept", 0x1001},     {"restore", 0x3001},
 };
 
 static uint64_t word, calls, seed;
@@ -203,6 +204,10 @@ struct ports {
     struct sundial_port all[PORTS];
 };
 
+struct bytes {
+    uint8_t all[SUNDIAL_KEPT_SIZE(PORTS)];
+};
+
 struct rooms {
     struct sundial_device *device;
     struct sundial_duty *duty;
@@ -214,9 +219,11 @@ struct rooms {
     struct sundial_clock_report *report;
     struct sundial_optional_parent *parent;
     uint64_t *lowered;
+    uint64_t *ticked;
     uint8_t *acts;
     uint32_t *epoch;
     struct ports *ports;
+    struct bytes *bytes;
 };
 
 struct numbers {
@@ -249,13 +256,20 @@ static uint32_t made_of(const struct rooms *at, const struct numbers *n)
     case PORT_OPEN: return sundial_port_open(at->ports->all, &at->duty->primary, at->rates, n->counter);
     case PORT_CLOSE: sundial_port_close(at->ports->all); return SUNDIAL_DONE;
     case PORT_TAKES: return sundial_port_takes(at->ports->all, n->counter);
+    case KEEP:
+        return sundial_keep(at->device, at->ports->all, PORTS, n->clock, n->eps, at->bytes->all, sizeof *at->bytes - (n->link == 2));
+    case KEPT:
+        return sundial_kept(at->bytes->all, sizeof *at->bytes, at->device, at->ports->all, PORTS, at->lowered, at->ticked);
+    case RESTORE:
+        return sundial_restore(at->bytes->all, sizeof *at->bytes, n->eps, n->counter, at->device, at->ports->all, PORTS,
+                               at->lowered, at->ticked);
     default: return sundial_in_time(at->rates, n->eps, n->clock, n->counter);
     }
 }
 
 static int changes_device(void)
 {
-    return (call >= 1 && call <= 12) || call == REBASE_WITH_PORTS;
+    return (call >= 1 && call <= 12) || call == REBASE_WITH_PORTS || call == KEPT || call == RESTORE;
 }
 
 /* The counter: most often where a device of these counters takes it. */
@@ -274,7 +288,7 @@ static void copy_all(unsigned char *to, const struct rooms *at)
 {
 #define COPY(field) memcpy(to, at->field, sizeof *at->field), to += sizeof *at->field
     COPY(device), COPY(duty), COPY(rates), COPY(message), COPY(clock), COPY(eps), COPY(effect);
-    COPY(report), COPY(parent), COPY(lowered), COPY(acts), COPY(epoch), COPY(ports);
+    COPY(report), COPY(parent), COPY(lowered), COPY(ticked), COPY(acts), COPY(epoch), COPY(ports), COPY(bytes);
 #undef COPY
 }
 
@@ -282,7 +296,7 @@ static void put_back(const unsigned char *from, const struct rooms *at)
 {
 #define COPY(field) memcpy(at->field, from, sizeof *at->field), from += sizeof *at->field
     COPY(device), COPY(duty), COPY(rates), COPY(message), COPY(clock), COPY(eps), COPY(effect);
-    COPY(report), COPY(parent), COPY(lowered), COPY(acts), COPY(epoch), COPY(ports);
+    COPY(report), COPY(parent), COPY(lowered), COPY(ticked), COPY(acts), COPY(epoch), COPY(ports), COPY(bytes);
 #undef COPY
 }
 
@@ -290,8 +304,8 @@ enum {
     ALL = sizeof(struct sundial_device) + sizeof(struct sundial_duty) + sizeof(struct sundial_rates)
           + sizeof(struct sundial_message) + sizeof(struct sundial_effect)
           + sizeof(struct sundial_clock_report) + sizeof(struct sundial_optional_parent)
-          + 2 * sizeof(struct sundial_wide) + sizeof(uint64_t) + sizeof(uint8_t) + sizeof(uint32_t)
-          + sizeof(struct ports)
+          + 2 * sizeof(struct sundial_wide) + 2 * sizeof(uint64_t) + sizeof(uint8_t) + sizeof(uint32_t)
+          + sizeof(struct ports) + sizeof(struct bytes)
 };
 
 /* Flags are 1 or 0 and nothing else, and a device acts, or has a parent, by its mode. */
@@ -305,6 +319,17 @@ static int is_told(const struct rooms *at)
     case PORT_CLOSE: return at->ports->all[0].is_open == 0;
     default: return 1;
     }
+}
+
+/* For a call that reads what was kept: what is kept of another device, one time in three with another bit. */
+static void keep_another(const struct rooms *at)
+{
+    struct sundial_device other = device();
+    if (call < KEPT)
+        return;
+    if (sundial_keep(&other, at->ports->all, PORTS, number(), number(), at->bytes->all, sizeof *at->bytes) == SUNDIAL_DONE
+        && one_in(3))
+        at->bytes->all[(chance() >> 32) % sizeof *at->bytes] ^= (uint8_t)(1 << (chance() >> 61));
 }
 
 static void one_call(const struct rooms *at)
@@ -325,6 +350,7 @@ static void one_call(const struct rooms *at)
     n.clock = number();
     n.eps = number();
     n.link = (uint32_t)below(3);
+    keep_another(at);
     copy_all(before, at);
     calls++;
     uint32_t answer = made_of(at, &n);
@@ -340,7 +366,7 @@ static void one_call(const struct rooms *at)
                                             + sizeof *at->clock + sizeof *at->eps;
     if (memcmp(before + given, after + given, taken) != 0)
         say("it changed what it was given to read");
-    if (answer == SUNDIAL_DONE && call <= REBASE_WITH_PORTS && sundial_made(at->device) != SUNDIAL_DONE)
+    if (answer == SUNDIAL_DONE && (call <= REBASE_WITH_PORTS || call >= KEEP) && sundial_made(at->device) != SUNDIAL_DONE)
         say("what it left is no device");
     if (answer == SUNDIAL_DONE && !is_told(at))
         say("it tells another thing than the device");
@@ -394,7 +420,8 @@ int main(int count, char **words)
         room(sizeof *at.device), room(sizeof *at.duty),   room(sizeof *at.rates),
         room(sizeof *at.message), room(sizeof *at.clock), room(sizeof *at.eps),
         room(sizeof *at.effect), room(sizeof *at.report), room(sizeof *at.parent),
-        room(sizeof *at.lowered), room(sizeof *at.acts),  room(sizeof *at.epoch), room(sizeof *at.ports),
+        room(sizeof *at.lowered), room(sizeof *at.ticked), room(sizeof *at.acts),  room(sizeof *at.epoch),
+        room(sizeof *at.ports),   room(sizeof *at.bytes),
     };
     while (seconds() - begun < wanted || (wanted >= 3 && calls < FEWEST))
         for (int i = 0; i < 4096; i++)

@@ -86,6 +86,16 @@ int main()
                && sundial_port_takes(&port, 2000 - lowered),
            "a port");
     expect(sundial_in_time(&duty.rates, 100000, 700, 9700) == 1 && sundial_in_time(&duty.rates, 100000, 700, 99700) == 0, "in_time");
+    std::uint8_t kept[SUNDIAL_KEPT_SIZE(1)] = {};
+    sundial_device back = {};
+    sundial_port other = {};
+    std::uint64_t by = 0, ticked = 0;
+    expect(sundial_keep(&device, &port, 1, lowered, 700, kept, sizeof kept) == SUNDIAL_DONE
+               && sundial_kept(kept, sizeof kept, &back, &other, 1, &by, &ticked) == SUNDIAL_DONE && by == lowered
+               && ticked == 700 && back.last == device.last && other.clear.low == port.clear.low
+               && sundial_restore(kept, sizeof kept, 100000, 9700, &back, &other, 1, &by, &ticked) == SUNDIAL_DONE
+               && sundial_restore(kept, sizeof kept, 100000, 999700, &back, &other, 1, &by, &ticked) == SUNDIAL_TOO_LATE,
+           "what is kept");
     sundial_port_close(&port);
     expect(!sundial_port_takes(&port, 2000), "a closed port");
     expect(sundial_join(&device, &duty.rates, 700, 5000, 10) == SUNDIAL_DONE, "join");

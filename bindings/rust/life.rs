@@ -2,7 +2,7 @@
 // run.sh puts the code of docs/LIFE-OF-A-DEVICE.md above this, and makes a test of both.
 
 use sundial_device::raw::{Stamp, Wide};
-use sundial_device::{Edge, Mode, ORDINARY};
+use sundial_device::{Edge, Mode, Rates, ORDINARY};
 
 const TICK: u64 = 40_000_000;
 
@@ -45,9 +45,15 @@ fn goes_on_for_years() {
         assert!(me.receive(0, &message(round, since), hardware).unwrap().is_none());
         let relayed = me.receive(1, &message(round, since), hardware).unwrap().unwrap();
         assert_eq!(relayed.clock.low, since + 700_000);
-        let kept = me.clone();
-        assert!(kept.is_in_time(&leaf().rates, TICK, hardware.wrapping_add(TICK - 9_001)));
-        assert!(!kept.is_in_time(&leaf().rates, TICK, hardware.wrapping_add(TICK - 8_990)));
+        let mut bytes = me.bytes().unwrap();
+        let restored = Kept::restore(&bytes, 3, TICK, hardware.wrapping_add(TICK - 9_001));
+        assert_eq!(restored.as_ref(), Ok(&me));
+        assert_eq!(Kept::restore(&bytes, 3, TICK, hardware.wrapping_add(TICK - 8_990)), Err(Fault::TooLate));
+        assert_eq!(Kept::restore(&bytes, 2, TICK, hardware), Err(Fault::NotKept));
+        let at = (round * 7) as usize % bytes.len();
+        bytes[at] ^= 1 << (round % 8);
+        assert_eq!(Kept::restore(&bytes, 3, TICK, hardware), Err(Fault::NotKept));
+        me = restored.unwrap(); // and goes on with what was kept
     }
     assert_eq!(me.device.mode(), Ok(Mode::Primary));
     assert!(me.counter(begin.wrapping_add(9_900_000_000)) <= 101_000_000); // (a period, since it heard)

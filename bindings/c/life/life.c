@@ -71,7 +71,8 @@ struct flight {
 };
 
 struct node {
-    struct kept me, stable; /* in memory, and what outlives the process */
+    struct kept me;                              /* in memory */
+    uint8_t stable[SUNDIAL_KEPT_SIZE(SUNDIAL_LINKS)]; /* what outlives the process */
     uint64_t first;         /* what its hardware showed at `changed_at` */
     uint64_t millionths;    /* how far that advances in 1000000 ps of the reference time */
     uint64_t changed_at, next_tick, rebased;
@@ -157,16 +158,17 @@ void send_below(const struct sundial_message *message)
     }
 }
 
-void keep(const struct kept *me)
+void store(const uint8_t *bytes, size_t size)
 {
-    nodes[self].stable = *me;
+    expect(size == sizeof nodes[self].stable, "what is kept has another size");
+    memcpy(nodes[self].stable, bytes, size);
     nodes[self].has_stable = 1;
 }
 
-int read_kept(struct kept *me)
+int read_stored(uint8_t *bytes, size_t size)
 {
     if (nodes[self].has_stable)
-        *me = nodes[self].stable;
+        memcpy(bytes, nodes[self].stable, size);
     return nodes[self].has_stable;
 }
 
@@ -616,9 +618,10 @@ static int restart(uint32_t device, uint64_t pause)
     nodes[device].is_up = 0;
     memset(&nodes[device].me, 0, sizeof nodes[device].me);
     run_for(pause);
-    int goes_on = restore(of(device), &SUNDIAL_DUTIES[WHOLE][device].rates);
-    if (!goes_on)
+    uint32_t answer = restore(of(device));
+    if (answer == SUNDIAL_TOO_LATE)
         return 0;
+    done(answer, "restore");
     restored++;
     nodes[device].is_up = 1;
     tick_one(device);

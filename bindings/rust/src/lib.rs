@@ -36,6 +36,12 @@ pub enum Fault {
     MessageTooGreat,
     /// No duty of a root was given to the device.
     NotRoot,
+    /// What is kept of so many ports takes [`kept_size`] of them in bytes, and not so many.
+    WrongSize,
+    /// The bytes are not what is kept of a device with so many ports.
+    NotKept,
+    /// More than a tick may have passed since the device's latest tick.
+    TooLate,
     /// An answer that the header does not name.
     Unknown(u32),
 }
@@ -52,6 +58,9 @@ impl fmt::Display for Fault {
             Fault::StampTooGreat => "the device's own term is 2^31 or more, or its round 2^62 or more",
             Fault::MessageTooGreat => "the message has a clock, an eps, a term or a round past its limit",
             Fault::NotRoot => "no duty of a root was given to the device",
+            Fault::WrongSize => "what is kept of so many ports takes another number of bytes",
+            Fault::NotKept => "the bytes are not what is kept of a device with so many ports",
+            Fault::TooLate => "more than a tick may have passed since the device's latest tick",
             Fault::Unknown(answer) => return write!(to, "the library answered {answer}"),
         })
     }
@@ -164,6 +173,22 @@ impl Port {
     }
 }
 
+/// How many bytes are kept of a device with so many ports.
+pub const fn kept_size(ports: usize) -> usize {
+    318 + 17 * ports
+}
+
+/// What was kept of a device, but for its ports.
+#[derive(Clone, Debug, PartialEq, Eq)]
+pub struct Restored {
+    /// The device.
+    pub device: Device,
+    /// By how much the counter of its calls is lower than the hardware's, modulo 2^64.
+    pub lowered: u64,
+    /// What the hardware's counter showed at its latest tick, or at the start or join where that is later.
+    pub ticked: u64,
+}
+
 /// A device: plain numbers, which may be copied and kept.
 ///
 /// Counters, clocks and eps are in ps. A counter is not below one that the device keeps, and a clock
@@ -229,6 +254,46 @@ impl Device {
             raw::sundial_join_wide(&mut device, rates, counter, &wide(clock), &wide(eps))
         })?;
         Ok(Device(device))
+    }
+
+    /// Writes what is to be kept of it and its ports, as many bytes as [`kept_size`] says: beside it by how
+    /// much its counter is lower than the hardware's, modulo 2^64, and what the hardware showed at its latest
+    /// tick, or at the start or join where that is later. Keep the bytes after each call that changed any of
+    /// it, and before you send what the call sent. Faults: `WrongSize`.
+    pub fn keep(&self, ports: &[Port], lowered: u64, ticked: u64, bytes: &mut [u8]) -> Result<(), Fault> {
+        let (first, room) = (ports.as_ptr().cast(), bytes.as_mut_ptr());
+        done(unsafe {
+            raw::sundial_keep(&self.0, first, ports.len(), lowered, ticked, room, bytes.len())
+        })
+    }
+
+    /// What was kept of a device with as many ports, which it writes. One byte that is another is found, always.
+    /// Faults: `NotKept`.
+    pub fn kept_in(bytes: &[u8], ports: &mut [Port]) -> Result<Restored, Fault> {
+        let (mut device, mut lowered, mut ticked) = (raw::Device::default(), 0, 0);
+        let (from, first) = (bytes.as_ptr(), ports.as_mut_ptr().cast());
+        done(unsafe {
+            raw::sundial_kept(from, bytes.len(), &mut device, first, ports.len(), &mut lowered, &mut ticked)
+        })?;
+        Ok(Restored { device: Device(device), lowered, ticked })
+    }
+
+    /// The same, for a device that is to go on: surely no more than `tick` ps have passed since its latest tick,
+    /// while the hardware's counter shows this. Tick at once. Faults: `NotKept`, `TooLate`.
+    pub fn restore_in_time(
+        bytes: &[u8],
+        tick: u64,
+        hardware: u64,
+        ports: &mut [Port],
+    ) -> Result<Restored, Fault> {
+        let (mut device, mut lowered, mut ticked) = (raw::Device::default(), 0, 0);
+        let (from, first, count) = (bytes.as_ptr(), ports.as_mut_ptr().cast(), ports.len());
+        done(unsafe {
+            raw::sundial_restore(
+                from, bytes.len(), tick, hardware, &mut device, first, count, &mut lowered, &mut ticked,
+            )
+        })?;
+        Ok(Restored { device: Device(device), lowered, ticked })
     }
 
     /// The device that was kept as these numbers. Faults: `NoDevice`.
@@ -431,6 +496,9 @@ fn done(answer: u32) -> Result<(), Fault> {
         8 => Fault::StampTooGreat,
         9 => Fault::MessageTooGreat,
         10 => Fault::NotRoot,
+        11 => Fault::WrongSize,
+        12 => Fault::NotKept,
+        13 => Fault::TooLate,
         other => Fault::Unknown(other),
     })
 }

@@ -251,6 +251,38 @@ extern "C" {
     pub fn sundial_port_takes(port: &Port, counter: u64) -> u32;
     /// 1 where it may go on after a pause, and else 0.
     pub fn sundial_in_time(rates: &Rates, tick: u64, ticked: u64, hardware: u64) -> u32;
+    /// Writes what is to be kept of a device and of as many ports from the first one on.
+    pub fn sundial_keep(
+        device: &Device,
+        ports: *const Port,
+        count: usize,
+        lowered: u64,
+        ticked: u64,
+        bytes: *mut u8,
+        size: usize,
+    ) -> u32;
+    /// Reads what was kept.
+    pub fn sundial_kept(
+        bytes: *const u8,
+        size: usize,
+        device: &mut Device,
+        ports: *mut Port,
+        count: usize,
+        lowered: &mut u64,
+        ticked: &mut u64,
+    ) -> u32;
+    /// The same, where the device may go on after its pause.
+    pub fn sundial_restore(
+        bytes: *const u8,
+        size: usize,
+        tick: u64,
+        hardware: u64,
+        device: &mut Device,
+        ports: *mut Port,
+        count: usize,
+        lowered: &mut u64,
+        ticked: &mut u64,
+    ) -> u32;
     /// What it takes the reference time for.
     pub fn sundial_report(device: &Device, counter: u64, report: &mut Report) -> u32;
     /// Whom it follows.

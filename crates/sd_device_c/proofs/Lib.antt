@@ -3,3 +3,6 @@ pub mod Repeats
 pub mod Waiting
 pub mod Lowering
 pub mod Pausing
+pub mod Bytes
+pub mod Checksum
+pub mod Saying

@@ -5,7 +5,7 @@ use Rattle.sd_device.specs.Calls.{Started}
 use Rattle.sd_device_c.specs.declared.plain.PlainDevice.{PlainDevice}
 use Rattle.sd_device_c.specs.declared.plain.PlainDuty.{PlainDuty}
 use Rattle.sd_device_c.specs.declared.faults.Fault.{Fault}
-use Rattle.sd_device_c.specs.declared.faults.Fault.TheVariants.{NoDevice, NoDuty, RatesTooGreat, CounterFell, ClockTooGreat, EstimateTooGreat, StampTooGreat, MessageTooGreat, NotRoot}
+use Rattle.sd_device_c.specs.declared.faults.Fault.TheVariants.{NoDevice, NoDuty, RatesTooGreat, CounterFell, ClockTooGreat, EstimateTooGreat, StampTooGreat, MessageTooGreat, NotRoot, WrongSize, NotKept, TooLate}
 use Rattle.sd_device_c.specs.Plain.{duty_from}
 use Rattle.sd_device_c.specs.Faults.{code_of}
 use Rattle.sd_device_c.specs.Owed.{OwesToMake}
@@ -21,6 +21,9 @@ code_names EstimateTooGreat none = omega (arith, none)
 code_names StampTooGreat none = omega (arith, none)
 code_names MessageTooGreat none = omega (arith, none)
 code_names NotRoot none = omega (arith, none)
+code_names WrongSize none = omega (arith, none)
+code_names NotKept none = omega (arith, none)
+code_names TooLate none = omega (arith, none)
 
 pub answers_fault : (May : Type 0) (Has : Fault → Type 0) (answer : ℕ) (fault : Fault) → answer ≡ code_of fault → Has fault
     → (May → ⊥) → IsAnswerFor answer May Has

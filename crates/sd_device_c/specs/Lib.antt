@@ -4,3 +4,5 @@ pub mod Owed
 pub mod Answers
 pub mod Ports
 pub mod Pauses
+pub mod Crc
+pub mod Kept

@@ -28,6 +28,12 @@ pub(crate) enum Fault {
     MessageTooGreat,
     /// No duty of a root was given to the device.
     NotRoot,
+    /// What is kept of so many ports takes another number of bytes.
+    WrongSize,
+    /// The bytes are not what is kept of a device with so many ports.
+    NotKept,
+    /// More than a tick may have passed since the latest tick.
+    TooLate,
 }
 
 impl Fault {
@@ -45,6 +51,9 @@ impl Fault {
             Fault::StampTooGreat => 8,
             Fault::MessageTooGreat => 9,
             Fault::NotRoot => 10,
+            Fault::WrongSize => 11,
+            Fault::NotKept => 12,
+            Fault::TooLate => 13,
         }
     }
 }

@@ -6,9 +6,12 @@
 #![tactic(auto)]
 
 mod checks;
+mod crc;
 mod faults;
+mod keeping;
 mod limits;
 mod makings;
+mod packing;
 mod pauses;
 mod plain;
 mod ports;
@@ -18,5 +21,6 @@ mod rebases;
 mod steps;
 #[cfg(test)]
 mod tests;
+mod unpacking;
 mod version;
 mod writing;

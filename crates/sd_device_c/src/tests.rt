@@ -1,5 +1,7 @@
 //! A backup root from its start to its takeover, beside values worked out by hand, and faults.
+use super::crc::crc;
 use super::faults::{DONE, Fault};
+use super::keeping::{sundial_keep, sundial_kept, sundial_restore};
 use super::makings::{sundial_made, sundial_start, sundial_start_wide};
 use super::plain::{
     PlainDevice, PlainDuty, PlainEdge, PlainEffect, PlainEstimate, PlainMessage, PlainParent,
@@ -221,4 +223,57 @@ fn takes_what_is_younger_than_the_port(rt: HostRuntime) {
     assert_eq!(rt; sundial_port_takes(&ports[0], 1_022), 1);
     sundial_port_close(&mut port);
     assert_eq!(rt; sundial_port_takes(&port, 9_000), 0);
+}
+
+/// What is kept of a backup root and its port over link 0, whose link was down since.
+#[test]
+fn keeps_and_restores(rt: HostRuntime) {
+    let mut device = UNMADE;
+    assert_eq!(rt; sundial_start(&mut device, &STANDBY, 0, 0, 500), DONE);
+    let port = PlainPort {
+        clear: PlainWide { low: 7, high: 1 },
+        is_open: 0,
+    };
+    let mut bytes = [0; 335];
+    assert_eq!(rt;
+        sundial_keep(&device, &[port], LATE, 9, &mut bytes[..334]),
+        Fault::WrongSize.code()
+    );
+    assert_eq!(rt; sundial_keep(&device, &[port], LATE, 9, &mut bytes), DONE);
+    let mut kept = UNMADE;
+    let mut ports = [PlainPort {
+        clear: ZERO,
+        is_open: 1,
+    }];
+    let (mut lowered, mut ticked) = (0, 0);
+    assert_eq!(rt;
+        sundial_restore(
+            &bytes,
+            2_000,
+            1_009,
+            &mut kept,
+            &mut ports,
+            &mut lowered,
+            &mut ticked
+        ),
+        Fault::TooLate.code()
+    );
+    assert_eq!(rt; (kept, lowered, ticked), (UNMADE, 0, 0));
+    assert_eq!(rt;
+        sundial_kept(&bytes, &mut kept, &mut ports, &mut lowered, &mut ticked),
+        DONE
+    );
+    assert_eq!(rt; (kept, ports[0], lowered, ticked), (device, port, LATE, 9));
+    bytes[100] ^= 4;
+    assert_eq!(rt;
+        sundial_kept(&bytes, &mut kept, &mut ports, &mut lowered, &mut ticked),
+        Fault::NotKept.code()
+    );
+}
+
+/// The check value of this checksum, in the catalogues of such.
+#[test]
+fn is_the_usual_checksum(rt: HostRuntime) {
+    assert_eq!(rt; crc(b"123456789"), 0xCBF4_3926);
+    assert_eq!(rt; crc(b""), 0);
 }
