@@ -1,4 +1,6 @@
 pub mod Deployment
+pub mod Steps
 pub mod Laws
 pub mod Receipts
+pub mod Worked
 pub mod Witness
