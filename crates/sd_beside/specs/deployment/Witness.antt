@@ -44,10 +44,10 @@ pub record IsSafeRun : Type 0 where
 
 -- devices 1 and 2 are rebased before the takeover at line 85, while they wait for the root that failed, and after the renewal that closes at line 101
 pub record AreRebased : Type 0 where
-  pub first_waits : lowered_by 84 1 ≡ Some 0
-  pub second_waits : lowered_by 84 2 ≡ Some 0
-  pub first_renewed : lowered_by 109 1 ≡ Some 0
-  pub second_renewed : lowered_by 109 2 ≡ Some 0
+  pub first_waits : lowered_by 84 1 ≡ Some 1519908800
+  pub second_waits : lowered_by 84 2 ≡ Some 160757681
+  pub first_renewed : lowered_by 109 1 ≡ Some 3039817600
+  pub second_renewed : lowered_by 109 2 ≡ Some 3041314507
 
 -- The bound
 
