@@ -15,7 +15,7 @@ use Rattle.sd_device.proofs.Exactness.{device_is_exact}
 use Rattle.sd_device.proofs.Summing.{lowered_after, not_lowered}
 use Rattle.sd_history.specs.Chronicle.{answers_by}
 use Rattle.sd_history.proofs.Tellings.{answers_agree}
-use Rattle.sd_beside.specs.deployment.Steps.{StandsIn, MakingStands, RestoreStands, RebaseStands, CallStands, ReportStands, AnswersStand}
+use Rattle.sd_beside.specs.deployment.Steps.{StandsIn, MakingStands, RestoreStands, UnchangedIsRestored, RebaseStands, CallStands, ReportStands, AnswersStand}
 
 -- the same number of lowered counters, and of the latest rebase
 lowered_same : (by now more later : ℕ) (r : Registers) (life : Life) → more ≡ by → later ≡ now → StandsLowered by now r life → StandsLowered more later r life
@@ -38,6 +38,10 @@ module _ {S : Type 0} (Holds : S → Registers → Type 0) where
     restored.holds stands.0 stands.1,
     lowered_same old.lowered old.since new.lowered new.since stands.0 life restored.lowered restored.since stands.2,
   )
+
+  pub unchanged_is_restored : UnchangedIsRestored Holds
+  unchanged_is_restored kept struct call effect is same =
+      record { holds = λ r holds. subst (Holds struct) (same r holds) (is.registers r holds); lowered = refl; since = refl }
 
   pub rebase_stands : RebaseStands Holds
   rebase_stands old new life rebase stands = (

@@ -1,31 +1,42 @@
 -- The witness: the first lines of examples/triangle are a run of a deployed fleet, whose devices are rebased on the way.
-use Rattle.std.specs.Prelude.{◌≡◌, ◌≤◌, true, List, [], ◌∷◌, reverse, take, Some, IsTrue, refl}
+use Rattle.std.specs.Prelude.{◌≡◌, ◌≤◌, true, List, [], ◌∷◌, option_map, reverse, take, Some, refl}
 use Rattle.std.proofs.Common.{sym, ◌∙◌, ap, subst}
+use Rattle.std.proofs.lemmas.Bool.{ltb-true}
 use Rattle.sd_plan.specs.declared.domain.DomainId.TheVariants as domain
 use Rattle.sd_sched.specs.Lines.{event_of_line}
 use Rattle.sd_sched.specs.declared.Event.{Event}
+use Rattle.sd_sched.specs.declared.Event.TheVariants as event
 use Rattle.sd_num.specs.declared.clock.Report.{Report}
 use Rattle.sd_exports.specs.Exports.{Themselves}
-use Rattle.sd_history.specs.World.{Setting, alone}
+use Rattle.sd_history.specs.World.{Setting, in_force, is_counted}
 use Rattle.sd_history.specs.Steps.{Step, seen_of}
 use Rattle.sd_history.specs.Chronicle.{chronicle}
 use Rattle.sd_history.specs.Premises.{all_hold}
+use Rattle.sd_history.specs.Admitted.{IsAdmitted}
 use Rattle.sd_history.proofs.Admitted.{history_is_admitted}
+use Rattle.sd_safety.specs.invariant.Eras.{belongs}
+use Rattle.sd_safety.specs.invariant.Guarded.{IsSteady}
 use Rattle.sd_safety.proofs.invariant.Parts.{all_are_more, accepted_is_guarded, fair_is_guarded}
+use Rattle.sd_bound.proofs.Renewed.{stays_settled}
 use Rattle.sd_bound.specs.Recovering.{Recovers, steps_under}
-use Rattle.sd_bound.specs.Steady.{RecoversSteadily}
+use Rattle.sd_bound.specs.Hearing.{IsUndisturbedSince}
+use Rattle.sd_bound.specs.Renewed.{IsRenewed, IsSettledIn}
+use Rattle.sd_bound.specs.Steady.{RecoversSteadily, IsSteadySince}
 use Rattle.sd_beside.specs.witness.Shared.{budget, last_report, was_counted, report}
 use Rattle.sd_beside.specs.witness.Texts.{schedule_lines}
 use Rattle.sd_beside.specs.witness.Schedules.{after_line}
 use Rattle.sd_beside.specs.witness.Values.{network, first_plan, setting, events}
+use Rattle.sd_beside.specs.witness.mended.Values as mended
 use Rattle.sd_beside.proofs.witness.Renewed.{renewal}
-use Rattle.sd_beside.proofs.witness.Recovered.{recovery}
-use Rattle.sd_beside.specs.deployment.Deployment.{steps_of, IsDeployment}
+use Rattle.sd_beside.proofs.witness.Recovered.{under, recovery}
+use Rattle.sd_beside.proofs.witness.mended.Mended.{under as mended_under, mended as second_witness}
+use Rattle.sd_beside.proofs.witness.mended.Read.{is_network, first_fits}
+use Rattle.sd_beside.specs.deployment.Deployment.{steps_of, struct_in, IsDeployment}
 use Rattle.sd_beside.specs.deployment.Laws.{events_in, IsItsHistory}
 use Rattle.sd_beside.specs.deployment.Worked.{after_call, run_of}
-use Rattle.sd_beside.specs.deployment.Witness.{run, recovering, IsSafeRun, AreRebased, IsBoundedRun, IsWitness}
+use Rattle.sd_beside.specs.deployment.Witness.{run, recovering, hearing, asked, IsSafeRun, AreRebased, IsRenewedRun, IsBoundedRun, IsHearingRun, IsWitness}
 use Rattle.sd_beside.proofs.deployment.History.{is_history}
-use Rattle.sd_beside.proofs.deployment.Fleets.{fleet_stays_safe, fleet_stays_below}
+use Rattle.sd_beside.proofs.deployment.Fleets.{fleet_stays_safe, fleet_stays_below, fleet_hears_again}
 use Rattle.sd_beside.proofs.deployment.Worked.{may_call, all_follow, is_deployment}
 
 -- a run that is worked out has these events
@@ -78,10 +89,41 @@ rebased : AreRebased
 unfolding events schedule_lines event_of_line after_call
 rebased = record { first_waits = refl; second_waits = refl; first_renewed = refl; second_renewed = refl }
 
--- The bound
+-- After the renewal
 
-abbrev under : Setting
-under = alone network first_plan
+ends_so : reverse (take 109 events) ≡ event.Ask 3205000000 2 3205352550 ∷ reverse (take 108 events)
+unfolding events schedule_lines event_of_line
+ends_so = refl
+
+steady : IsSteady setting (event.Ask 3205000000 2 3205352550 ∷ reverse (take 108 events))
+steady =
+    subst (IsSteady setting) ends_so
+    (record {
+      is = subst (IsAdmitted setting) (events_are setting (reverse (take 109 events))) (is_history Themselves setting (run 109) is).is;
+      premises = all_are_more setting (seen_of (after_line setting events 109)) none_broken;
+    })
+
+renewed_there : IsRenewed (after_line setting events 108)
+unfolding events schedule_lines event_of_line
+renewed_there = record { renewed = ltb-true _ _ refl; unfailed = refl; uncommitted = refl }
+
+belongs_there : belongs network (in_force setting (seen_of (after_line setting events 108))) 2 ≡ true
+unfolding events schedule_lines event_of_line
+belongs_there = refl
+
+earlier : steps_of setting (run 108) ≡ after_line setting events 108
+earlier = steps_are setting (reverse (take 108 events)) (subst (IsDeployment Themselves setting) (ap (run_of setting) ends_so) is).0
+
+renewed : IsRenewedRun
+renewed =
+    record {
+      renewed = subst IsRenewed (sym earlier) renewed_there;
+      settled = subst (λ steps. IsSettledIn setting steps 3205000000 2) (sym earlier)
+          (stays_settled setting (event.Ask 3205000000 2 3205352550) (reverse (take 108 events)) (fair_is_guarded setting renewal.fair) steady renewed_there 2
+          belongs_there);
+    }
+
+-- The bound
 
 abbrev lines : List Event
 lines = reverse (take 89 events)
@@ -139,5 +181,62 @@ bounded =
       below = below_bound (report 2885262869 879413) (steps_of under recovering) refl reported counted;
     }
 
+-- Hearing again
+
+abbrev mended_lines : List Event
+mended_lines = reverse (take 329 mended.events)
+
+hearing_follow : all_follow mended_under (event.Ask 7745000000 2 7745851950 ∷ mended_lines) ≡ true
+unfolding mended.events after_call may_call
+hearing_follow = refl
+
+hearing_is : IsDeployment Themselves mended_under (asked ∷ hearing)
+hearing_is = is_deployment mended_under (event.Ask 7745000000 2 7745851950 ∷ mended_lines) hearing_follow
+
+still : (history : List Event) → IsUndisturbedSince mended.network mended.first_plan (domain.Link 2) 270000000 history
+    → IsSteadySince mended.network mended.first_plan (domain.Link 2) 270000000 history
+still history calm =
+    record {
+      network = is_network;
+      fits = first_fits;
+      guarded = accepted_is_guarded mended.network mended.first_plan second_witness.meets.first_accepted;
+      is = history_is_admitted mended_under history calm.is;
+      premises = all_are_more mended_under (seen_of (chronicle mended_under history)) calm.premises;
+      inside = calm.inside;
+      unstaged = calm.unstaged;
+      unfailed = calm.unfailed;
+      begun = calm.begun;
+    }
+
+still_steady : IsSteadySince mended.network mended.first_plan (domain.Link 2) 270000000 (events_in (asked ∷ hearing))
+still_steady =
+    subst (IsSteadySince mended.network mended.first_plan (domain.Link 2) 270000000)
+    (sym (events_are mended_under (event.Ask 7745000000 2 7745851950 ∷ mended_lines)))
+    (still (event.Ask 7745000000 2 7745851950 ∷ mended_lines) second_witness.hears.undisturbed)
+
+counted_there : is_counted mended_under (seen_of (chronicle mended_under mended_lines)) 2 ≡ true
+unfolding mended.events
+counted_there = refl
+
+hearing_counted : is_counted mended_under (seen_of (steps_of mended_under hearing)) 2 ≡ true
+hearing_counted =
+    subst (λ steps. is_counted mended_under (seen_of steps) 2 ≡ true) (sym (steps_are mended_under mended_lines hearing_is.0)) counted_there
+
+rebased_there : option_map (λ kept. kept.since) (struct_in hearing 2) ≡ Some 7200792000
+unfolding mended.events after_call
+rebased_there = refl
+
+hears : IsHearingRun
+hears =
+    record {
+      is = hearing_is;
+      steady = still_steady;
+      bound = second_witness.hears.bound;
+      late = second_witness.hears.late;
+      rebased = rebased_there;
+      served = fleet_hears_again Themselves mended.network mended.first_plan (domain.Link 2) hearing asked budget 2 5048333 270000000 hearing_is still_steady
+          second_witness.hears.bound hearing_counted second_witness.hears.late;
+    }
+
 pub is_witness : IsWitness
-is_witness = record { safe = safe; rebased = rebased; bounded = bounded }
+is_witness = record { safe = safe; rebased = rebased; renewed = renewed; bounded = bounded; hearing = hears }

@@ -39,7 +39,7 @@ may_rebase counter kept =
     nat_le kept.lowered counter && nat_le kept.since counter && nat_le (floor_in kept.struct) (counter - kept.lowered)
 
 abbrev may_tend : Structs → Event → Bool
-may_tend structs (event.Tick reference d counter) = if nat_eq (reference % 800000000) 0 then map_or (structs d) true (may_rebase counter) else true
+may_tend structs (event.Tick reference d counter) = if nat_eq (reference % 240000000) 0 then map_or (structs d) true (may_rebase counter) else true
 may_tend structs _ = true
 
 rebases : (kept : Kept Registers) (counter : ℕ) → may_rebase counter kept ≡ true → IsRebased Themselves kept (rebase kept counter)
@@ -59,7 +59,7 @@ rebases kept counter may =
     back counter lowered small = omega (arith, small)
 
 are_tended : (structs : Structs) (e : Event) → may_tend structs e ≡ true → AreTended Themselves structs (tended_before structs e)
-are_tended structs (event.Tick reference d counter) may = by (nat_eq (reference % 800000000) 0) may
+are_tended structs (event.Tick reference d counter) may = by (nat_eq (reference % 240000000) 0) may
   where
     one : (o : Option (Kept Registers)) → structs d ≡ o → map_or o true (may_rebase counter) ≡ true
         → AreTended Themselves structs (map_or o [] (λ kept. record { device = d; left = rebase kept counter } ∷ []))
@@ -135,13 +135,6 @@ does_it : (kept : Kept Registers) (call : Call) → IsDue kept.struct.last (coun
 unfolding after_call
 does_it kept call is_due = call_is_called kept.struct (call_lowered kept.lowered call) is_due
 
-may_call_all : (a b c d : Bool) → (a && b && c && d) ≡ true → (a ≡ true) × (b ≡ true) × (c ≡ true) × (d ≡ true)
-may_call_all true true true true may = (refl, refl, refl, refl)
-may_call_all true true true false may = cc
-may_call_all true true false d may = cc
-may_call_all true false c d may = cc
-may_call_all false b c d may = cc
-
 record MayCall (lives : Option Life) (call : Call) (kept : Kept Registers) : Type 0 where
   is_due : IfSome (counter_of call) (λ counter. kept.since ≤ counter)
   rate : KeepsRate Themselves kept lives call
@@ -152,13 +145,15 @@ may_call_so : (lives : Option Life) (call : Call) (kept : Kept Registers) → ma
 unfolding may_call
 may_call_so lives call kept may =
     let last = counter_of (call_lowered kept.lowered call) in
-    let parts = may_call_all (is_due kept.since (counter_of call)) (is_due kept.struct.last last) (keeps_rate lives call)
+    let first = and_parts (is_due kept.since (counter_of call) && is_due kept.struct.last last && keeps_rate lives call)
     (follows_a_plan (after_call kept call).0) may in
+    let second = and_parts (is_due kept.since (counter_of call) && is_due kept.struct.last last) (keeps_rate lives call) first.0 in
+    let third = and_parts (is_due kept.since (counter_of call)) (is_due kept.struct.last last) second.0 in
     record {
-      is_due = not_below kept.since (counter_of call) parts.0;
-      rate = keeps kept lives call parts.2;
-      does = does_it kept call (due kept.struct.last last parts.1);
-      follows = parts.3;
+      is_due = not_below kept.since (counter_of call) third.0;
+      rate = keeps kept lives call second.1;
+      does = does_it kept call (due kept.struct.last last third.1);
+      follows = first.1;
     }
 
 -- what passes a test is there
@@ -256,17 +251,13 @@ is_call setting steps _ may = refl
 
 -- Runs
 
--- no cause of a refusal holds, but for the number of events
-abbrev is_admitted : Setting → List Step → Event → Bool
-is_admitted setting steps e = list_all (λ cause. not cause.1 || is_count cause.0) (causes setting steps e)
-
--- the moment of the event may come
+-- the moment of the event may come: no cause of a refusal holds, but for the number of events
 abbrev pub may_follow : Setting → List (Moment Registers) → Event → Bool
 may_follow setting run e =
     let steps = steps_of setting run in
     may_tend (struct_in run) e
     && may_act (with_tended (struct_in run) (tended_before (struct_in run) e)) (life_in steps) (act_by setting steps e)
-    && may_come steps e && is_admitted setting steps e
+    && may_come steps e && list_all (λ cause. not cause.1 || is_count cause.0) (causes setting steps e)
 
 abbrev pub all_follow : Setting → List Event → Bool
 all_follow setting [] = true
@@ -280,7 +271,8 @@ is_deployment setting (e ∷ earlier) all =
     let structs : Structs = with_tended (struct_in run) (tended_before (struct_in run) e) in
     let parts = and_parts (all_follow setting earlier) (may_follow setting run e) all in
     let first = and_parts
-    (may_tend (struct_in run) e && may_act structs (life_in steps) (act_by setting steps e) && may_come steps e) (is_admitted setting steps e) parts.1 in
+    (may_tend (struct_in run) e && may_act structs (life_in steps) (act_by setting steps e) && may_come steps e)
+    (list_all (λ cause. not cause.1 || is_count cause.0) (causes setting steps e)) parts.1 in
     let second = and_parts (may_tend (struct_in run) e && may_act structs (life_in steps) (act_by setting steps e)) (may_come steps e) first.0 in
     let third = and_parts (may_tend (struct_in run) e) (may_act structs (life_in steps) (act_by setting steps e)) second.0 in (
       is_deployment setting earlier parts.0,

@@ -67,7 +67,7 @@ struct_in [] d = None
 struct_in (x ∷ earlier) d = if same_number (changed x.act) d then x.left else with_tended (struct_in earlier) x.tended d
 
 module _ {S : Type 0} (Holds : S → Registers → Type 0) where
-  -- a restore: the struct holds what the latest one held, as a copy does. So does what a receipt that does not count made of it (specs/Receipts).
+  -- a restore: the struct holds what the latest one held, as a copy does. So does what a receipt that does not count made of it.
   pub record IsRestored (old new : Kept S) : Type 0 where
     pub holds : (r : Registers) → Holds old.struct r → Holds new.struct r
     pub lowered : new.lowered ≡ old.lowered

@@ -8,7 +8,7 @@ use Rattle.sd_device.specs.Calls.{Making, Call}
 use Rattle.sd_device.specs.Living.{Life}
 use Rattle.sd_device.specs.Words.{counter_of, effect_of, report_at}
 use Rattle.sd_device.specs.Lives.{past_of, longer, IsOrderly}
-use Rattle.sd_device.specs.Rules.{report_in}
+use Rattle.sd_device.specs.Rules.{called, report_in}
 use Rattle.sd_device.specs.Standing.{alone}
 use Rattle.sd_device.specs.Rebases.{call_lowered, StandsLowered}
 use Rattle.sd_exports.specs.Exports as exports
@@ -34,6 +34,13 @@ module _ {S : Type 0} (Holds : S → Registers → Type 0) where
   -- and so does one that is rebased
   abbrev pub RebaseStands : Type 0
   RebaseStands = (old new : Kept S) (life : Life) → IsRebased Holds old new → StandsIn old life → StandsIn new life
+
+  -- A call that leaves the registers as they are, as a receipt that does not count, is a restore.
+  abbrev pub UnchangedIsRestored : Type 0
+  UnchangedIsRestored =
+      (kept : Kept S) (struct : S) (call : Call) (effect : Effect) → exports.IsCalled Holds kept.struct call struct effect
+      → ((r : Registers) → Holds kept.struct r → (called r call).0 ≡ r)
+      → IsRestored Holds kept (record { struct = struct; lowered = kept.lowered; since = kept.since })
 
   -- a call sends what the life says, and the struct that it leaves stands for the life with this call
   abbrev pub CallStands : Type 0

@@ -23,12 +23,13 @@ rebase kept counter =
     let now = counter - kept.lowered in
     record { struct = rebased kept.struct now; lowered = kept.lowered + lowering kept.struct now; since = counter }
 
--- each device is rebased before each of its ticks that comes at a multiple of 800 us
+-- a rebase of a device, where it has registers
 abbrev pub is_rebased_at : ℕ → ℕ → Structs → List (Tended Registers)
 is_rebased_at d counter structs = map_or (structs d) [] (λ kept. record { device = d; left = rebase kept counter } ∷ [])
 
+-- each device is rebased before each of its ticks that comes at a multiple of 240 us
 abbrev pub tended_before : Structs → Event → List (Tended Registers)
-tended_before structs (event.Tick reference d counter) = if nat_eq (reference % 800000000) 0 then is_rebased_at d counter structs else []
+tended_before structs (event.Tick reference d counter) = if nat_eq (reference % 240000000) 0 then is_rebased_at d counter structs else []
 tended_before structs _ = []
 
 -- what the registers answer
