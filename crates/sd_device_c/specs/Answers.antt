@@ -4,7 +4,6 @@ use Rattle.sd_plan.specs.declared.Duty.{Duty}
 use Rattle.sd_device.specs.declared.Effect.{Effect}
 use Rattle.sd_device.specs.declared.registers.Registers.{Registers}
 use Rattle.sd_device.specs.Calls.{Making, Started, Joined, Call, Give, Past}
-use Rattle.sd_device.specs.Living.{Life}
 use Rattle.sd_device.specs.Limits.{IsDuty}
 use Rattle.sd_exports.specs.Exports as exports
 use Rattle.sd_device_c.specs.declared.plain.PlainDevice.{PlainDevice}
@@ -56,10 +55,6 @@ abbrev pub IsNoDevice : PlainDevice → Fault → Type 0
 IsNoDevice device fault = (fault ≡ NoDevice) × (IsDevice device → ⊥)
 
 -- What the calls make of a struct and tell of it is as in sd_exports, of the registers that the struct holds.
-
--- the struct is that of a device with this life, which was never rebased
-abbrev pub StandsIn : PlainDevice → Life → Type 0
-StandsIn device life = exports.StandsIn Holds device life
 
 -- the call was made of the device
 abbrev pub IsCalled : PlainDevice → Call → PlainDevice → Effect → Type 0

@@ -46,8 +46,8 @@ pub record IsSafeRun : Type 0 where
   pub closes : Closes events
   pub safe : IsSafe setting (steps_of setting (run 109))
 
--- Devices 1 and 2 are rebased while they wait for the root that failed, before device 1 takes over at line 85, and again after the renewal that closes at
--- line 101. In between each is rebased eleven times.
+-- Devices 1 and 2 are rebased while they wait for the root that failed, before device 1 takes over at line 85, and after the renewal that closes at
+-- line 101.
 pub record AreRebased : Type 0 where
   pub first_waits : lowered_by 84 1 ≡ Some 1519908800
   pub second_waits : lowered_by 84 2 ≡ Some 160757681
