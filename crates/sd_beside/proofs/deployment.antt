@@ -5,5 +5,6 @@ pub mod History
 pub mod Receipts
 pub mod Fleets
 pub mod Orderly
+pub mod Ports
 pub mod Worked
 pub mod Witness

@@ -28,11 +28,12 @@
 //! | `fleet_stays_below` | no report is above its number of the drill | `Fleets` |
 //! | `fleet_hears_again` | all hear again after a failure | `Fleets` |
 //! | `call_stands`, `rebase_stands`, `restore_stands` | a struct stands for the life of its device: one step of each | `Steps` |
+//! | `open_port_delivers` | what was sent after a port was opened reaches the device | `Ports` |
 //! | `counts_once` | after a receipt that counts no later one of the same message does | `Receipts` |
 //! | `others_change_nothing` | a receipt that does not count changes nothing | `Receipts` |
 //! | `is_witness` | a run with a failure, a takeover, rebases and a renewal that breaks no premise | `Witness` |
 //!
-//! The statements are in specs/: `Laws`, `Steps`, `Receipts`, `Witness`. The premises of the second to the
+//! The statements are in specs/: `Laws`, `Steps`, `Ports`, `Receipts`, `Witness`. The premises of the second to the
 //! fifth are those of histories, of the run's own steps or events.
 //!
 //! # How
