@@ -3,8 +3,7 @@ use Rattle.std.specs.Prelude.{◌≡◌, ℕ, ◌+◌, ◌<◌, ◌≤◌, Bool,
 use Rattle.std.specs.List.{list_any}
 use Rattle.std.proofs.Common.{arith, sym, ◌∙◌, ap, subst, inl, inr}
 use Rattle.std.proofs.lemmas.Bool.{and_from, or_from, eq-eqb, ltb-false}
-use Rattle.sd_num.specs.Lists.{map_or, leading}
-use Rattle.sd_plan.specs.declared.topo.Thing.{Thing}
+use Rattle.sd_num.specs.Lists.{map_or}
 use Rattle.sd_plan.specs.declared.topo.Thing.TheVariants as thing
 use Rattle.sd_sched.specs.declared.Event.{Event}
 use Rattle.sd_sched.specs.Events.{reference_of}
@@ -12,14 +11,15 @@ use Rattle.sd_device.specs.declared.msg.Flight.{Flight}
 use Rattle.sd_device.specs.declared.Effect.{Effect}
 use Rattle.sd_device.specs.declared.Effect.TheVariants.{Quiet, Send}
 use Rattle.sd_device.specs.declared.registers.Registers.{Registers}
-use Rattle.sd_history.specs.World.{Setting, Seen, is_thing, fails, makes, is_up, failed_after, has_failed, link_has_failed, latest_reference}
+use Rattle.sd_history.specs.World.{Setting, is_thing, fails, makes, is_up, failed_after, link_has_failed, latest_reference}
 use Rattle.sd_history.specs.Things.{mended}
-use Rattle.sd_history.specs.Steps.{Act, Answers, Told, Step, seen_of, changed, act_by, flights, flight_count, flights_by, flights_of, flight_to, ends_at, step_of}
+use Rattle.sd_history.specs.Steps.{Act, Answers, Told, Step, seen_of, changed, act_by, flights, flight_count, flights_by, flights_of, ends_at, step_of}
 use Rattle.sd_history.specs.Refusals.{since_sending, was_swept}
 use Rattle.sd_history.proofs.Among.{Among, either_side, found, first, later}
-use Rattle.sd_history.proofs.flights.Sending.{IsOver, over_ends}
+use Rattle.sd_history.proofs.flights.Sending.{over_ends}
+use Rattle.sd_safety.proofs.messages.Opening.{up_stays_by}
 use Rattle.sd_beside.specs.deployment.Deployment.{Moment, steps_of, IsDeployment}
-use Rattle.sd_beside.specs.deployment.Ports.{IsOpenSince, OpenPortDelivers}
+use Rattle.sd_beside.specs.deployment.Ports.{OpenPortDelivers}
 
 -- What a step sends
 
@@ -46,17 +46,14 @@ sent_over setting steps r act told f a = by_answers (changed act) told.answers a
 
 -- What stays while nothing fails
 
-works_on : (fail mend before : Bool) → fail ≡ false → before ≡ false
-    → map_or (if fail then Some true else if mend then Some false else None) before (λ failed. failed) ≡ false
-works_on true mend before none works = cc
-works_on false true before none works = refl
-works_on false false before none works = works
-
-up_on : (makes fail before : Bool) → fail ≡ false → before ≡ true
-    → map_or (if makes then Some true else if fail then Some false else None) before (λ up. up) ≡ true
-up_on true fail before none up = refl
-up_on false true before none up = cc
-up_on false false before none up = up
+works_on : (link : ℕ) (e : Event) (before : Bool) → fails (thing.Link link) e ≡ false → before ≡ false
+    → map_or (failed_after (thing.Link link) e) before (λ failed. failed) ≡ false
+works_on link e before none works = by (is_thing (mended e) (thing.Link link)) (fails (thing.Link link) e) none
+  where
+    by : (mend fail : Bool) → fail ≡ false → map_or (if fail then Some true else if mend then Some false else None) before (λ failed. failed) ≡ false
+    by mend true none' = cc
+    by true false none' = refl
+    by false false none' = works
 
 neither : (a b : Bool) → (a || b) ≡ false → (a ≡ false) × (b ≡ false)
 neither false false none = (refl, refl)
@@ -80,8 +77,8 @@ working device link (s ∷ others) earlier work none =
     let now = neither (fails (thing.Link link) e) (fails (thing.Device device) e) parts.0 in
     let before : AreWorking (others ++ earlier) device link = working device link others earlier work parts.1 in
     record {
-      up = up_on (makes device e) (fails (thing.Device device) e) (is_up (seen_of (others ++ earlier)) device) now.1 before.up;
-      works = works_on (fails (thing.Link link) e) (is_thing (mended e) (thing.Link link)) (link_has_failed (seen_of (others ++ earlier)) link) now.0 before.works;
+      up = up_stays_by (makes device e) (fails (thing.Device device) e) (is_up (seen_of (others ++ earlier)) device) now.1 before.up;
+      works = works_on link e (link_has_failed (seen_of (others ++ earlier)) link) now.0 before.works;
     }
 
 -- Runs

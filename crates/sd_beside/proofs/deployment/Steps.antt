@@ -15,7 +15,7 @@ use Rattle.sd_device.proofs.Exactness.{device_is_exact}
 use Rattle.sd_device.proofs.Summing.{lowered_after, not_lowered}
 use Rattle.sd_history.specs.Chronicle.{answers_by}
 use Rattle.sd_history.proofs.Tellings.{answers_agree}
-use Rattle.sd_beside.specs.deployment.Steps.{StandsIn, MakingStands, RestoreStands, UnchangedIsRestored, RebaseStands, CallStands, ReportStands, AnswersStand}
+use Rattle.sd_beside.specs.deployment.Steps.{MakingStands, RestoreStands, UnchangedIsRestored, RebaseStands, CallStands, ReportStands, AnswersStand}
 
 -- the same number of lowered counters, and of the latest rebase
 lowered_same : (by now more later : ℕ) (r : Registers) (life : Life) → more ≡ by → later ≡ now → StandsLowered by now r life → StandsLowered more later r life

@@ -1,21 +1,20 @@
 -- A fleet that is worked out is a deployed fleet, where tests that compute say so.
-use Rattle.std.specs.Prelude.{◌≡◌, ◌≢◌, ℕ, ◌+◌, ◌-◌, ◌≤◌, ◌%◌, Bool, true, false, ◌&&◌, ◌||◌, not, List, [], ◌∷◌, nat_eq, nat_le, Option, Some, None, IfSome, option_map, refl, if◌then◌else◌}
+use Rattle.std.specs.Prelude.{◌≡◌, ℕ, ◌+◌, ◌-◌, ◌≤◌, ◌%◌, Bool, true, false, ◌&&◌, ◌||◌, not, List, [], ◌∷◌, nat_eq, nat_le, Option, Some, None, IfSome, option_map, refl, if◌then◌else◌}
 use Rattle.std.specs.List.{list_all}
-use Rattle.std.proofs.Common.{arith, sym, ap, subst, inr}
+use Rattle.std.proofs.Common.{arith, ap, subst, inr}
 use Rattle.std.proofs.lemmas.Bool.{and_parts, eqb-true, leb-true, not-true}
 use Rattle.sd_num.specs.Lists.{map_or}
 use Rattle.sd_plan.specs.declared.Duty.{Duty}
 use Rattle.sd_sched.specs.declared.Event.{Event}
 use Rattle.sd_sched.specs.declared.Event.TheVariants as event
 use Rattle.sd_device.specs.declared.msg.Flight.{Flight}
-use Rattle.sd_device.specs.declared.Effect.{Effect}
 use Rattle.sd_device.specs.declared.registers.Registers.{Registers}
 use Rattle.sd_device.specs.Calls as calls
 use Rattle.sd_device.specs.Calls.{Call}
 use Rattle.sd_device.specs.Living.{Life}
 use Rattle.sd_device.specs.Words.{counter_of}
 use Rattle.sd_device.specs.Lives.{past_of}
-use Rattle.sd_device.specs.Rules.{made, called, floor_in, report_in, follows_a_plan}
+use Rattle.sd_device.specs.Rules.{made, floor_in, report_in, follows_a_plan}
 use Rattle.sd_device.specs.Standing.{registers_of}
 use Rattle.sd_device.specs.Rebases.{call_lowered, lowering}
 use Rattle.sd_device.proofs.Stands.{IsDue}
@@ -23,11 +22,11 @@ use Rattle.sd_exports.specs.Exports as exports
 use Rattle.sd_exports.specs.Exports.{Themselves}
 use Rattle.sd_exports.proofs.Registers.{making_is_made, call_is_called, rebase_is_rebased, report_is_told, AreAnswered, are_answered}
 use Rattle.sd_history.specs.World.{Setting}
-use Rattle.sd_history.specs.Steps.{Act, Makes, Calls, Asks, Passes, Told, Step, tells_nothing, tells_called, act_by, flight_numbered}
+use Rattle.sd_history.specs.Steps.{Act, Makes, Calls, Asks, Passes, Step, tells_nothing, tells_called, act_by, flight_numbered}
 use Rattle.sd_history.specs.Lives.{life_in, tells_report}
 use Rattle.sd_history.specs.Refusals.{causes, was_used, was_swept}
 use Rattle.sd_history.specs.Admitted.{is_count}
-use Rattle.sd_beside.specs.deployment.Deployment.{Kept, Tended, Moment, steps_of, with_tended, struct_in, IsRebased, AreTended, IsAnswered, KeepsRate, IsCalled, IsAsked, Exports, IsDelivered, IsCallOf, IsDeployment}
+use Rattle.sd_beside.specs.deployment.Deployment.{Kept, Moment, steps_of, with_tended, struct_in, IsRebased, AreTended, IsAnswered, KeepsRate, IsCalled, IsAsked, Exports, IsDelivered, IsCallOf, IsDeployment}
 use Rattle.sd_beside.specs.deployment.Worked.{Structs, rebase, is_rebased_at, tended_before, answers_in, after_call, tells_by, left_by, run_of}
 use Rattle.sd_beside.proofs.deployment.Orderly.{orderly_of}
 
