@@ -33,12 +33,13 @@
 //! | `others_change_nothing` | a receipt that does not count changes nothing | `Receipts` |
 //! | `is_witness` | a run with a failure, a takeover, rebases and a renewal that breaks no premise | `Witness` |
 //!
-//! The statements are in specs/: `Laws`, `Steps`, `Ports`, `Receipts`, `Witness`. The premises of the second to the
-//! fifth are those of histories, of the run's own steps or events.
+//! The statements are in specs/: `Laws`, `Steps`, `Ports`, `Receipts`, `Witness`. The premises of
+//! the second to the fifth are those of histories, of the run's own steps or events.
 //!
 //! # How
 //!
 //! `Telling`: each struct stands for the life of its device, so each device tells what the words on
 //! devices say of it. `Admitting`: no cause of a refusal holds. From both the run is the chronicle
-//! of its events. `Worked`: a run that is worked out from events, whose structs are registers, is
+//! of its events. Rebases ask that a commit keeps the ppm: it does, since all plans are of one
+//! topology (`keeps_rate`). `Worked`: a run that is worked out from events, whose structs are registers, is
 //! one of a deployed fleet where tests that compute say so.

@@ -4,29 +4,18 @@ use Rattle.std.proofs.Common.{sym, ◌∙◌, ap, subst}
 use Rattle.std.proofs.lemmas.List.{length-map}
 use Rattle.sd_device.specs.declared.registers.Registers.{Registers}
 use Rattle.sd_history.specs.World.{Setting}
-use Rattle.sd_history.specs.Steps.{Step, step_of}
-use Rattle.sd_history.specs.Chronicle.{told_by, next_step, chronicle}
+use Rattle.sd_history.specs.Steps.{Step}
+use Rattle.sd_history.specs.Chronicle.{chronicle}
 use Rattle.sd_history.specs.Admitted.{Admits, IsAdmitted}
 use Rattle.sd_history.proofs.Admitted.{admitted_is_history}
 use Rattle.sd_beside.specs.deployment.Deployment.{Moment, steps_of, IsDeployment}
 use Rattle.sd_beside.specs.deployment.Laws.{events_in, IsHistoryOf, IsReplayed}
-use Rattle.sd_beside.proofs.deployment.Telling.{call_is, Goes, all_go}
+use Rattle.sd_beside.proofs.deployment.Telling.{call_is, are_told}
 use Rattle.sd_beside.proofs.deployment.Admitting.{admits}
 
 module _ {S : Type 0} (Holds : S → Registers → Type 0) (setting : Setting) where
-  -- a moment is the next step of the chronicle
-  next_is : (earlier : List (Moment S)) (x : Moment S) → IsDeployment Holds setting (x ∷ earlier)
-      → step_of setting (steps_of setting earlier) x.event x.told ≡ next_step setting (steps_of setting earlier) x.event
-  next_is earlier x is =
-      let goes : Goes Holds setting earlier x = all_go Holds setting earlier x is in
-      ap (step_of setting (steps_of setting earlier) x.event)
-      (goes.tells ∙ ap (told_by (steps_of setting earlier)) (call_is setting (steps_of setting earlier) x.event x.act is.1.call))
-
   steps_are : (run : List (Moment S)) → IsDeployment Holds setting run → chronicle setting (events_in run) ≡ steps_of setting run
-  steps_are [] is = refl
-  steps_are (x ∷ earlier) is =
-      ap (λ steps. next_step setting steps x.event ∷ steps) (steps_are earlier is.0)
-      ∙ sym (ap (λ s. s ∷ steps_of setting earlier) (next_is earlier x is))
+  steps_are run is = (are_told Holds setting run is).steps_are
 
   are_admitted : (run : List (Moment S)) → IsDeployment Holds setting run → IsAdmitted setting (events_in run)
   are_admitted [] is = tt

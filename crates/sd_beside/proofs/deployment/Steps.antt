@@ -1,10 +1,13 @@
 -- Each step of a deployed fleet keeps that a struct stands for the life of its device.
-use Rattle.std.specs.Prelude.{◌≡◌, ℕ, ◌+◌, ◌≤◌, [], refl}
+use Rattle.std.specs.Prelude.{◌≡◌, ℕ, ◌+◌, ◌≤◌, [], Option, Some, None, IfSome, refl}
 use Rattle.std.proofs.Common.{sym, ◌∙◌, ap, subst}
+use Rattle.sd_num.specs.declared.Rates.{Rates}
+use Rattle.sd_plan.specs.declared.Duty.{Duty}
+use Rattle.sd_plan.specs.topo.Network.{Network}
 use Rattle.sd_device.specs.declared.registers.Registers.{Registers}
-use Rattle.sd_device.specs.Calls.{Call}
+use Rattle.sd_device.specs.Calls.{Call, Commit, Past}
 use Rattle.sd_device.specs.Living.{Life}
-use Rattle.sd_device.specs.Words.{counter_of, effect_of}
+use Rattle.sd_device.specs.Words.{counter_of, effect_of, given_now, rates_now}
 use Rattle.sd_device.specs.Lives.{past_of, longer, latest_counter, IsOrderly}
 use Rattle.sd_device.specs.Rules.{called, parent_in, acts_in, epoch_in}
 use Rattle.sd_device.specs.Standing.{last_of, alone}
@@ -15,7 +18,9 @@ use Rattle.sd_device.proofs.Exactness.{device_is_exact}
 use Rattle.sd_device.proofs.Summing.{lowered_after, not_lowered}
 use Rattle.sd_history.specs.Chronicle.{answers_by}
 use Rattle.sd_history.proofs.Tellings.{answers_agree}
-use Rattle.sd_beside.specs.deployment.Steps.{MakingStands, RestoreStands, UnchangedIsRestored, RebaseStands, CallStands, ReportStands, AnswersStand}
+use Rattle.sd_history.proofs.Owned.{OwnPast, rates_are_own}
+use Rattle.sd_beside.specs.deployment.Deployment.{Kept}
+use Rattle.sd_beside.specs.deployment.Steps.{KeepsRate, MakingStands, RestoreStands, UnchangedIsRestored, RebaseStands, CallStands, ReportStands, AnswersStand}
 
 -- the same number of lowered counters, and of the latest rebase
 lowered_same : (by now more later : ℕ) (r : Registers) (life : Life) → more ≡ by → later ≡ now → StandsLowered by now r life → StandsLowered more later r life
@@ -28,7 +33,19 @@ call_due life call orderly =
     due_by (last_of (past_of life)) (latest_counter life.making life.calls) (counter_of call)
     (in_order life.making life.calls orderly.never_falls.0).kept orderly.never_falls.1
 
+-- a duty that is given has the rates of its device
+given_rates : (net : Network) (d : ℕ) (past : Past) → OwnPast net d past → (o : Option Duty) → given_now past ≡ o
+    → IfSome o (λ duty. duty.rates.ppm ≡ (rates_now past).ppm)
+given_rates net d past own None is = tt
+given_rates net d past own (Some u) is =
+    ap (λ (rates : Rates). rates.ppm) ((own.duties.given u is).rates ∙ sym (rates_are_own net d past own))
+
 module _ {S : Type 0} (Holds : S → Registers → Type 0) where
+  -- where the duties are of one topology
+  pub keeps_rate : (net : Network) (d : ℕ) (kept : Kept S) (life : Life) (call : Call) → OwnPast net d (past_of life) → KeepsRate Holds kept life call
+  keeps_rate net d kept life (Commit counter) own r holds = λ moved. given_rates net d (past_of life) own (given_now (past_of life)) refl
+  keeps_rate net d kept life _ own r holds = tt
+
   pub making_stands : MakingStands Holds
   making_stands making struct made = (made.told.0, made.told.1, not_lowered made.told.0 (alone making) made.told.2)
 
@@ -73,7 +90,7 @@ module _ {S : Type 0} (Holds : S → Registers → Type 0) where
       is_due = subst (λ (x : Registers). IsDue x.last (counter_of call)) (sym lower.stands.are) (call_due life call orderly)
 
       steady : IsSteady kept.lowered lower.one r call
-      steady = subst (λ x. IsSteady kept.lowered x r call) (sym lower.stands.are) (rate life r refl holds)
+      steady = subst (λ x. IsSteady kept.lowered x r call) (sym lower.stands.are) (rate r holds)
 
       after : StandsLowered kept.lowered kept.since (called r (call_lowered kept.lowered call)).0 (longer life call)
           × ((called r (call_lowered kept.lowered call)).1 ≡ effect_of (past_of life) call)

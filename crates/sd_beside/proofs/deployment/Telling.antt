@@ -15,15 +15,19 @@ use Rattle.sd_device.specs.Standing.{alone}
 use Rattle.sd_history.specs.World.{Setting}
 use Rattle.sd_history.specs.Steps.{Act, Makes, Calls, Asks, Passes, Step, changed, act_by, step_of}
 use Rattle.sd_history.specs.Lives.{life_in, life_after}
-use Rattle.sd_history.specs.Chronicle.{told_by}
+use Rattle.sd_history.specs.Chronicle.{told_by, past_in, next_step, chronicle}
 use Rattle.sd_history.proofs.Given.{some_is}
+use Rattle.sd_history.proofs.Bridges.{past_of_life}
+use Rattle.sd_history.proofs.Owned.{OwnPast}
+use Rattle.sd_history.proofs.Owning.{own_pasts}
 use Rattle.sd_history.proofs.Readings.{AllRead, step_reads}
 use Rattle.sd_history.proofs.Exactness as nodes
 use Rattle.sd_history.proofs.Exactness.{Lives, node_after, live_made, live_called}
 use Rattle.sd_history.proofs.Tellings.{making_tells, call_tells, report_tells}
 use Rattle.sd_beside.specs.deployment.Deployment.{Kept, Tended, Moment, steps_of, with_tended, struct_in, IsRestored, IsRebased, AreTended, IsMade, IsCalled, IsAsked, Exports, IsCallOf, MayCome, IsDeployment}
+use Rattle.sd_beside.specs.deployment.Laws.{events_in}
 use Rattle.sd_beside.specs.deployment.Steps.{StandsIn}
-use Rattle.sd_beside.proofs.deployment.Steps.{making_stands, restore_stands, rebase_stands, call_stands, report_stands, answers_stand}
+use Rattle.sd_beside.proofs.deployment.Steps.{keeps_rate, making_stands, restore_stands, rebase_stands, call_stands, report_stands, answers_stand}
 use Rattle.sd_beside.proofs.deployment.Admitting.{admits}
 
 -- the call of an event is what the event does
@@ -96,13 +100,17 @@ module _ {S : Type 0} (Holds : S → Registers → Type 0) where
         live_after : LiveAfter act x.left
         tells : x.told ≡ told_by steps act
 
-      module _ (live : AllStand (life_in steps) structs) where
+      -- what each device has is its own
+      abbrev AreOwn : Type 0
+      AreOwn = (d : ℕ) (life : Life) → life_in steps d ≡ Some life → OwnPast setting.net d (past_of life)
+
+      module _ (live : AllStand (life_in steps) structs) (own : AreOwn) where
         made_goes : (m : ℕ) (making : Making) → Orderly (Makes m making) → IsMade Holds making x.told x.left → GoesBy (Makes m making)
         made_goes m making orderly made =
             record {
               live_after = subst (LiveAfter (Makes m making)) (sym made.leaves)
                   (live_made (StandsIn Holds) (life_in steps) structs live m making kept stands);
-              tells = made.tells ∙ making_tells steps m making made.answers (answers_stand Holds kept (alone making) made.answers own stands made.answered);
+              tells = made.tells ∙ making_tells steps m making made.answers (answers_stand Holds kept (alone making) made.answers orderly_now stands made.answered);
             }
           where
             kept : Kept S
@@ -111,10 +119,10 @@ module _ {S : Type 0} (Holds : S → Registers → Type 0) where
             stands : StandsIn Holds kept (alone making)
             stands = making_stands Holds making made.struct made.made
 
-            own : IsOrderly (alone making)
-            own = orderly m (alone making) (ap (λ b. if b then Some (alone making) else life_in steps m) (eq-eqb m m refl))
+            orderly_now : IsOrderly (alone making)
+            orderly_now = orderly m (alone making) (ap (λ b. if b then Some (alone making) else life_in steps m) (eq-eqb m m refl))
 
-        called_goes : (m : ℕ) (call : Call) → Orderly (Calls m call) → IsCalled Holds (structs m) (life_in steps m) call x.told x.left → GoesBy (Calls m call)
+        called_goes : (m : ℕ) (call : Call) → Orderly (Calls m call) → IsCalled Holds (structs m) call x.told x.left → GoesBy (Calls m call)
         called_goes m call orderly called =
             record {
               live_after = subst (LiveAfter (Calls m call)) (sym called.leaves)
@@ -122,7 +130,7 @@ module _ {S : Type 0} (Holds : S → Registers → Type 0) where
               tells =
                   called.tells
                   ∙ call_tells steps m call old.life called.effect called.answers old.is after.1
-                  (answers_stand Holds kept (longer old.life call) called.answers own after.0 called.answered);
+                  (answers_stand Holds kept (longer old.life call) called.answers orderly_now after.0 called.answered);
             }
           where
             kept : Kept S
@@ -131,16 +139,16 @@ module _ {S : Type 0} (Holds : S → Registers → Type 0) where
             old : Lives (StandsIn Holds) (life_in steps m) called.kept
             old = live m called.kept called.there
 
-            own : IsOrderly (longer old.life call)
-            own =
+            orderly_now : IsOrderly (longer old.life call)
+            orderly_now =
                 orderly m (longer old.life call)
                 (ap (λ b. if b then option_map (λ life. longer life call) (life_in steps m) else life_in steps m) (eq-eqb m m refl)
                 ∙ ap (option_map (λ life. longer life call)) old.is)
 
             after : StandsIn Holds kept (longer old.life call) × (called.effect ≡ effect_of (past_of old.life) call)
             after =
-                call_stands Holds called.kept called.struct old.life call called.effect own old.stands called.due
-                (λ life r is holds. called.rate life r (old.is ∙ is) holds) called.called
+                call_stands Holds called.kept called.struct old.life call called.effect orderly_now old.stands called.due
+                (keeps_rate Holds setting.net m called.kept old.life call (own m old.life old.is)) called.called
 
         asked_goes : (m counter : ℕ) → IsAsked Holds (structs m) counter x.told → GoesBy (Asks m counter)
         asked_goes m counter asked =
@@ -153,7 +161,7 @@ module _ {S : Type 0} (Holds : S → Registers → Type 0) where
                   (report_stands Holds asked.kept old.life counter asked.report old.stands asked.due asked.reported.registers);
             }
 
-        goes_by : (act : Act) → Orderly act → Exports Holds structs (life_in steps) act x.told x.left → GoesBy act
+        goes_by : (act : Act) → Orderly act → Exports Holds structs act x.told x.left → GoesBy act
         goes_by (Makes m making) orderly by = made_goes m making orderly by
         goes_by (Calls m call) orderly by = called_goes m call orderly by
         goes_by (Asks m counter) orderly by = asked_goes m counter by
@@ -167,8 +175,8 @@ module _ {S : Type 0} (Holds : S → Registers → Type 0) where
           by true = refl
           by false = refl
 
-      pub moment_goes : AllLive earlier → Orderly x.act → MayCome Holds setting earlier x → Goes earlier x
-      moment_goes live orderly may =
+      pub moment_goes : AllLive earlier → AreOwn → Orderly x.act → MayCome Holds setting earlier x → Goes earlier x
+      moment_goes live own orderly may =
           record {
             live = subst (λ act. AllStand (λ d. life_after act d (life_in steps d)) (struct_in (x ∷ earlier)))
                 (call_is setting steps x.event x.act may.call) (λ d struct is. by.live_after d struct (sym (left_is x.act d) ∙ is));
@@ -176,7 +184,7 @@ module _ {S : Type 0} (Holds : S → Registers → Type 0) where
           }
         where
           by : GoesBy x.act
-          by = goes_by (all_tended (life_in steps) (struct_in earlier) live x.tended may.tended) x.act orderly may.export
+          by = goes_by (all_tended (life_in steps) (struct_in earlier) live x.tended may.tended) own x.act orderly may.export
 
     -- the whole run
 
@@ -192,9 +200,35 @@ module _ {S : Type 0} (Holds : S → Registers → Type 0) where
         subst (Orderly earlier x) (sym (call_is setting (steps_of setting earlier) x.event x.act is.1.call))
         (λ d life here. (all_read (x ∷ earlier) is d life here).orderly)
 
-    pub all_live : (run : List (Moment S)) → IsDeployment Holds setting run → AllLive run
-    all_live [] is = λ d struct here. cc
-    all_live (x ∷ earlier) is = (moment_goes earlier x (all_live earlier is.0) (orderly_lives earlier x is) is.1).live
+    -- the structs stand for the lives, and the steps are those of the chronicle
+    pub record AreTold (run : List (Moment S)) : Type 0 where
+      pub live : AllLive run
+      pub steps_are : chronicle setting (events_in run) ≡ steps_of setting run
 
-    pub all_go : (earlier : List (Moment S)) (x : Moment S) → IsDeployment Holds setting (x ∷ earlier) → Goes earlier x
-    all_go earlier x is = moment_goes earlier x (all_live earlier is.0) (orderly_lives earlier x is) is.1
+    goes_on : (earlier : List (Moment S)) (x : Moment S) → IsDeployment Holds setting (x ∷ earlier) → AreTold earlier → Goes earlier x
+    goes_on earlier x is before =
+        moment_goes earlier x before.live
+        (λ d life here.
+        own_pasts setting (events_in earlier) d (past_of life)
+        (ap (λ steps. past_in steps d) before.steps_are ∙ past_of_life (steps_of setting earlier) d ∙ ap (option_map past_of) here))
+        (orderly_lives earlier x is) is.1
+
+    -- a moment is the next step of the chronicle
+    next_is : (earlier : List (Moment S)) (x : Moment S) → IsDeployment Holds setting (x ∷ earlier) → Goes earlier x
+        → step_of setting (steps_of setting earlier) x.event x.told ≡ next_step setting (steps_of setting earlier) x.event
+    next_is earlier x is goes =
+        ap (step_of setting (steps_of setting earlier) x.event)
+        (goes.tells ∙ ap (told_by (steps_of setting earlier)) (call_is setting (steps_of setting earlier) x.event x.act is.1.call))
+
+    one_more : (earlier : List (Moment S)) (x : Moment S) → IsDeployment Holds setting (x ∷ earlier) → AreTold earlier → AreTold (x ∷ earlier)
+    one_more earlier x is before =
+        let goes : Goes earlier x = goes_on earlier x is before in
+        record {
+          live = goes.live;
+          steps_are = ap (λ steps. next_step setting steps x.event ∷ steps) before.steps_are
+              ∙ sym (ap (λ s. s ∷ steps_of setting earlier) (next_is earlier x is goes));
+        }
+
+    pub are_told : (run : List (Moment S)) → IsDeployment Holds setting run → AreTold run
+    are_told [] is = record { live = λ d struct here. cc; steps_are = refl }
+    are_told (x ∷ earlier) is = one_more earlier x is (are_told earlier is.0)

@@ -1,21 +1,17 @@
 -- A fleet that is worked out is a deployed fleet, where tests that compute say so.
 use Rattle.std.specs.Prelude.{◌≡◌, ℕ, ◌+◌, ◌-◌, ◌≤◌, ◌%◌, Bool, true, false, ◌&&◌, ◌||◌, not, List, [], ◌∷◌, nat_eq, nat_le, Option, Some, None, IfSome, option_map, refl, if◌then◌else◌}
 use Rattle.std.specs.List.{list_all}
-use Rattle.std.proofs.Common.{arith, ap, subst, inr}
+use Rattle.std.proofs.Common.{arith, ap, inr}
 use Rattle.std.proofs.lemmas.Bool.{and_parts, eqb-true, leb-true, not-true}
 use Rattle.sd_num.specs.Lists.{map_or}
-use Rattle.sd_plan.specs.declared.Duty.{Duty}
 use Rattle.sd_sched.specs.declared.Event.{Event}
 use Rattle.sd_sched.specs.declared.Event.TheVariants as event
 use Rattle.sd_device.specs.declared.msg.Flight.{Flight}
 use Rattle.sd_device.specs.declared.registers.Registers.{Registers}
 use Rattle.sd_device.specs.Calls as calls
 use Rattle.sd_device.specs.Calls.{Call}
-use Rattle.sd_device.specs.Living.{Life}
 use Rattle.sd_device.specs.Words.{counter_of}
-use Rattle.sd_device.specs.Lives.{past_of}
 use Rattle.sd_device.specs.Rules.{made, floor_in, report_in, follows_a_plan}
-use Rattle.sd_device.specs.Standing.{registers_of}
 use Rattle.sd_device.specs.Rebases.{call_lowered, lowering}
 use Rattle.sd_device.proofs.Stands.{IsDue}
 use Rattle.sd_exports.specs.Exports as exports
@@ -23,10 +19,10 @@ use Rattle.sd_exports.specs.Exports.{Themselves}
 use Rattle.sd_exports.proofs.Registers.{making_is_made, call_is_called, rebase_is_rebased, report_is_told, AreAnswered, are_answered}
 use Rattle.sd_history.specs.World.{Setting}
 use Rattle.sd_history.specs.Steps.{Act, Makes, Calls, Asks, Passes, Step, tells_nothing, tells_called, act_by, flight_numbered}
-use Rattle.sd_history.specs.Lives.{life_in, tells_report}
+use Rattle.sd_history.specs.Lives.{tells_report}
 use Rattle.sd_history.specs.Refusals.{causes, was_used, was_swept}
 use Rattle.sd_history.specs.Admitted.{is_count}
-use Rattle.sd_beside.specs.deployment.Deployment.{Kept, Moment, steps_of, with_tended, struct_in, IsRebased, AreTended, IsAnswered, KeepsRate, IsCalled, IsAsked, Exports, IsDelivered, IsCallOf, IsDeployment}
+use Rattle.sd_beside.specs.deployment.Deployment.{Kept, Moment, steps_of, with_tended, struct_in, IsRebased, AreTended, IsAnswered, IsCalled, IsAsked, Exports, IsDelivered, IsCallOf, IsDeployment}
 use Rattle.sd_beside.specs.deployment.Worked.{Structs, rebase, is_rebased_at, tended_before, answers_in, after_call, tells_by, left_by, run_of}
 use Rattle.sd_beside.proofs.deployment.Orderly.{orderly_of}
 
@@ -73,42 +69,22 @@ are_tended structs _ may = tt
 
 -- Calls
 
--- a commit keeps the ppm
-abbrev keeps_ppm : Registers → Bool
-keeps_ppm r = map_or r.given true (λ duty. nat_eq duty.rates.ppm r.rates.ppm)
-
-abbrev keeps_rate : Option Life → Call → Bool
-keeps_rate lives (calls.Commit counter) = map_or lives true (λ life. keeps_ppm (registers_of (past_of life)))
-keeps_rate lives _ = true
-
 -- no counter falls
 abbrev is_due : ℕ → Option ℕ → Bool
 is_due floor counter = map_or counter true (nat_le floor)
 
 -- the call may be made of these registers, and they follow a plan after it
-unfoldable pub may_call : Option Life → Call → Kept Registers → Bool
-may_call lives call kept =
+unfoldable pub may_call : Call → Kept Registers → Bool
+may_call call kept =
     let lower = call_lowered kept.lowered call in
-    is_due kept.since (counter_of call) && is_due kept.struct.last (counter_of lower) && keeps_rate lives call
+    is_due kept.since (counter_of call) && is_due kept.struct.last (counter_of lower)
     && follows_a_plan (after_call kept call).0
 
-abbrev may_act : Structs → (ℕ → Option Life) → Act → Bool
-may_act structs lives (Makes d making) = follows_a_plan (made making)
-may_act structs lives (Calls d call) = map_or (structs d) false (may_call (lives d) call)
-may_act structs lives (Asks d counter) = map_or (structs d) false (λ kept. nat_le kept.since counter)
-may_act structs lives Passes = true
-
-keeps : (kept : Kept Registers) (lives : Option Life) (call : Call) → keeps_rate lives call ≡ true → KeepsRate Themselves kept lives call
-keeps kept lives (calls.Commit counter) may life r is same =
-    λ moved.
-    same_ppm (registers_of (past_of life)) (registers_of (past_of life)).given
-    (subst (λ (o : Option Life). map_or o true (λ life. keeps_ppm (registers_of (past_of life))) ≡ true) is may)
-  where
-    same_ppm : (r : Registers) (given : Option Duty) → map_or given true (λ duty. nat_eq duty.rates.ppm r.rates.ppm) ≡ true
-        → IfSome given (λ duty. duty.rates.ppm ≡ r.rates.ppm)
-    same_ppm r None may' = tt
-    same_ppm r (Some duty) may' = eqb-true duty.rates.ppm r.rates.ppm may'
-keeps kept lives _ may life r is same = tt
+abbrev may_act : Structs → Act → Bool
+may_act structs (Makes d making) = follows_a_plan (made making)
+may_act structs (Calls d call) = map_or (structs d) false (may_call call)
+may_act structs (Asks d counter) = map_or (structs d) false (λ kept. nat_le kept.since counter)
+may_act structs Passes = true
 
 not_below : (floor : ℕ) (counter : Option ℕ) → is_due floor counter ≡ true → IfSome counter (λ c. floor ≤ c)
 not_below floor None may = tt
@@ -134,24 +110,21 @@ does_it : (kept : Kept Registers) (call : Call) → IsDue kept.struct.last (coun
 unfolding after_call
 does_it kept call is_due = call_is_called kept.struct (call_lowered kept.lowered call) is_due
 
-record MayCall (lives : Option Life) (call : Call) (kept : Kept Registers) : Type 0 where
+record MayCall (call : Call) (kept : Kept Registers) : Type 0 where
   is_due : IfSome (counter_of call) (λ counter. kept.since ≤ counter)
-  rate : KeepsRate Themselves kept lives call
   does : exports.IsCalled Themselves kept.struct (call_lowered kept.lowered call) (after_call kept call).0 (after_call kept call).1
   follows : follows_a_plan (after_call kept call).0 ≡ true
 
-may_call_so : (lives : Option Life) (call : Call) (kept : Kept Registers) → may_call lives call kept ≡ true → MayCall lives call kept
+may_call_so : (call : Call) (kept : Kept Registers) → may_call call kept ≡ true → MayCall call kept
 unfolding may_call
-may_call_so lives call kept may =
+may_call_so call kept may =
     let last = counter_of (call_lowered kept.lowered call) in
-    let first = and_parts (is_due kept.since (counter_of call) && is_due kept.struct.last last && keeps_rate lives call)
+    let first = and_parts (is_due kept.since (counter_of call) && is_due kept.struct.last last)
     (follows_a_plan (after_call kept call).0) may in
-    let second = and_parts (is_due kept.since (counter_of call) && is_due kept.struct.last last) (keeps_rate lives call) first.0 in
-    let third = and_parts (is_due kept.since (counter_of call)) (is_due kept.struct.last last) second.0 in
+    let second = and_parts (is_due kept.since (counter_of call)) (is_due kept.struct.last last) first.0 in
     record {
-      is_due = not_below kept.since (counter_of call) third.0;
-      rate = keeps kept lives call second.1;
-      does = does_it kept call (due kept.struct.last last third.1);
+      is_due = not_below kept.since (counter_of call) second.0;
+      does = does_it kept call (due kept.struct.last last second.1);
       follows = first.1;
     }
 
@@ -160,13 +133,13 @@ found : {A : Type 0} (test : A → Bool) (o : Option A) → map_or o false test 
 found test None may = cc
 found test (Some x) may = (x, refl, may)
 
-called_it : (lives : Option Life) (call : Call) (o : Option (Kept Registers)) → map_or o false (may_call lives call) ≡ true
-    → IsCalled Themselves o lives call
+called_it : (call : Call) (o : Option (Kept Registers)) → map_or o false (may_call call) ≡ true
+    → IsCalled Themselves o call
     (map_or o tells_nothing (λ kept. tells_called (after_call kept call).1 (answers_in (after_call kept call).0)))
     (option_map (λ kept. record { struct = (after_call kept call).0; lowered = kept.lowered; since = kept.since }) o)
-called_it lives call o may =
-    let there = found (may_call lives call) o may in
-    let can : MayCall lives call there.0 = may_call_so lives call there.0 there.2 in
+called_it call o may =
+    let there = found (may_call call) o may in
+    let can : MayCall call there.0 = may_call_so call there.0 there.2 in
     record {
       kept = there.0;
       struct = (after_call there.0 call).0;
@@ -174,7 +147,6 @@ called_it lives call o may =
       answers = answers_in (after_call there.0 call).0;
       there = there.1;
       due = can.is_due;
-      rate = can.rate;
       called = can.does;
       answered = answered (after_call there.0 call).0 can.follows;
       tells = ap (λ x. map_or x tells_nothing (λ kept. tells_called (after_call kept call).1 (answers_in (after_call kept call).0))) there.1;
@@ -182,9 +154,9 @@ called_it lives call o may =
           ap (option_map (λ (kept : Kept Registers). record { struct = (after_call kept call).0; lowered = kept.lowered; since = kept.since })) there.1;
     }
 
-exports_it : (structs : Structs) (lives : ℕ → Option Life) (act : Act) → may_act structs lives act ≡ true
-    → Exports Themselves structs lives act (tells_by structs act) (left_by structs act)
-exports_it structs lives (Makes d making) may =
+exports_it : (structs : Structs) (act : Act) → may_act structs act ≡ true
+    → Exports Themselves structs act (tells_by structs act) (left_by structs act)
+exports_it structs (Makes d making) may =
     record {
       struct = made making;
       answers = answers_in (made making);
@@ -193,8 +165,8 @@ exports_it structs lives (Makes d making) may =
       tells = refl;
       leaves = refl;
     }
-exports_it structs lives (Calls d call) may = called_it (lives d) call (structs d) may
-exports_it structs lives (Asks d counter) may = by (structs d) may
+exports_it structs (Calls d call) may = called_it call (structs d) may
+exports_it structs (Asks d counter) may = by (structs d) may
   where
     by : (o : Option (Kept Registers)) → map_or o false (λ kept. nat_le kept.since counter) ≡ true
         → IsAsked Themselves o counter (map_or o tells_nothing (λ kept. tells_report (report_in kept.struct (counter - kept.lowered))))
@@ -208,7 +180,7 @@ exports_it structs lives (Asks d counter) may = by (structs d) may
           reported = report_is_told kept.struct (counter - kept.lowered);
           tells = refl;
         }
-exports_it structs lives Passes may = refl
+exports_it structs Passes may = refl
 
 -- The network
 
@@ -255,7 +227,7 @@ abbrev pub may_follow : Setting → List (Moment Registers) → Event → Bool
 may_follow setting run e =
     let steps = steps_of setting run in
     may_tend (struct_in run) e
-    && may_act (with_tended (struct_in run) (tended_before (struct_in run) e)) (life_in steps) (act_by setting steps e)
+    && may_act (with_tended (struct_in run) (tended_before (struct_in run) e)) (act_by setting steps e)
     && may_come steps e && list_all (λ cause. not cause.1 || is_count cause.0) (causes setting steps e)
 
 abbrev pub all_follow : Setting → List Event → Bool
@@ -270,14 +242,14 @@ is_deployment setting (e ∷ earlier) all =
     let structs : Structs = with_tended (struct_in run) (tended_before (struct_in run) e) in
     let parts = and_parts (all_follow setting earlier) (may_follow setting run e) all in
     let first = and_parts
-    (may_tend (struct_in run) e && may_act structs (life_in steps) (act_by setting steps e) && may_come steps e)
+    (may_tend (struct_in run) e && may_act structs (act_by setting steps e) && may_come steps e)
     (list_all (λ cause. not cause.1 || is_count cause.0) (causes setting steps e)) parts.1 in
-    let second = and_parts (may_tend (struct_in run) e && may_act structs (life_in steps) (act_by setting steps e)) (may_come steps e) first.0 in
-    let third = and_parts (may_tend (struct_in run) e) (may_act structs (life_in steps) (act_by setting steps e)) second.0 in (
+    let second = and_parts (may_tend (struct_in run) e && may_act structs (act_by setting steps e)) (may_come steps e) first.0 in
+    let third = and_parts (may_tend (struct_in run) e) (may_act structs (act_by setting steps e)) second.0 in (
       is_deployment setting earlier parts.0,
       record {
         tended = are_tended (struct_in run) e third.0;
-        export = exports_it structs (life_in steps) (act_by setting steps e) third.1;
+        export = exports_it structs (act_by setting steps e) third.1;
         call = is_call setting steps e second.1;
         orderly = orderly_of setting steps e first.1;
       },

@@ -14,17 +14,14 @@ use Rattle.sd_device.specs.declared.Effect.{Effect}
 use Rattle.sd_device.specs.Calls as calls
 use Rattle.sd_device.specs.declared.registers.Registers.{Registers}
 use Rattle.sd_device.specs.Calls.{Making, Call}
-use Rattle.sd_device.specs.Living.{Life}
 use Rattle.sd_device.specs.Words.{counter_of, report_at, parent_now, is_acting, epoch_now}
-use Rattle.sd_device.specs.Lives.{past_of}
 use Rattle.sd_device.specs.Rules.{parent_in, acts_in, epoch_in, report_in}
-use Rattle.sd_device.specs.Standing.{registers_of}
-use Rattle.sd_device.specs.Rebases.{call_lowered, IsSteady}
+use Rattle.sd_device.specs.Rebases.{call_lowered}
 use Rattle.sd_exports.specs.Exports as exports
 use Rattle.sd_exports.specs.Exports.{IsToldOf}
 use Rattle.sd_history.specs.World.{Setting}
 use Rattle.sd_history.specs.Steps.{Act, Makes, Calls, Asks, Passes, Answers, Told, tells_nothing, tells_made, tells_called, Step, seen_of, changed, act_by, step_of, flight_numbered}
-use Rattle.sd_history.specs.Lives.{tells_report, life_in}
+use Rattle.sd_history.specs.Lives.{tells_report}
 use Rattle.sd_history.specs.Refusals.{was_used, was_swept, unknown_device, unknown_link, dead_device, dead_link, time_falls, counter_falls, not_started, started_twice, no_plan_left, window_order, not_failed, not_member}
 
 -- A struct, with what its host keeps beside it: by how much the counter that the calls are given was lowered in all since the start or join, and what the
@@ -108,21 +105,14 @@ module _ {S : Type 0} (Holds : S → Registers → Type 0) where
     pub tells : told ≡ tells_made answers
     pub leaves : left ≡ Some (record { struct = struct; lowered = 0; since = 0 })
 
-  -- A commit takes up a duty of the ppm that the device has, unless its clock was set since the latest rebase. The second registers are those that a
-  -- device of this life has where it was never rebased.
-  abbrev pub KeepsRate : Kept S → Option Life → Call → Type 0
-  KeepsRate kept lives call =
-      (life : Life) (r : Registers) → lives ≡ Some life → Holds kept.struct r → IsSteady kept.lowered (registers_of (past_of life)) r call
-
   -- a tick, a receipt, a fix, a give, a commit or a seal, at the counter less what was lowered. It is not below that of the latest rebase
-  pub record IsCalled (before : Option (Kept S)) (life : Option Life) (call : Call) (told : Told) (left : Option (Kept S)) : Type 0 where
+  pub record IsCalled (before : Option (Kept S)) (call : Call) (told : Told) (left : Option (Kept S)) : Type 0 where
     pub kept : Kept S
     pub struct : S
     pub effect : Effect
     pub answers : Answers
     pub there : before ≡ Some kept
     pub due : IfSome (counter_of call) (λ counter. kept.since ≤ counter)
-    pub rate : KeepsRate kept life call
     pub called : exports.IsCalled Holds kept.struct (call_lowered kept.lowered call) struct effect
     pub answered : IsAnswered struct answers
     pub tells : told ≡ tells_called effect answers
@@ -137,12 +127,12 @@ module _ {S : Type 0} (Holds : S → Registers → Type 0) where
     pub reported : let at = counter - kept.lowered in IsToldOf Holds kept.struct (λ r. report_in r at) (λ past. report_at past at) report
     pub tells : told ≡ tells_report report
 
-  -- what the export of an act does with the struct that was there, of a device with such a life
-  abbrev pub Exports : (ℕ → Option (Kept S)) → (ℕ → Option Life) → Act → Told → Option (Kept S) → Type 0
-  Exports structs lives (Makes d making) told left = IsMade making told left
-  Exports structs lives (Calls d call) told left = IsCalled (structs d) (lives d) call told left
-  Exports structs lives (Asks d counter) told left = IsAsked (structs d) counter told
-  Exports structs lives Passes told left = told ≡ tells_nothing
+  -- what the export of an act does with the struct that was there
+  abbrev pub Exports : (ℕ → Option (Kept S)) → Act → Told → Option (Kept S) → Type 0
+  Exports structs (Makes d making) told left = IsMade making told left
+  Exports structs (Calls d call) told left = IsCalled (structs d) call told left
+  Exports structs (Asks d counter) told left = IsAsked (structs d) counter told
+  Exports structs Passes told left = told ≡ tells_nothing
 
 -- The network
 
@@ -193,7 +183,7 @@ pub record IsOrderly (setting : Setting) (steps : List Step) (e : Event) : Type 
 -- the moment may come after these
 pub record MayCome {S : Type 0} (Holds : S → Registers → Type 0) (setting : Setting) (earlier : List (Moment S)) (x : Moment S) : Type 0 where
   pub tended : AreTended Holds (struct_in earlier) x.tended
-  pub export : Exports Holds (with_tended (struct_in earlier) x.tended) (life_in (steps_of setting earlier)) x.act x.told x.left
+  pub export : Exports Holds (with_tended (struct_in earlier) x.tended) x.act x.told x.left
   pub call : IsCallOf setting (steps_of setting earlier) x.event x.act
   pub orderly : IsOrderly setting (steps_of setting earlier) x.event
 

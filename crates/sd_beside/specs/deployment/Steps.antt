@@ -1,6 +1,6 @@
 -- What each step of a deployed fleet keeps: a struct, with what its host keeps beside it, stands for the life of its device. So a call of a struct that was
 -- restored and rebased, however often, does what its life says.
-use Rattle.std.specs.Prelude.{◌≡◌, ℕ, ◌-◌, ◌≤◌, Some, IfSome}
+use Rattle.std.specs.Prelude.{◌≡◌, ℕ, ◌-◌, ◌≤◌, IfSome}
 use Rattle.sd_num.specs.declared.clock.Report.{Report}
 use Rattle.sd_device.specs.declared.Effect.{Effect}
 use Rattle.sd_device.specs.declared.registers.Registers.{Registers}
@@ -9,12 +9,12 @@ use Rattle.sd_device.specs.Living.{Life}
 use Rattle.sd_device.specs.Words.{counter_of, effect_of, report_at}
 use Rattle.sd_device.specs.Lives.{past_of, longer, IsOrderly}
 use Rattle.sd_device.specs.Rules.{called, report_in}
-use Rattle.sd_device.specs.Standing.{alone}
-use Rattle.sd_device.specs.Rebases.{call_lowered, StandsLowered}
+use Rattle.sd_device.specs.Standing.{registers_of, alone}
+use Rattle.sd_device.specs.Rebases.{call_lowered, IsSteady, StandsLowered}
 use Rattle.sd_exports.specs.Exports as exports
 use Rattle.sd_history.specs.Steps.{Answers}
 use Rattle.sd_history.specs.Chronicle.{answers_by}
-use Rattle.sd_beside.specs.deployment.Deployment.{Kept, IsRestored, IsRebased, IsAnswered, KeepsRate}
+use Rattle.sd_beside.specs.deployment.Deployment.{Kept, IsRestored, IsRebased, IsAnswered}
 
 module _ {S : Type 0} (Holds : S → Registers → Type 0) where
   -- the struct is that of a device with this life, at counters that are lowered by this much
@@ -42,11 +42,16 @@ module _ {S : Type 0} (Holds : S → Registers → Type 0) where
       → ((r : Registers) → Holds kept.struct r → (called r call).0 ≡ r)
       → IsRestored Holds kept (record { struct = struct; lowered = kept.lowered; since = kept.since })
 
+  -- A commit takes up a duty of the ppm that the device has, unless its clock was set since the latest rebase: the second registers are those that a device of
+  -- this life has where it was never rebased. In a fleet this holds, since all plans are of one topology.
+  abbrev pub KeepsRate : Kept S → Life → Call → Type 0
+  KeepsRate kept life call = (r : Registers) → Holds kept.struct r → IsSteady kept.lowered (registers_of (past_of life)) r call
+
   -- a call sends what the life says, and the struct that it leaves stands for the life with this call
   abbrev pub CallStands : Type 0
   CallStands =
       (kept : Kept S) (struct : S) (life : Life) (call : Call) (effect : Effect) → IsOrderly (longer life call) → StandsIn kept life
-      → IfSome (counter_of call) (λ counter. kept.since ≤ counter) → KeepsRate Holds kept (Some life) call
+      → IfSome (counter_of call) (λ counter. kept.since ≤ counter) → KeepsRate kept life call
       → exports.IsCalled Holds kept.struct (call_lowered kept.lowered call) struct effect
       → StandsIn (record { struct = struct; lowered = kept.lowered; since = kept.since }) (longer life call) × (effect ≡ effect_of (past_of life) call)
 
