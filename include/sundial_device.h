@@ -67,10 +67,11 @@
  * count: the first came over the link to its backup parent, say, and the device moved there since. Then
  * the copy is a message that took longer, and has to keep the link's delay all the same.
  *
- * A fleet. The theorems of docs/PROVED.md speak of histories. A fleet of any structs and calls that do
- * as the clauses of these exports say, over a network that keeps the above, is a history: this is proved
- * (is_history of sd_beside). That your program calls as such a fleet does is yours to see to.
- * The definition is crates/sd_beside/specs/deployment/Deployment.antt, and docs/EMBED.md has it in words.
+ * A fleet. The theorems of docs/PROVED.md speak of histories. A fleet of devices that make these calls,
+ * over a network that keeps the above, is a history, however often they are rebased and restored: this is
+ * proved (is_history of sd_beside), of what the contracts of these calls say (crates/sd_exports). That your
+ * program calls as such a fleet does is yours to see to. The definition is
+ * crates/sd_beside/specs/deployment/Deployment.antt, and docs/EMBED.md has it in words.
  *
  * A restored device is the latest. Keep it with sundial_keep after each call and before you send what the
  * call sent, and restore it with sundial_restore: sundial_made alone finds few wrong bits. A device whose

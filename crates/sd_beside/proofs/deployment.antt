@@ -1,6 +1,10 @@
-pub mod Telling
+pub mod Steps
 pub mod Admitting
+pub mod Telling
 pub mod History
 pub mod Receipts
 pub mod Fleets
+pub mod Orderly
+pub mod Ports
+pub mod Worked
 pub mod Witness

@@ -1,16 +1,11 @@
 -- What the answers of the exports say, and what a call makes of a struct.
-use Rattle.std.specs.Prelude.{◌≡◌, ◌≢◌, ◌≤◌, ◌+◌, ◌↔◌, ◌⊎◌, ℕ, Some, List}
+use Rattle.std.specs.Prelude.{◌≡◌, ◌≢◌, ◌↔◌, ◌⊎◌, ℕ, Some}
 use Rattle.sd_plan.specs.declared.Duty.{Duty}
 use Rattle.sd_device.specs.declared.Effect.{Effect}
 use Rattle.sd_device.specs.declared.registers.Registers.{Registers}
 use Rattle.sd_device.specs.Calls.{Making, Started, Joined, Call, Give, Past}
-use Rattle.sd_device.specs.Living.{Life}
-use Rattle.sd_device.specs.Words.{effect_of}
 use Rattle.sd_device.specs.Limits.{IsDuty}
-use Rattle.sd_device.specs.Rules.{called, made}
-use Rattle.sd_device.specs.Lives.{past_of, longer}
-use Rattle.sd_device.specs.Standing.{StandsFor, alone}
-use Rattle.sd_device.specs.Rebases.{rebased, lowering, AnswersAlike, StandsLowered}
+use Rattle.sd_exports.specs.Exports as exports
 use Rattle.sd_device_c.specs.declared.plain.PlainDevice.{PlainDevice}
 use Rattle.sd_device_c.specs.declared.faults.Fault.{Fault}
 use Rattle.sd_device_c.specs.declared.faults.Fault.TheVariants.{NoDevice, NoDuty}
@@ -59,34 +54,23 @@ HasReportFault device counter fault = Fails fault device (λ f r. OwesToReport f
 abbrev pub IsNoDevice : PlainDevice → Fault → Type 0
 IsNoDevice device fault = (fault ≡ NoDevice) × (IsDevice device → ⊥)
 
--- the struct is that of a device with this life
-abbrev pub StandsIn : PlainDevice → Life → Type 0
-StandsIn device life = (r : Registers) × Holds device r × StandsFor r life
+-- What the calls make of a struct and tell of it is as in sd_exports, of the registers that the struct holds.
 
--- the call was made of the device: its registers and what it sent are those of the rules, and those of its life
-pub record IsCalled (old : PlainDevice) (call : Call) (new : PlainDevice) (effect : Effect) : Type 0 where
-  pub registers : (r : Registers) → Holds old r → Holds new (called r call).0
-  pub sent : (r : Registers) → Holds old r → effect ≡ (called r call).1
-  pub told : (life : Life) → StandsIn old life → StandsIn new (longer life call)
-  pub sent_told : (life : Life) → StandsIn old life → effect ≡ effect_of (past_of life) call
+-- the call was made of the device
+abbrev pub IsCalled : PlainDevice → Call → PlainDevice → Effect → Type 0
+IsCalled old call new effect = exports.IsCalled Holds old call new effect
 
--- a device was made: its registers are those of the rules, and those of its life
-pub record IsMade (making : Making) (new : PlainDevice) : Type 0 where
-  pub registers : Holds new (made making)
-  pub told : StandsIn new (alone making)
+-- a device was made
+abbrev pub IsMade : Making → PlainDevice → Type 0
+IsMade making new = exports.IsMade Holds making new
 
--- the device was rebased at this counter by this much: it answers as before to all later calls, and for its whole life
-pub record IsRebased (old : PlainDevice) (now : ℕ) (new : PlainDevice) (by : ℕ) : Type 0 where
-  pub registers : (r : Registers) → Holds old r → Holds new (rebased r now)
-  pub lowered : (r : Registers) → Holds old r → by ≡ lowering r now
-  pub later : (r : Registers) → Holds old r → (later : List Call) → AnswersAlike by now later r (rebased r now)
-  pub told : (r : Registers) → Holds old r → (before at : ℕ) (life : Life) → StandsLowered before at r life → at ≤ now + before
-      → StandsLowered (before + by) (now + before) (rebased r now) life
+-- the device was rebased at this counter by this much
+abbrev pub IsRebased : PlainDevice → ℕ → PlainDevice → ℕ → Type 0
+IsRebased old now new by = exports.IsRebased Holds old now new by
 
 -- what is told of the device: by its registers, and by its life
-pub record IsToldOf {T : Type 0} (device : PlainDevice) (by_rules : Registers → T) (by_words : Past → T) (told : T) : Type 0 where
-  pub registers : (r : Registers) → Holds device r → told ≡ by_rules r
-  pub life : (life : Life) → StandsIn device life → told ≡ by_words (past_of life)
+abbrev pub IsToldOf : {T : Type 0} → PlainDevice → (Registers → T) → (Past → T) → T → Type 0
+IsToldOf device by_rules by_words told = exports.IsToldOf Holds device by_rules by_words told
 
 -- it is a duty, and what a start with it owes holds
 abbrev pub MayStart : PlainDuty → (counter clock eps : ℕ) → Type 0

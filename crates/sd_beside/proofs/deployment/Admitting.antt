@@ -8,7 +8,7 @@ use Rattle.sd_sched.specs.declared.Event.{Event}
 use Rattle.sd_sched.specs.declared.Event.TheVariants as event
 use Rattle.sd_sched.specs.Events.{reference_of, is_end_event}
 use Rattle.sd_device.specs.declared.msg.Flight.{Flight}
-use Rattle.sd_device.specs.Living.{Life}
+use Rattle.sd_device.specs.declared.registers.Registers.{Registers}
 use Rattle.sd_history.specs.declared.ApplyFault.{ApplyFault}
 use Rattle.sd_history.specs.declared.ApplyFault.TheVariants as fault
 use Rattle.sd_history.specs.World.{Setting, latest_reference}
@@ -112,12 +112,12 @@ no_end : (setting : Setting) (steps : List Step) (e : Event) (act : Act) → IsC
 no_end setting earlier (event.End r) act is = absurd is
 no_end setting earlier _ act is = refl
 
-never_ends : {S : Type 0} (StandsIn : S → Life → Type 0) (setting : Setting) (run : List (Moment S)) → IsDeployment StandsIn setting run
+never_ends : {S : Type 0} (Holds : S → Registers → Type 0) (setting : Setting) (run : List (Moment S)) → IsDeployment Holds setting run
     → after_end (seen_of (steps_of setting run)) ≡ false
-never_ends StandsIn setting [] is = refl
-never_ends StandsIn setting (x ∷ earlier) is =
+never_ends Holds setting [] is = refl
+never_ends Holds setting (x ∷ earlier) is =
     ap (λ b. b || after_end (seen_of (steps_of setting earlier))) (no_end setting (steps_of setting earlier) x.event x.act is.1.call)
-    ∙ never_ends StandsIn setting earlier is.0
+    ∙ never_ends Holds setting earlier is.0
 
 -- All causes
 
@@ -127,9 +127,9 @@ rules_out cause b none = ap (λ c. not c || is_count cause) none
 next : (cause : ApplyFault) (b rest : Bool) → b ≡ false → rest ≡ true → ((not b || is_count cause) && rest) ≡ true
 next cause b rest none more = and_from (not b || is_count cause) rest (rules_out cause b none) more
 
-pub admits : {S : Type 0} (StandsIn : S → Life → Type 0) (setting : Setting) (earlier : List (Moment S)) (x : Moment S)
-    → IsDeployment StandsIn setting earlier → MayCome StandsIn setting earlier x → Admits setting (steps_of setting earlier) x.event
-admits StandsIn setting earlier x is may =
+pub admits : {S : Type 0} (Holds : S → Registers → Type 0) (setting : Setting) (earlier : List (Moment S)) (x : Moment S)
+    → IsDeployment Holds setting earlier → MayCome Holds setting earlier x → Admits setting (steps_of setting earlier) x.event
+admits Holds setting earlier x is may =
     let o = may.orderly in
     let c = carried setting earlier x.event x.act may.call o.time in
     next fault.UnknownDevice _ _ o.device
@@ -145,7 +145,7 @@ admits StandsIn setting earlier x is may =
     (next fault.StartedTwice _ _ o.once
     (next fault.NoPlanLeft _ _ o.plan
     (next fault.WindowOrder _ _ o.window
-    (next fault.AfterEnd _ _ (never_ends StandsIn setting earlier is)
+    (next fault.AfterEnd _ _ (never_ends Holds setting earlier is)
     (next fault.NotFailed _ _ o.failed
     (next fault.NotMember _ _ o.member counts)))))))))))))))
   where

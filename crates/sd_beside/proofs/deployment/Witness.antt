@@ -1,215 +1,242 @@
--- The witness: a run of two devices is one of a deployed fleet.
-use Rattle.std.specs.Prelude.{◌≡◌, ℕ, ◌<◌, List, [], ◌∷◌, Some, None, option_map, refl, if◌then◌else◌}
-use Rattle.std.proofs.Common.{arith, sym, ◌∙◌, ap, subst}
-use Rattle.std.proofs.lemmas.Bool.{eq-eqb, leb-true}
-use Rattle.std.proofs.lemmas.Option.{same_Some}
-use Rattle.sd_plan.specs.Duties.{duty_of}
-use Rattle.sd_plan.specs.declared.Hop.{Hop}
-use Rattle.sd_plan.specs.Plans.{Fits, IsRow, IsHop}
-use Rattle.sd_checker.specs.Verdicts.{IsAccepted}
-use Rattle.sd_beside.proofs.witness.Accepting.{accepted_by}
-use Rattle.sd_beside.proofs.witness.Histories.{each_of_two}
+-- The witness: the first lines of examples/triangle are a run of a deployed fleet, whose devices are rebased on the way.
+use Rattle.std.specs.Prelude.{◌≡◌, ◌≤◌, true, List, [], ◌∷◌, option_map, reverse, take, Some, refl}
+use Rattle.std.proofs.Common.{sym, ◌∙◌, ap, subst}
+use Rattle.std.proofs.lemmas.Bool.{ltb-true}
+use Rattle.sd_plan.specs.declared.domain.DomainId.TheVariants as domain
+use Rattle.sd_sched.specs.Lines.{event_of_line}
 use Rattle.sd_sched.specs.declared.Event.{Event}
-use Rattle.sd_device.specs.Calls as calls
-use Rattle.sd_device.specs.Calls.{Making, Call}
-use Rattle.sd_device.specs.Living.{Life}
-use Rattle.sd_device.specs.Words.{effect_of, report_at}
-use Rattle.sd_device.specs.Lives.{past_of, longer}
-use Rattle.sd_device.specs.Standing.{alone}
-use Rattle.sd_history.specs.World.{Setting}
-use Rattle.sd_history.specs.Steps.{Makes, Calls, Asks, Step}
-use Rattle.sd_history.specs.Lives.{life_in}
 use Rattle.sd_sched.specs.declared.Event.TheVariants as event
-use Rattle.sd_history.specs.Chronicle.{answers_by, told_by}
-use Rattle.sd_history.specs.Admitted.{Admits}
-use Rattle.sd_history.proofs.Among.{Among, first, later}
-use Rattle.sd_history.proofs.Admitted.{rule_holds}
-use Rattle.sd_history.proofs.Tellings.{call_tells, report_tells}
-use Rattle.sd_beside.specs.deployment.Deployment.{Moment, steps_of, struct_in, Exports, IsOrderly, IsDeployment}
-use Rattle.sd_beside.specs.deployment.Witness as witness
-use Rattle.sd_beside.specs.deployment.Witness.{SameLife, left_by, IsWitness}
-use Rattle.sd_history.proofs.Exactness.{Lives}
-use Rattle.sd_beside.proofs.deployment.Telling.{all_live}
+use Rattle.sd_num.specs.declared.clock.Report.{Report}
+use Rattle.sd_exports.specs.Exports.{Themselves}
+use Rattle.sd_history.specs.World.{Setting, in_force, is_counted}
+use Rattle.sd_history.specs.Steps.{Step, seen_of}
+use Rattle.sd_history.specs.Chronicle.{chronicle}
+use Rattle.sd_history.specs.Premises.{all_hold}
+use Rattle.sd_history.specs.Admitted.{IsAdmitted}
+use Rattle.sd_history.proofs.Admitted.{history_is_admitted}
+use Rattle.sd_safety.specs.invariant.Eras.{belongs}
+use Rattle.sd_safety.specs.invariant.Guarded.{IsSteady}
+use Rattle.sd_safety.proofs.invariant.Parts.{all_are_more, accepted_is_guarded, fair_is_guarded}
+use Rattle.sd_bound.proofs.Renewed.{stays_settled}
+use Rattle.sd_bound.specs.Recovering.{Recovers, steps_under}
+use Rattle.sd_bound.specs.Hearing.{IsUndisturbedSince}
+use Rattle.sd_bound.specs.Renewed.{IsRenewed, IsSettledIn}
+use Rattle.sd_bound.specs.Steady.{RecoversSteadily, IsSteadySince}
+use Rattle.sd_beside.specs.witness.Shared.{budget, last_report, was_counted, report}
+use Rattle.sd_beside.specs.witness.Texts.{schedule_lines}
+use Rattle.sd_beside.specs.witness.Schedules.{after_line}
+use Rattle.sd_beside.specs.witness.Values.{network, first_plan, setting, events}
+use Rattle.sd_beside.specs.witness.mended.Values as mended
+use Rattle.sd_beside.proofs.witness.Renewed.{renewal}
+use Rattle.sd_beside.proofs.witness.Recovered.{under, recovery}
+use Rattle.sd_beside.proofs.witness.mended.Mended.{under as mended_under, mended as second_witness}
+use Rattle.sd_beside.proofs.witness.mended.Read.{is_network, first_fits}
+use Rattle.sd_beside.specs.deployment.Deployment.{steps_of, struct_in, IsDeployment}
+use Rattle.sd_beside.specs.deployment.Laws.{events_in, IsItsHistory}
+use Rattle.sd_beside.specs.deployment.Worked.{after_call, run_of}
+use Rattle.sd_beside.specs.deployment.Witness.{run, recovering, hearing, asked, IsSafeRun, AreRebased, IsRenewedRun, IsBoundedRun, IsHearingRun, IsWitness}
+use Rattle.sd_beside.proofs.deployment.History.{is_history}
+use Rattle.sd_beside.proofs.deployment.Fleets.{fleet_stays_safe, fleet_stays_below, fleet_hears_again}
+use Rattle.sd_beside.proofs.deployment.Worked.{may_call, all_follow, is_deployment}
 
--- what the rules admit is orderly
-pub orderly_of : (setting : Setting) (steps : List Step) (e : Event) → Admits setting steps e → IsOrderly setting steps e
-orderly_of setting steps e admits =
+-- a run that is worked out has these events
+events_are : (over : Setting) (history : List Event) → events_in (run_of over history) ≡ history
+events_are over [] = refl
+events_are over (e ∷ earlier) = ap (λ es. e ∷ es) (events_are over earlier)
+
+-- and their steps
+steps_are : (over : Setting) (history : List Event) → IsDeployment Themselves over (run_of over history)
+    → steps_of over (run_of over history) ≡ chronicle over history
+steps_are over history is =
+    let its : IsItsHistory over (run_of over history) = is_history Themselves over (run_of over history) is in
+    sym its.steps ∙ ap (chronicle over) (events_are over history)
+
+-- Safety
+
+all_follow_on : all_follow setting (reverse (take 109 events)) ≡ true
+unfolding events schedule_lines event_of_line after_call may_call
+all_follow_on = refl
+
+is : IsDeployment Themselves setting (run 109)
+is = is_deployment setting (reverse (take 109 events)) all_follow_on
+
+steps : steps_of setting (run 109) ≡ after_line setting events 109
+steps = steps_are setting (reverse (take 109 events)) is
+
+none_broken : all_hold setting (seen_of (after_line setting events 109)) ≡ true
+unfolding events schedule_lines event_of_line
+none_broken = refl
+
+premises : all_hold setting (seen_of (steps_of setting (run 109))) ≡ true
+premises = subst (λ x. all_hold setting (seen_of x) ≡ true) (sym steps) none_broken
+
+safe : IsSafeRun
+safe =
     record {
-      device = rule_holds setting steps e _ admits first refl;
-      link = rule_holds setting steps e _ admits (later first) refl;
-      device_works = rule_holds setting steps e _ admits (later (later first)) refl;
-      link_works = rule_holds setting steps e _ admits (later (later (later first))) refl;
-      time = rule_holds setting steps e _ admits (behind first) refl;
-      counter = rule_holds setting steps e _ admits (behind (later first)) refl;
-      started = rule_holds setting steps e _ admits (behind (later (later first))) refl;
-      once = rule_holds setting steps e _ admits (behind (later (later (later first)))) refl;
-      plan = rule_holds setting steps e _ admits (behind (later (later (later (later first))))) refl;
-      window = rule_holds setting steps e _ admits (behind (later (later (later (later (later first)))))) refl;
-      failed = rule_holds setting steps e _ admits (behind (later (later (later (later (later (later (later first)))))))) refl;
-      member = rule_holds setting steps e _ admits (behind (later (later (later (later (later (later (later (later first))))))))) refl;
-    }
-  where
-    behind : {A : Type 0} {x a b c d f g h : A} {xs : List A} → Among x xs → Among x (a ∷ b ∷ c ∷ d ∷ f ∷ g ∷ h ∷ xs)
-    behind a = later (later (later (later (later (later (later a))))))
-
-module _ (setting : Setting) (earlier : List (Moment Life)) (is : IsDeployment SameLife setting earlier) where
-  -- a struct is the life of its device
-  has_life : (d : ℕ) (struct : Life) → struct_in earlier d ≡ Some struct → life_in (steps_of setting earlier) d ≡ Some struct
-  has_life d struct there =
-      let lives : Lives SameLife (life_in (steps_of setting earlier) d) struct = all_live SameLife setting earlier is d struct there in
-      lives.is ∙ ap Some (sym lives.stands)
-
-  -- what an export makes of such structs
-  pub made : (d : ℕ) (making : Making)
-      → Exports SameLife None (Makes d making) (told_by (steps_of setting earlier) (Makes d making)) (left_by earlier (Makes d making))
-  made d making =
-      record {
-        struct = alone making;
-        answers = answers_by (past_of (alone making));
-        stands = refl;
-        answered = λ life same. ap (λ l. answers_by (past_of l)) same;
-        tells = refl;
-        leaves = ap (λ b. if b then Some (alone making) else struct_in earlier d) (eq-eqb d d refl);
-      }
-
-  pub called : (d : ℕ) (call : Call) (struct : Life) → struct_in earlier d ≡ Some struct
-      → Exports SameLife (struct_in earlier d) (Calls d call) (told_by (steps_of setting earlier) (Calls d call)) (left_by earlier (Calls d call))
-  called d call struct there =
-      record {
-        kept = struct;
-        old = struct;
-        struct = longer struct call;
-        effect = effect_of (past_of struct) call;
-        answers = answers_by (past_of (longer struct call));
-        there = there;
-        same = λ life same. same;
-        stands = λ life same. ap (λ l. longer l call) same;
-        sent = λ life same. ap (λ l. effect_of (past_of l) call) same;
-        answered = λ life same. ap (λ l. answers_by (past_of l)) same;
-        tells =
-            sym (call_tells (steps_of setting earlier) d call struct (effect_of (past_of struct) call) (answers_by (past_of (longer struct call)))
-            (has_life d struct there) refl refl);
-        leaves =
-            ap (λ b. if b then option_map (λ life. longer life call) (struct_in earlier d) else struct_in earlier d) (eq-eqb d d refl)
-            ∙ ap (option_map (λ life. longer life call)) there;
-      }
-
-  pub asked : (d counter : ℕ) (struct : Life) → struct_in earlier d ≡ Some struct
-      → Exports SameLife (struct_in earlier d) (Asks d counter) (told_by (steps_of setting earlier) (Asks d counter)) (left_by earlier (Asks d counter))
-  asked d counter struct there =
-      record {
-        kept = struct;
-        struct = struct;
-        report = report_at (past_of struct) counter;
-        there = there;
-        same = λ life same. same;
-        reported = λ life same. ap (λ l. report_at (past_of l) counter) same;
-        tells = sym (report_tells (steps_of setting earlier) d counter struct (report_at (past_of struct) counter) (has_life d struct there) refl);
-      }
-
--- The run, moment by moment
-
-first_start : IsDeployment SameLife witness.setting witness.first_start
-first_start = (
-  tt,
-  record {
-    export = made witness.setting [] tt 0 (calls.Started (duty_of witness.network witness.plan 1 0) 0 0 500);
-    call = refl;
-    orderly = orderly_of witness.setting [] (event.Start 0 0 0 0 500) refl;
-  },
-)
-
-second_start : IsDeployment SameLife witness.setting witness.second_start
-second_start = (
-  first_start,
-  record {
-    export = made witness.setting witness.first_start first_start 1 (calls.Started (duty_of witness.network witness.plan 1 1) 0 0 1000000);
-    call = refl;
-    orderly = orderly_of witness.setting (steps_of witness.setting witness.first_start) (event.Start 0 1 0 0 1000000) refl;
-  },
-)
-
-first_tick : IsDeployment SameLife witness.setting witness.first_tick
-first_tick = (
-  second_start,
-  record {
-    export = called witness.setting witness.second_start second_start 0 _ _ refl;
-    call = refl;
-    orderly = orderly_of witness.setting (steps_of witness.setting witness.second_start) (event.Tick 50000000 0 50000000) refl;
-  },
-)
-
-second_tick : IsDeployment SameLife witness.setting witness.second_tick
-second_tick = (
-  first_tick,
-  record {
-    export = called witness.setting witness.first_tick first_tick 1 _ _ refl;
-    call = refl;
-    orderly = orderly_of witness.setting (steps_of witness.setting witness.first_tick) (event.Tick 50000000 1 50000000) refl;
-  },
-)
-
-tick : IsDeployment SameLife witness.setting witness.tick
-tick = (
-  second_tick,
-  record {
-    export = called witness.setting witness.second_tick second_tick 0 _ _ refl;
-    call = refl;
-    orderly = orderly_of witness.setting (steps_of witness.setting witness.second_tick) (event.Tick 100000000 0 100000000) refl;
-  },
-)
-
-receipt : IsDeployment SameLife witness.setting witness.receipt
-receipt = (
-  tick,
-  record {
-    export = called witness.setting witness.tick tick 1 _ _ refl;
-    call =
-        record {
-          flight = _;
-          sent = refl;
-          same = refl;
-          end = refl;
-          once = refl;
-          up = refl;
-          unbroken = refl;
-          soon = omega arith;
-        };
-    orderly = orderly_of witness.setting (steps_of witness.setting witness.tick) (event.Recv 100500000 1 100495000 1) refl;
-  },
-)
-
-is_run : IsDeployment SameLife witness.setting witness.run
-is_run = (
-  receipt,
-  record {
-    export = asked witness.setting witness.receipt receipt 1 100594990 _ refl;
-    call = refl;
-    orderly = orderly_of witness.setting (steps_of witness.setting witness.receipt) (event.Ask 100600000 1 100594990) refl;
-  },
-)
-
--- the plan speaks of the network
-hop_over : (link : ℕ) → link < 2 → IsHop witness.network (record { parent = 0; link = link })
-hop_over link there = (omega arith, there)
-
-row : IsRow witness.network (Some (record { primary = record { parent = 0; link = 0 }; backup = Some (record { parent = 0; link = 1 }) }))
-row = (hop_over 0 (omega arith), λ hop same. subst (IsHop witness.network) (same_Some _ hop same) (hop_over 1 (omega arith)))
-
-fits : Fits witness.network witness.plan
-fits =
-    record {
-      root = omega arith;
-      backup_root = omega arith;
-      entries = refl;
-      rows = each_of_two (IsRow witness.network) None (Some _) tt row;
-      waits = (leb-true _ _ refl, leb-true _ _ refl, leb-true _ _ refl);
-      absent_devices = refl;
-      absent_links = refl;
+      is = is;
+      steps = steps;
+      first_accepted = renewal.meets.first_accepted;
+      second_accepted = renewal.meets.second_accepted;
+      premises = premises;
+      takes_over = renewal.takes_over;
+      commits = renewal.commits;
+      closes = renewal.closes;
+      safe = fleet_stays_safe Themselves setting (run 109) is (fair_is_guarded setting renewal.fair)
+          (all_are_more setting (seen_of (steps_of setting (run 109))) premises);
     }
 
-accepted : IsAccepted witness.network witness.plan
-accepted = accepted_by witness.network witness.plan fits refl
+rebased : AreRebased
+unfolding events schedule_lines event_of_line after_call
+rebased = record { first_waits = refl; second_waits = refl; first_renewed = refl; second_renewed = refl }
+
+-- After the renewal
+
+ends_so : reverse (take 109 events) ≡ event.Ask 3205000000 2 3205352550 ∷ reverse (take 108 events)
+unfolding events schedule_lines event_of_line
+ends_so = refl
+
+steady : IsSteady setting (event.Ask 3205000000 2 3205352550 ∷ reverse (take 108 events))
+steady =
+    subst (IsSteady setting) ends_so
+    (record {
+      is = subst (IsAdmitted setting) (events_are setting (reverse (take 109 events))) (is_history Themselves setting (run 109) is).is;
+      premises = all_are_more setting (seen_of (after_line setting events 109)) none_broken;
+    })
+
+renewed_there : IsRenewed (after_line setting events 108)
+unfolding events schedule_lines event_of_line
+renewed_there = record { renewed = ltb-true _ _ refl; unfailed = refl; uncommitted = refl }
+
+belongs_there : belongs network (in_force setting (seen_of (after_line setting events 108))) 2 ≡ true
+unfolding events schedule_lines event_of_line
+belongs_there = refl
+
+earlier : steps_of setting (run 108) ≡ after_line setting events 108
+earlier = steps_are setting (reverse (take 108 events)) (subst (IsDeployment Themselves setting) (ap (run_of setting) ends_so) is).0
+
+renewed : IsRenewedRun
+renewed =
+    record {
+      renewed = subst IsRenewed (sym earlier) renewed_there;
+      settled = subst (λ steps. IsSettledIn setting steps 3205000000 2) (sym earlier)
+          (stays_settled setting (event.Ask 3205000000 2 3205352550) (reverse (take 108 events)) (fair_is_guarded setting renewal.fair) steady renewed_there 2
+          belongs_there);
+    }
+
+-- The bound
+
+abbrev lines : List Event
+lines = reverse (take 89 events)
+
+steadily : (history : List Event) → Recovers network first_plan budget (domain.Device 0) history
+    → RecoversSteadily network first_plan budget (domain.Device 0) history
+steadily history recovers =
+    record {
+      network = recovers.network;
+      fits = recovers.fits;
+      guarded = accepted_is_guarded network first_plan recovers.accepted;
+      is = history_is_admitted under history recovers.is;
+      premises = all_are_more under (seen_of (steps_under network first_plan history)) recovers.premises;
+      unstaged = recovers.unstaged;
+      based = recovers.based;
+      held = recovers.held;
+      failed = recovers.failed;
+    }
+
+recovering_follow : all_follow under (reverse (take 89 events)) ≡ true
+unfolding events schedule_lines event_of_line after_call may_call
+recovering_follow = refl
+
+recovering_is : IsDeployment Themselves under recovering
+recovering_is = is_deployment under lines recovering_follow
+
+recovering_steps : steps_of under recovering ≡ steps_under network first_plan lines
+recovering_steps = steps_are under lines recovering_is
+
+recovers : RecoversSteadily network first_plan budget (domain.Device 0) (events_in recovering)
+recovers =
+    subst (RecoversSteadily network first_plan budget (domain.Device 0)) (sym (events_are under lines)) (steadily lines recovery.second.recovers)
+
+-- the last report is at most the bound
+below_bound : (told : Report) (steps : List Step) → steps_of under recovering ≡ steps → last_report steps ≡ Some (2, told)
+    → was_counted under steps 2 ≡ true → told.eps ≤ 5048333
+below_bound told [] same reported counts = cc
+below_bound told (s ∷ earlier) same reported counts =
+    fleet_stays_below Themselves network first_plan budget (domain.Device 0) recovering 2 5048333 [] s earlier told recovering_is recovers recovery.second.bound
+    same reported counts
+
+reported : last_report (steps_of under recovering) ≡ Some (2, report 2885262869 879413)
+reported = ap last_report recovering_steps ∙ recovery.second.reported
+
+counted : was_counted under (steps_of under recovering) 2 ≡ true
+counted = ap (λ steps. was_counted under steps 2) recovering_steps ∙ recovery.second.counts
+
+bounded : IsBoundedRun
+bounded =
+    record {
+      is = recovering_is;
+      recovers = recovers;
+      bound = recovery.second.bound;
+      reported = reported;
+      below = below_bound (report 2885262869 879413) (steps_of under recovering) refl reported counted;
+    }
+
+-- Hearing again
+
+abbrev mended_lines : List Event
+mended_lines = reverse (take 329 mended.events)
+
+hearing_follow : all_follow mended_under (event.Ask 7745000000 2 7745851950 ∷ mended_lines) ≡ true
+unfolding mended.events after_call may_call
+hearing_follow = refl
+
+hearing_is : IsDeployment Themselves mended_under (asked ∷ hearing)
+hearing_is = is_deployment mended_under (event.Ask 7745000000 2 7745851950 ∷ mended_lines) hearing_follow
+
+still : (history : List Event) → IsUndisturbedSince mended.network mended.first_plan (domain.Link 2) 270000000 history
+    → IsSteadySince mended.network mended.first_plan (domain.Link 2) 270000000 history
+still history calm =
+    record {
+      network = is_network;
+      fits = first_fits;
+      guarded = accepted_is_guarded mended.network mended.first_plan second_witness.meets.first_accepted;
+      is = history_is_admitted mended_under history calm.is;
+      premises = all_are_more mended_under (seen_of (chronicle mended_under history)) calm.premises;
+      inside = calm.inside;
+      unstaged = calm.unstaged;
+      unfailed = calm.unfailed;
+      begun = calm.begun;
+    }
+
+still_steady : IsSteadySince mended.network mended.first_plan (domain.Link 2) 270000000 (events_in (asked ∷ hearing))
+still_steady =
+    subst (IsSteadySince mended.network mended.first_plan (domain.Link 2) 270000000)
+    (sym (events_are mended_under (event.Ask 7745000000 2 7745851950 ∷ mended_lines)))
+    (still (event.Ask 7745000000 2 7745851950 ∷ mended_lines) second_witness.hears.undisturbed)
+
+counted_there : is_counted mended_under (seen_of (chronicle mended_under mended_lines)) 2 ≡ true
+unfolding mended.events
+counted_there = refl
+
+hearing_counted : is_counted mended_under (seen_of (steps_of mended_under hearing)) 2 ≡ true
+hearing_counted =
+    subst (λ steps. is_counted mended_under (seen_of steps) 2 ≡ true) (sym (steps_are mended_under mended_lines hearing_is.0)) counted_there
+
+rebased_there : option_map (λ kept. kept.since) (struct_in hearing 2) ≡ Some 7200792000
+unfolding mended.events after_call
+rebased_there = refl
+
+hears : IsHearingRun
+hears =
+    record {
+      is = hearing_is;
+      steady = still_steady;
+      bound = second_witness.hears.bound;
+      late = second_witness.hears.late;
+      rebased = rebased_there;
+      served = fleet_hears_again Themselves mended.network mended.first_plan (domain.Link 2) hearing asked budget 2 5048333 270000000 hearing_is still_steady
+          second_witness.hears.bound hearing_counted second_witness.hears.late;
+    }
 
 pub is_witness : IsWitness
-is_witness = record { is = is_run; accepted = accepted; premises = refl; reported = refl }
+is_witness = record { safe = safe; rebased = rebased; renewed = renewed; bounded = bounded; hearing = hears }

@@ -1,5 +1,5 @@
 -- Elements of lists.
-use Rattle.std.specs.Prelude.{◌||◌, nat_eq, ◌≡◌, ℕ, ◌<◌, Bool, true, false, List, [], ◌∷◌, ◌++◌, filter, find, map, Some, is_some, refl, if◌then◌else◌}
+use Rattle.std.specs.Prelude.{◌||◌, nat_eq, ◌≡◌, ℕ, Bool, true, false, List, [], ◌∷◌, ◌++◌, filter, find, map, Some, is_some, refl, if◌then◌else◌}
 use Rattle.std.specs.List.{list_any}
 use Rattle.std.proofs.Common.{sym, subst, inl, inr}
 use Rattle.std.proofs.lemmas.Bool.{or_left, or_right, or_cases, eqb-true}

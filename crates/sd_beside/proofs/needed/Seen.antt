@@ -1,5 +1,5 @@
 -- A ring of parents is a loop that is seen: following parents comes back within as many steps as there are devices.
-use Rattle.std.specs.Prelude.{◌≡◌, ℕ, zero, suc, ◌+◌, ◌<◌, ◌≤◌, Bool, true, false, not, List, [], ◌∷◌, ◌++◌, length, filter, nat_eq, Option, Some, None, option_and_then, refl, if◌then◌else◌}
+use Rattle.std.specs.Prelude.{◌≡◌, ℕ, zero, suc, ◌+◌, ◌<◌, ◌≤◌, Bool, true, false, not, List, [], ◌∷◌, ◌++◌, length, filter, nat_eq, Option, Some, None, refl, if◌then◌else◌}
 use Rattle.std.proofs.Common.{sym, ap, ◌∙◌, subst, arith}
 use Rattle.std.proofs.lemmas.Bool.{and_parts, or_left, or_parts, eqb-true, eqb-false, eq-eqb, both_ways, not-true, false_from_ne_true}
 use Rattle.sd_num.specs.Lists.{has, same_number, follow}

@@ -36,7 +36,7 @@ use Rattle.sd_beside.proofs.witness.Renewed.{first_accepted}
 abbrev fault : DomainId
 fault = domain.Device 0
 
-abbrev under : Setting
+abbrev pub under : Setting
 under = alone network first_plan
 
 -- What fails

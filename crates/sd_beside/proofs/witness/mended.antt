@@ -1,3 +1,3 @@
 -- The second witness: what its texts mean, and what happens in its history.
-mod Read
+pub mod Read
 pub mod Mended

@@ -1,120 +1,102 @@
--- A run of two devices: the root sends a message over both links to the other device, which receives one and reports. Its structs are the lives of their
--- devices themselves.
-use Rattle.std.specs.Prelude.{◌≡◌, ℕ, List, [], ◌∷◌, Option, Some, None, codes, true}
-use Rattle.sd_num.specs.Lists.{map_or}
-use Rattle.sd_plan.specs.topo.Network.{Network, Device, Link}
-use Rattle.sd_plan.specs.declared.topo.Side.TheVariants.{Root}
-use Rattle.sd_plan.specs.declared.Plan.{Plan}
-use Rattle.sd_plan.specs.Duties.{duty_of}
+-- Runs of deployed fleets under accepted plans, with rebases on the way. In that of the first 109 lines of examples/triangle, all but the end of its schedule,
+-- the root fails, the backup root takes over, and a renewal brings in a second plan. In that of the second witness a link fails, and all hear again.
+use Rattle.std.specs.Prelude.{◌≡◌, ℕ, ◌+◌, ◌-◌, ◌<◌, ◌≤◌, true, List, ◌∷◌, reverse, take, Option, Some, option_map}
+use Rattle.sd_plan.specs.declared.domain.DomainId.TheVariants as domain
+use Rattle.sd_checker.specs.check_root.Timing.{silence}
 use Rattle.sd_checker.specs.Verdicts.{IsAccepted}
-use Rattle.sd_sched.specs.declared.Event.{Event}
+use Rattle.sd_drill.specs.Drill.{IsWorst}
 use Rattle.sd_sched.specs.declared.Event.TheVariants as event
-use Rattle.sd_device.specs.declared.msg.Message.{Message}
-use Rattle.sd_device.specs.Calls as calls
-use Rattle.sd_device.specs.Living.{Life}
-use Rattle.sd_history.specs.World.{Setting, alone}
-use Rattle.sd_history.specs.Steps.{Act, Makes, Calls, Asks, changed, seen_of}
-use Rattle.sd_history.specs.Lives.{life_after}
-use Rattle.sd_history.specs.Chronicle.{told_by}
+use Rattle.sd_device.specs.declared.registers.Registers.{Registers}
+use Rattle.sd_exports.specs.Exports.{Themselves}
+use Rattle.sd_history.specs.World.{alone}
+use Rattle.sd_history.specs.Steps.{seen_of}
 use Rattle.sd_history.specs.Premises.{all_hold}
-use Rattle.sd_history.specs.Lines.{reports}
+use Rattle.sd_safety.specs.invariant.Kept.{IsSafe}
+use Rattle.sd_bound.specs.Hearing.{IsServed, recovery}
+use Rattle.sd_bound.specs.Renewed.{IsRenewed, IsSettledIn}
+use Rattle.sd_bound.specs.Steady.{RecoversSteadily, IsSteadySince}
+use Rattle.sd_beside.specs.witness.Shared.{budget, last_report, report}
+use Rattle.sd_beside.specs.witness.Schedules.{after_line}
+use Rattle.sd_beside.specs.witness.Values.{network, first_plan, second_plan, setting, events}
+use Rattle.sd_beside.specs.witness.Witnesses.{TakesOver, Commits, Closes}
+use Rattle.sd_beside.specs.witness.mended.Values as mended
 use Rattle.sd_beside.specs.deployment.Deployment.{Moment, steps_of, struct_in, IsDeployment}
+use Rattle.sd_beside.specs.deployment.Laws.{events_in}
+use Rattle.sd_beside.specs.deployment.Worked.{moment_of, run_of}
 
--- a struct that is the life of its device stands for that life alone
-abbrev pub SameLife : Life → Life → Type 0
-SameLife struct life = struct ≡ life
+-- the first lines, as a run
+abbrev pub run : ℕ → List (Moment Registers)
+run n = run_of setting (reverse (take n events))
 
--- the struct that an act leaves
-abbrev pub left_by : List (Moment Life) → Act → Option Life
-left_by earlier act = map_or (changed act) None (λ d. life_after act d (struct_in earlier d))
+-- by how much the counter of a device was lowered in all after these lines
+abbrev pub lowered_by : ℕ → ℕ → Option ℕ
+lowered_by n d = option_map (λ kept. kept.lowered) (struct_in (run n) d)
 
--- the moment at which a device of this kind is called so
-abbrev pub moment : Setting → List (Moment Life) → Event → Act → Moment Life
-moment setting earlier e act =
-    record {
-      event = e;
-      act = act;
-      told = told_by (steps_of setting earlier) act;
-      left = left_by earlier act;
-    }
+-- Safety
 
--- a device whose oscillator drifts by 100 ppm at most and is read to 1 ns
-abbrev device : List ℕ → Device
-device name = record { name = name; side = Root; rates = record { ppm = 100; grain = 1000 } }
+-- It is a run of a deployed fleet, its steps are those lines, and it breaks no premise. So it is safe by the theorem on deployed fleets.
+pub record IsSafeRun : Type 0 where
+  pub is : IsDeployment Themselves setting (run 109)
+  pub steps : steps_of setting (run 109) ≡ after_line setting events 109
+  pub first_accepted : IsAccepted network first_plan
+  pub second_accepted : IsAccepted network second_plan
+  pub premises : all_hold setting (seen_of (steps_of setting (run 109))) ≡ true
+  pub takes_over : TakesOver events
+  pub commits : Commits events
+  pub closes : Closes events
+  pub safe : IsSafe setting (steps_of setting (run 109))
 
--- a link on which a message takes from 400 ns to 1 us
-abbrev link : List ℕ → Link
-link name = record { name = name; entry = record { end_a = 0; end_b = 1; min = 400000; max = 1000000; back_min = 400000; back_max = 1000000 } }
+-- Devices 1 and 2 are rebased while they wait for the root that failed, before device 1 takes over at line 85, and after the renewal that closes at
+-- line 101.
+pub record AreRebased : Type 0 where
+  pub first_waits : lowered_by 84 1 ≡ Some 1519908800
+  pub second_waits : lowered_by 84 2 ≡ Some 160757681
+  pub first_renewed : lowered_by 109 1 ≡ Some 3039817600
+  pub second_renewed : lowered_by 109 2 ≡ Some 3041314507
 
--- two devices with two links
-abbrev pub network : Network
-network =
-    record {
-      version = 1;
-      params = record { ppm = 100; grain = 1000; period = 100000000; tick = 90000000; loss = 1; depth = 1 };
-      devices = device (codes "r") ∷ device (codes "b") ∷ [];
-      links = link (codes "first") ∷ link (codes "second") ∷ [];
-      domains = [];
-      roots = 0 ∷ 1 ∷ [];
-    }
+-- After the renewal nothing fails, so that the lemmas on renewed plans apply. By one of them device 2 stands where the second plan puts it when it reports at
+-- line 109.
+pub record IsRenewedRun : Type 0 where
+  pub renewed : IsRenewed (steps_of setting (run 108))
+  pub settled : IsSettledIn setting (steps_of setting (run 108)) 3205000000 2
 
--- the second device follows the first over the first link, and falls back on the second link
-abbrev pub plan : Plan
-plan =
-    record {
-      root = 0;
-      backup_root = 1;
-      wait_first = 2000000000;
-      wait_second = 2000000000;
-      wait = 9000000000;
-      absent = record { devices = []; links = [] };
-      rows = None ∷ Some (record { primary = record { parent = 0; link = 0 }; backup = Some (record { parent = 0; link = 1 }) }) ∷ [];
-    }
+-- The bound
 
--- this network under this plan
-abbrev pub setting : Setting
-setting = alone network plan
+-- the first 89 lines under the first plan alone
+abbrev pub recovering : List (Moment Registers)
+recovering = run_of (alone network first_plan) (reverse (take 89 events))
 
--- what the root sends 100 us after its start
-abbrev pub sent : Message
-sent = record { epoch = 1; stamp = record { term = 0; round = 1 }; clock = 100000000; eps = 11500 }
+-- a run to which the bound applies, in which the root fails. Its last moment is a report, which is below its bound by the theorem on deployed fleets.
+pub record IsBoundedRun : Type 0 where
+  pub is : IsDeployment Themselves (alone network first_plan) recovering
+  pub recovers : RecoversSteadily network first_plan budget (domain.Device 0) (events_in recovering)
+  pub bound : IsWorst network first_plan budget (domain.Device 0) 2 5048333
+  pub reported : last_report (steps_of (alone network first_plan) recovering) ≡ Some (2, report 2885262869 879413)
+  pub below : 879413 ≤ 5048333
 
--- both start
-abbrev pub first_start : List (Moment Life)
-first_start = moment setting [] (event.Start 0 0 0 0 500) (Makes 0 (calls.Started (duty_of network plan 1 0) 0 0 500)) ∷ []
+-- Hearing again
 
--- with a clock that is off by 1 us at most
-abbrev pub second_start : List (Moment Life)
-second_start = moment setting first_start (event.Start 0 1 0 0 1000000) (Makes 1 (calls.Started (duty_of network plan 1 1) 0 0 1000000)) ∷ first_start
+-- the first 329 lines of the second witness under its first plan alone, and a report
+abbrev pub hearing : List (Moment Registers)
+hearing = run_of (alone mended.network mended.first_plan) (reverse (take 329 mended.events))
 
--- each ticks halfway, since no tick may be more than 90 us after the one before
-abbrev pub first_tick : List (Moment Life)
-first_tick = moment setting second_start (event.Tick 50000000 0 50000000) (Calls 0 (calls.Tick 50000000)) ∷ second_start
+abbrev pub asked : Moment Registers
+asked = moment_of (alone mended.network mended.first_plan) hearing (event.Ask 7745000000 2 7745851950)
 
--- and the other device
-abbrev pub second_tick : List (Moment Life)
-second_tick = moment setting first_tick (event.Tick 50000000 1 50000000) (Calls 1 (calls.Tick 50000000)) ∷ first_tick
+-- A run to which the theorem on hearing again applies, in which the link of device 2 to its primary parent fails. By that theorem on deployed fleets the
+-- device has heard of a root since. It was rebased last at 7200 us, after it moved to its backup parent.
+pub record IsHearingRun : Type 0 where
+  pub is : IsDeployment Themselves (alone mended.network mended.first_plan) (asked ∷ hearing)
+  pub steady : IsSteadySince mended.network mended.first_plan (domain.Link 2) 270000000 (events_in (asked ∷ hearing))
+  pub bound : IsWorst mended.network mended.first_plan budget (domain.Link 2) 2 5048333
+  pub late : 270000000 + recovery mended.network mended.first_plan < 7745000000
+  pub rebased : option_map (λ kept. kept.since) (struct_in hearing 2) ≡ Some 7200792000
+  pub served : IsServed (steps_of (alone mended.network mended.first_plan) hearing) 2 270000000 (7745000000 - silence mended.network)
 
--- the root ticks, and sends
-abbrev pub tick : List (Moment Life)
-tick = moment setting second_tick (event.Tick 100000000 0 100000000) (Calls 0 (calls.Tick 100000000)) ∷ second_tick
-
--- the message comes over the first link
-abbrev pub receipt : List (Moment Life)
-receipt = moment setting tick (event.Recv 100500000 1 100495000 1) (Calls 1 (calls.Receive 0 sent 100495000)) ∷ tick
-
--- the device that received it reports
-abbrev pub run : List (Moment Life)
-run = moment setting receipt (event.Ask 100600000 1 100594990) (Asks 1 100594990) ∷ receipt
-
--- It is a run of a deployed fleet under an accepted plan. It breaks no premise, and its one report is this.
+-- all of them
 pub record IsWitness : Type 0 where
-  pub is : IsDeployment SameLife setting run
-  pub accepted : IsAccepted network plan
-  pub premises : all_hold setting (seen_of (steps_of setting run)) ≡ true
-  pub reported : reports (steps_of setting run) ≡ record {
-    line = 7;
-    device = 1;
-    reference = 100600000;
-    report = record { clock = 100799990; eps = 312510 };
-  } ∷ []
+  pub safe : IsSafeRun
+  pub rebased : AreRebased
+  pub renewed : IsRenewedRun
+  pub bounded : IsBoundedRun
+  pub hearing : IsHearingRun

@@ -1,5 +1,5 @@
 -- One plan that is never renewed, and histories in which some things fail.
-use Rattle.std.specs.Prelude.{ℕ, Bool, true, ◌&&◌, not, List, [], ◌∷◌, IsTrue}
+use Rattle.std.specs.Prelude.{ℕ, Bool, true, ◌&&◌, not, List, IsTrue}
 use Rattle.std.specs.List.{list_all}
 use Rattle.sd_num.specs.Lists.{has, map_or}
 use Rattle.sd_plan.specs.topo.Network.{Network}
@@ -10,7 +10,7 @@ use Rattle.sd_plan.specs.declared.domain.DomainId.{DomainId}
 use Rattle.sd_plan.specs.declared.Plan.{Plan}
 use Rattle.sd_sched.specs.declared.Event.{Event}
 use Rattle.sd_history.specs.Things.{failure_of}
-use Rattle.sd_history.specs.World.{Setting, alone}
+use Rattle.sd_history.specs.World.{alone}
 use Rattle.sd_history.specs.Steps.{seen_of}
 use Rattle.sd_history.specs.Chronicle.{chronicle, IsHistory}
 use Rattle.sd_history.specs.Premises.{all_hold}

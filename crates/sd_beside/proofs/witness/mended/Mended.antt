@@ -56,7 +56,7 @@ moves = record { on_primary = refl; link_fails = refl; round_lost = refl; on_pri
 abbrev fault : DomainId
 fault = domain.Link 2
 
-abbrev under : Setting
+abbrev pub under : Setting
 under = alone network first_plan
 
 bound : IsWorst network first_plan budget fault 2 5048333
