@@ -1,9 +1,8 @@
 -- Ways can be turned round and joined.
-use Rattle.std.proofs.Common.{◌≡◌, ℕ, zero, suc, ◌<◌, true, length, nat_eq, refl, sym, ◌∙◌, subst, inl, inr}
+use Rattle.std.proofs.Common.{◌≡◌, ℕ, zero, suc, ◌<◌, length, nat_eq, refl, sym, ◌∙◌, subst, inl, inr}
 use Rattle.std.proofs.lemmas.Bool.{or_cases, eqb-true}
-use Rattle.sd_plan.specs.topo.Network.{Network, joins, link_of}
+use Rattle.sd_plan.specs.topo.Network.{Network, link_of}
 use Rattle.sd_plan.specs.topo.Limits.{IsNetwork, IsLink}
-use Rattle.sd_plan.specs.topo.Places.{is_end_of}
 use Rattle.sd_plan.proofs.topo.Laws.{link_law, joined_end}
 use Rattle.sd_planner.proofs.Walks.{joins_swap}
 use Rattle.sd_why.specs.Ways.{NextTo, Way}

@@ -1,6 +1,6 @@
 -- From what is found to the first reason.
-use Rattle.std.proofs.Common.{◌≡◌, ℕ, ◌+◌, ◌<◌, ◌≤◌, inl, inr, Bool, true, false, List, length, get_or, Option, Some, None, is_none, find, refl, sym, ap, ◌∙◌, subst, arith, slice_get}
-use Rattle.std.specs.Prelude.{IfOk, IfSome, IsTrue, Ok, Err, Result, is_some, option_map}
+use Rattle.std.proofs.Common.{◌≡◌, ℕ, ◌<◌, ◌≤◌, inl, inr, true, false, List, length, get_or, Option, Some, None, is_none, find, refl, sym, ap, ◌∙◌, subst, arith, slice_get}
+use Rattle.std.specs.Prelude.{IfOk, IfSome, Ok, Err, Result, is_some, option_map}
 use Rattle.std.proofs.lemmas.Bool.{both_ways, cases_order}
 use Rattle.std.proofs.lemmas.Option.{same_Some, slice_get-get_or, slice_get_within}
 use Rattle.sd_num.specs.Lists.{below}
@@ -11,7 +11,7 @@ use Rattle.sd_why.specs.Kinds.{Holds, IsConnected, IsTooDeep, Kind, is_before, s
 use Rattle.sd_why.specs.Kinds as kind
 use Rattle.sd_num.specs.declared.NoMemory.{NoMemory}
 use Rattle.sd_why.specs.Plans.{HasNoPlanOfCandidates}
-use Rattle.sd_why.specs.Reasons.{FindsBeyond, IsFarthestFrom, IsFirstReason, IsReasonOf, IsWhy, Judges, NoneBefore, Shows, kind_of}
+use Rattle.sd_why.specs.Reasons.{FindsBeyond, IsFarthestFrom, IsFirstReason, IsReasonOf, IsWhy, Judges, NoneBefore, kind_of}
 use Rattle.sd_why.specs.Rings.{IsFarthest, is_unknown}
 use Rattle.sd_why.specs.Ways.{AreDistances, IsDistance, IsFar, Way}
 use Rattle.sd_why.proofs.Laws.{no_plan}
@@ -21,11 +21,11 @@ use Rattle.sd_why.specs.declared.Reason.{Reason}
 use Rattle.sd_why.specs.declared.Reason.TheVariants as reason
 
 -- what is not something is nothing, and the other way round
-pub none_if : (o : Option ℕ) → false ≡ is_some o → is_none o ≡ true
+pub none_if : (o : Option ℕ) → is_some o ≡ false → is_none o ≡ true
 none_if None not_so = refl
 none_if (Some n) not_so = cc
 
-pub some_if : (o : Option ℕ) → true ≡ is_some o → is_none o ≡ false
+pub some_if : (o : Option ℕ) → is_some o ≡ true → is_none o ≡ false
 some_if None so = cc
 some_if (Some n) so = refl
 
@@ -81,10 +81,14 @@ module _ (net : Network) where
       record {
         kind = refl;
         holds = (d, within, apart);
-        shows = (within, apart, λ e before.
-        let met = least_found (is_unknown known) (length known) d (sym is) e before in
-        let (n, distance) = reached known 0 e are (omega (arith, within, before)) met in
-        (n, distance.way));
+        shows = (
+          within,
+          apart,
+          λ e before.
+              let met = least_found (is_unknown known) (length known) d (sym is) e before in
+              let (n, distance) = reached known 0 e are (omega (arith, within, before)) met in
+              (n, distance.way),
+        );
       }
 
   -- where nothing is unknown, all are connected with the first

@@ -1,35 +1,29 @@
 -- Where a kind of reason holds, no plan is accepted.
-use Rattle.std.proofs.Common.{◌≡◌, ℕ, zero, suc, ◌+◌, ◌<◌, ◌≤◌, inl, inr, Bool, true, false, ◌&&◌, ◌||◌, not, List, [], ◌∷◌, length, nat_eq, nat_le, Option, Some, None, if◌then◌else◌, find, refl, sym, ap, ◌∙◌, subst, arith}
+use Rattle.std.proofs.Common.{◌≡◌, ℕ, ◌<◌, ◌≤◌, inl, inr, Bool, true, false, ◌&&◌, ◌||◌, not, List, [], ◌∷◌, length, nat_eq, nat_le, Option, Some, None, if◌then◌else◌, refl, sym, ap, ◌∙◌, subst, arith}
 use Rattle.std.specs.List.{list_all}
-use Rattle.std.specs.Option.{option_or}
 use Rattle.std.specs.Prelude.{option_map}
 use Rattle.std.proofs.lemmas.Bool.{and_from, and_parts, both_ways, cases_Bool, eqb-true, eq-eqb, le-leb, or_cases}
 use Rattle.sd_num.specs.Lists.{has}
 use Rattle.sd_num.proofs.Places.{at_has}
 use Rattle.sd_num.proofs.Shared.{first_none}
 use Rattle.sd_plan.specs.topo.Network.{Network, least_low}
-use Rattle.sd_plan.specs.domain.Domains.{holds_device, hits}
+use Rattle.sd_plan.specs.domain.Domains.{holds_device}
 use Rattle.sd_plan.specs.declared.domain.DomainId.TheVariants as domain
 use Rattle.sd_plan.specs.declared.topo.Thing.{Thing}
-use Rattle.sd_plan.specs.declared.topo.Thing.TheVariants as thing
 use Rattle.sd_plan.specs.declared.Absent.{Absent}
-use Rattle.sd_plan.specs.declared.Hop.{Hop}
 use Rattle.sd_plan.specs.declared.Plan.{Plan}
-use Rattle.sd_plan.specs.Plans.{is_member, is_root, primary_of}
+use Rattle.sd_plan.specs.Plans.{is_member, is_root}
 use Rattle.sd_plan.specs.Structure.{roots_breach, structure_breach}
-use Rattle.sd_plan.specs.Walks.{hops, path, walk}
-use Rattle.sd_plan.proofs.Forest.{IsForest, IsStep, climb, forest_of, height, most_hops}
+use Rattle.sd_plan.specs.Walks.{hops}
+use Rattle.sd_plan.proofs.Forest.{IsForest, climb, forest_of, height, most_hops}
 use Rattle.sd_plan.proofs.Rules.{none_mapped}
 use Rattle.sd_planner.proofs.Walks.{joins_swap}
-use Rattle.sd_checker.specs.Verdicts.{IsAccepted}
-use Rattle.sd_checker.specs.check_root.Roots.{fallback_breach, root_breach}
-use Rattle.sd_checker.specs.check_root.Timing.{inequalities, is_broken}
 use Rattle.sd_checker.specs.declared.check_root.TimingBreach.{TimingBreach}
 use Rattle.sd_checker.proofs.DomainOrder.{listed_at}
 use Rattle.sd_why.specs.Kinds.{Holds, IsApart, IsRushed, IsTooDeep, Kind, round_trip, shares_all}
 use Rattle.sd_why.specs.Kinds as kind
-use Rattle.sd_why.specs.Plans.{HasNoPlan, HasNoPlanOfCandidates, IsOfCandidates, IsWhole}
-use Rattle.sd_why.specs.Ways.{NextTo, Way}
+use Rattle.sd_why.specs.Plans.{HasNoPlan, HasNoPlanOfCandidates, IsWhole}
+use Rattle.sd_why.specs.Ways.{Way}
 use Rattle.sd_why.proofs.Joining.{way_back, way_on, ways_join}
 
 -- a way of no link, to the device itself

@@ -1,5 +1,5 @@
 -- The neighbours of a device, where nothing is absent, are those that a link joins to it.
-use Rattle.std.proofs.Common.{◌≡◌, ℕ, zero, suc, ◌<◌, Bool, true, ◌&&◌, ◌||◌, List, [], ◌∷◌, ◌++◌, length, map, flat_map, nat_eq, Some, refl, sym, ap, ◌∙◌, subst, arith, inl, inr, slice_get}
+use Rattle.std.proofs.Common.{◌≡◌, ℕ, zero, suc, ◌<◌, Bool, true, ◌&&◌, List, [], ◌∷◌, ◌++◌, length, map, flat_map, nat_eq, Some, refl, ap, ◌∙◌, subst, arith, inl, inr, slice_get}
 use Rattle.std.specs.List.{list_any}
 use Rattle.std.proofs.lemmas.Grind.{flat_map-append}
 use Rattle.std.proofs.lemmas.List.{append-nil}
@@ -7,7 +7,7 @@ use Rattle.std.proofs.lemmas.List.Folds.{list_any-append}
 use Rattle.std.proofs.lemmas.Bool.{and_from, or_cases, or_left, or_right, eq-eqb, eqb-true, cases_lt}
 use Rattle.sd_num.specs.Lists.{below, has}
 use Rattle.sd_num.proofs.Places.{has_below, kept_from}
-use Rattle.sd_plan.specs.topo.Network.{Network, device_numbers, joins, link_numbers}
+use Rattle.sd_plan.specs.topo.Network.{Network, joins, link_numbers}
 use Rattle.sd_plan.specs.Plans.{nothing_absent}
 use Rattle.sd_plan.specs.declared.Absent.{Absent}
 use Rattle.sd_planner.specs.Usable.{is_usable, links_between, neighbours_of}

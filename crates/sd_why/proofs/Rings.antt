@@ -1,14 +1,14 @@
 -- Rings of devices that are as far away as each other: how one follows another, and that in the end all is known.
-use Rattle.std.proofs.Common.{◌≡◌, ℕ, zero, suc, ◌+◌, ◌<◌, ◌≤◌, ◌⊎◌, ◌||◌, inl, inr, nat_eq, true, false, List, [], ◌∷◌, ◌++◌, length, filter, get_or, set, replicate, Option, None, Some, is_none, refl, sym, ap, ◌∙◌, subst, arith, slice_get, length-append}
+use Rattle.std.proofs.Common.{◌≡◌, ℕ, zero, suc, ◌+◌, ◌<◌, ◌≤◌, ◌⊎◌, ◌||◌, inl, inr, nat_eq, true, false, List, [], ◌∷◌, ◌++◌, length, get_or, set, replicate, Option, None, Some, refl, sym, ap, ◌∙◌, subst, arith, slice_get, length-append}
 use Rattle.std.proofs.lemmas.Bool.{cases_eq, cases_lt, eq-eqb, eqb-true, or_cases, or_left}
 use Rattle.std.proofs.lemmas.List.{get_or-replicate}
 use Rattle.std.proofs.lemmas.Option.{same_Some, slice_get-get_or, slice_get_within}
 use Rattle.std.proofs.Math.ListN.{length-set, length-replicate}
 use Rattle.sd_num.specs.Lists.{has}
-use Rattle.sd_num.proofs.Places.{has_before, has_cases, has_last, at_written, at_unwritten}
+use Rattle.sd_num.proofs.Places.{at_has, has_before, has_cases, has_last, at_written, at_unwritten}
 use Rattle.sd_plan.specs.topo.Network.{Network}
 use Rattle.sd_plan.specs.topo.Limits.{IsNetwork}
-use Rattle.sd_why.specs.Ways.{AreDistances, IsDistance, IsFar, IsUnreached, NextTo, Way}
+use Rattle.sd_why.specs.Ways.{AreDistances, IsDistance, IsFar, NextTo, Way}
 use Rattle.sd_why.specs.Rings.{AreRings, IsMeeting, IsMet, IsNext, Spreads, unknown_count}
 use Rattle.sd_why.proofs.Joining.{next_within, turned, way_here, way_last, way_on, no_way}
 
@@ -70,10 +70,11 @@ module _ (net : Network) (ring : List ℕ) (hops : ℕ) where
           → (slice_get old x ≡ Some (Some k)) ⊎ ((k ≡ hops) × (has (next ++ e ∷ []) x ≡ true))
       added x k is = elim (cases_eq x e) [
         | inl same ↦
-            inr
-            ( same_hops (set known e (Some hops)) x k hops is (subst (λ y. slice_get (set known e (Some hops)) y ≡ Some (Some hops)) (sym same)
-            (at_written known e (Some hops) within))
-            , subst (λ y. has (next ++ e ∷ []) y ≡ true) (sym same) (has_last next e))
+            inr (
+              same_hops (set known e (Some hops)) x k hops is (subst (λ y. slice_get (set known e (Some hops)) y ≡ Some (Some hops)) (sym same)
+                  (at_written known e (Some hops) within)),
+              subst (λ y. has (next ++ e ∷ []) y ≡ true) (sym same) (has_last next e),
+            )
         | inr other ↦ more x k (so_far.added x k (sym (at_unwritten known e x (Some hops) other) ∙ is))
       ]
 
@@ -139,17 +140,13 @@ unknown_all : (n : ℕ) → unknown_count (replicate n None) ≡ n
 unknown_all zero = refl
 unknown_all (suc n) = ap suc (unknown_all n)
 
--- a list that has nothing is empty, one that is longer has something
+-- a list that is not empty has something
 has_first : (xs : List ℕ) → 1 ≤ length xs → (x : ℕ) × (has xs x ≡ true)
 has_first [] some = absurd (omega arith)
 has_first (x ∷ xs) some = (x, has_head)
   where
     has_head : has (x ∷ xs) x ≡ true
     has_head = ap (λ b. b || has xs x) (eq-eqb x x refl)
-
-long_ring : (xs : List ℕ) (x : ℕ) → has xs x ≡ true → 1 ≤ length xs
-long_ring [] x there = cc
-long_ring (y ∷ ys) x there = omega arith
 
 module _ (net : Network) (from : ℕ) where
   -- the ring of the device itself
@@ -189,12 +186,13 @@ module _ (net : Network) (from : ℕ) where
 
       right : (d k : ℕ) → slice_get known d ≡ Some (Some k) → IsDistance net from d k × (k ≤ 0)
       right d k is =
-          let (here, none) = only d k is in
-          ( record {
-            way = subst (λ n. Way net n from d) (sym none) (subst (λ x. Way net 0 from x) (sym here) (way_here net from));
-            least = λ m less. absurd (omega (arith, none));
-          }
-          , omega (arith, none))
+          let (here, none) = only d k is in (
+            record {
+              way = subst (λ n. Way net n from d) (sym none) (subst (λ x. Way net 0 from x) (sym here) (way_here net from));
+              least = λ m less. absurd (omega (arith, none));
+            },
+            omega (arith, none),
+          )
 
       closed : (d e k : ℕ) → slice_get known d ≡ Some (Some k) → k < 0 → NextTo net d e → IsMet known e
       closed d e k is less beside = absurd (omega arith)
@@ -256,11 +254,11 @@ module _ (net : Network) (from : ℕ) where
         closed : (d e k : ℕ) → slice_get new d ≡ Some (Some k) → k < hops + 1 → NextTo net d e → IsMet new e
         closed d e k is less beside = elim (spreads.added d k is) [
           | inl was ↦ (elim (cases_lt k hops) [
-              | inl nearer ↦ spreads_keeps net ring (hops + 1) known new next e spreads (rings.closed d e k was nearer beside)
-              | inr last ↦
-                  (let same : k ≡ hops = omega arith in
-                  met d e (rings.all d (subst (λ n. slice_get known d ≡ Some (Some n)) same was)) (next_within net law e d (turned net d e beside)) beside)
-            ])
+            | inl nearer ↦ spreads_keeps net ring (hops + 1) known new next e spreads (rings.closed d e k was nearer beside)
+            | inr last ↦
+                (let same : k ≡ hops = omega arith in
+                met d e (rings.all d (subst (λ n. slice_get known d ≡ Some (Some n)) same was)) (next_within net law e d (turned net d e beside)) beside)
+          ])
           | inr fresh ↦ absurd (omega (arith, fresh.0))
         ]
 
@@ -274,7 +272,8 @@ module _ (net : Network) (from : ℕ) where
         room some =
             let (d, there) = has_first next some in
             let is = spreads.listed d there in
-            let long : 1 ≤ length ring = long_ring ring is.from is.in_ring in
+            let (i, at) = at_has ring is.from is.in_ring in
+            let long : 1 ≤ length ring = omega (arith, slice_get_within ring i is.from at) in
             omega (arith, rings.room long, spreads.room, long)
 
   -- after as many rings as there are devices all is known
@@ -286,7 +285,10 @@ module _ (net : Network) (from : ℕ) where
       at d within = slice_get-get_or known d None (subst (λ n. d < n) (sym rings.size) within)
 
       no_ring : (d : ℕ) → has ring d ≡ true → ⊥
-      no_ring d there = let long = long_ring ring d there in omega (arith, rings.room long, done)
+      no_ring d there =
+          let (i, at) = at_has ring d there in
+          let long : 1 ≤ length ring = omega (arith, slice_get_within ring i d at) in
+          omega (arith, rings.room long, done)
 
       met : (n d : ℕ) → Way net n from d → IsMet known d
       met zero d way = record { hops = 0; at = subst (λ x. slice_get known x ≡ Some (Some 0)) (no_way net from d way) rings.start }

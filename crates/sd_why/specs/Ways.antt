@@ -1,5 +1,5 @@
 -- Ways over links from one device to another, and how far apart two devices are.
-use Rattle.std.specs.Prelude.{◌≡◌, ℕ, zero, suc, ◌<◌, ◌≤◌, List, length, slice_index_or, Option, None, Some, IsTrue}
+use Rattle.std.specs.Prelude.{◌≡◌, ℕ, zero, suc, ◌<◌, List, length, slice_index_or, Option, None, Some, IsTrue}
 use Rattle.sd_plan.specs.topo.Network.{Network, joins}
 
 -- a link joins the two

@@ -74,11 +74,7 @@ fn reason_text(alloc: Global, topo: &Topology, reason: Reason) -> Result<String,
 }
 
 /// The line of the first reason, or that no reason is known.
-pub fn why_text(
-    alloc: Global,
-    topo: &Topology,
-    why: Option<Reason>,
-) -> Result<String, AllocError>
+pub fn why_text(alloc: Global, topo: &Topology, why: Option<Reason>) -> Result<String, AllocError>
     ensures { IfOk result (λ line. string_bytes line ≡ text.why_text (network topo.now) why) }
 {
     match why {

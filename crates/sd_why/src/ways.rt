@@ -11,12 +11,7 @@ use sd_planner::Present;
 use std::alloc::Global;
 
 /// Notes a device as this far away and of the next ring, if nothing was known of it.
-fn meet(
-    known: &mut [Option<u32>],
-    next: &mut Vec<u32>,
-    e: u32,
-    hops: u32,
-) -> Result<(), NoMemory>
+fn meet(known: &mut [Option<u32>], next: &mut Vec<u32>, e: u32, hops: u32) -> Result<(), NoMemory>
     requires { e < length known.old }
     ensures { OnOk result
         (IsMeeting known.old known.new next.old.items next.new.items e hops) }
@@ -105,11 +100,7 @@ fn ring_of(alloc: Global, d: u32) -> Result<Vec<u32>, NoMemory>
 
 /// How far each device is from one of them, in links; None where no links lead to it. It takes the
 /// time of devices and links together.
-pub fn distances(
-    alloc: Global,
-    present: &Present,
-    from: u32,
-) -> Result<Vec<Option<u32>>, NoMemory>
+pub fn distances(alloc: Global, present: &Present, from: u32) -> Result<Vec<Option<u32>>, NoMemory>
     requires whole { left_out present.now ≡ nothing_absent }
     requires device { from < length (net_of present.now).devices }
     ensures { IfOk result (λ known. AreDistances (net_of present.now) from known.items) }

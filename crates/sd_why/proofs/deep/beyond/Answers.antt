@@ -1,4 +1,4 @@
-use Rattle.std.proofs.Common.{List, ℕ, ◌<◌, Option, sym, subst, ap, arith}
+use Rattle.std.proofs.Common.{List, ℕ, Option, sym, subst, ap, arith}
 use Rattle.sd_planner.specs.Views.{net_of}
 use Rattle.sd_why.specs.Ways.{AreDistances}
 use Rattle.sd_why.proofs.Judging.{none_beyond, one_beyond}

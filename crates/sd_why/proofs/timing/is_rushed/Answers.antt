@@ -1,4 +1,4 @@
-use Rattle.std.proofs.Common.{◌≡◌, ◌<◌, ◌≤◌, length, refl, ap, ◌∙◌, arith}
+use Rattle.std.proofs.Common.{◌≡◌, ◌<◌, length, refl, ap, ◌∙◌, arith}
 use Rattle.sd_num.specs.Numbers.{low}
 use Rattle.sd_plan.specs.topo.Network.{least_low, rates_of}
 use Rattle.sd_plan.specs.topo.Topologies.{network}
