@@ -4,12 +4,12 @@ _sundialctl() {
     local current=${COMP_WORDS[COMP_CWORD]} most=0
     COMPREPLY=()
     if [ "$COMP_CWORD" -eq 1 ]; then
-        mapfile -t COMPREPLY < <(compgen -W "search renew bounds resume record merge version" -- "$current")
+        mapfile -t COMPREPLY < <(compgen -W "search renew why bounds resume record merge version" -- "$current")
         return
     fi
     # how many files the command reads: numbers follow
     case ${COMP_WORDS[1]} in
-        search) most=1 ;;
+        search | why) most=1 ;;
         bounds) most=2 ;;
         renew) most=3 ;;
         # all of its words are files, but for the slash

@@ -28,7 +28,7 @@ WRONG: List[Union[str, Tuple[str, ...]]] = [
 CTL_WRONG: List[Union[str, Tuple[str, ...]]] = [
     (), "plan topology", "Search topology 1 1 1 0", "search topology 1 1 1", "search topology 1 1 1 0 0", "search topology 01 1 1 0", "search topology 1152921504606846977 1 1 0",
     "search topology 1 1 18446744073709551616 0", "search topology 1 1 1 1152921504606846977",
-    "renew topology plan 1 1 1 0", "renew topology plan absent 1 1 1", "bounds topology plan 1", "bounds topology plan 1 1 1",
+    "renew topology plan 1 1 1 0", "renew topology plan absent 1 1 1", "why", "why topology plan", "Why topology", "bounds topology plan 1", "bounds topology plan 1 1 1",
     "bounds topology plan 1 1152921504606846977", "bounds topology plan 1152921504606846977 0", "version 1", "Version", "merge", "merge 2", "merge 0 feed", "merge 02 feed",
     "merge 4097 feed", "merge 2 feed feed", "record topology " + "plan " * 65 + "log", "record", "record topology", "record topology log", "resume", "resume topology plan schedule opening",
     "resume topology schedule / opening", "resume topology plan schedule / opening",

@@ -20,7 +20,7 @@ use Rattle.sd_files.specs.work.Ending.{LeavesAt}
 use Rattle.sd_files.specs.work.Leaving.{Leaves}
 use Rattle.sd_ctl_top.specs.Promise.{IsUsageLine, IsVersionLine, MeetsOutcome, MeetsResult, task_of}
 use Rattle.sd_ctl_top.specs.Words.{Command, command_of}
-use Rattle.sd_ctl_top.specs.Words.Command.{Search, Renew, Bounds, Resume, Record, Merge, Version}
+use Rattle.sd_ctl_top.specs.Words.Command.{Search, Renew, Why, Bounds, Resume, Record, Merge, Version}
 
 -- the command of the words meets its task
 pub meets : (held : Option (List ℕ → Option (List ℕ))) (words : List (List ℕ)) (command : Option Command) (old new : Option Pieces)
@@ -66,6 +66,9 @@ never_stopped (Some (Search topology settings)) Memory among = cc
 never_stopped (Some (Renew topology plan absent settings)) ShelfFault among = cc
 never_stopped (Some (Renew topology plan absent settings)) SinkFault among = cc
 never_stopped (Some (Renew topology plan absent settings)) Memory among = cc
+never_stopped (Some (Why topology)) ShelfFault among = cc
+never_stopped (Some (Why topology)) SinkFault among = cc
+never_stopped (Some (Why topology)) Memory among = cc
 never_stopped (Some (Bounds topology plan budget)) ShelfFault among = cc
 never_stopped (Some (Bounds topology plan budget)) SinkFault among = cc
 never_stopped (Some (Bounds topology plan budget)) Memory among = cc

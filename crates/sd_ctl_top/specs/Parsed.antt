@@ -2,7 +2,7 @@
 use Rattle.std.specs.Prelude.{◌<◌, ◌≤◌, length, map, string_bytes}
 use Rattle.sd_drill.specs.Budgets.{IsBudget}
 use Rattle.sd_ctl_top.specs.Words.{Command}
-use Rattle.sd_ctl_top.specs.Words.Command.{Search, Renew, Bounds, Resume, Record, Merge, Version}
+use Rattle.sd_ctl_top.specs.Words.Command.{Search, Renew, Why, Bounds, Resume, Record, Merge, Version}
 use Rattle.sd_ctl_top.specs.declared.words.Command.{Command as Parsed}
 use Rattle.sd_ctl_top.specs.declared.words.Command.TheVariants as parsed
 
@@ -10,6 +10,7 @@ use Rattle.sd_ctl_top.specs.declared.words.Command.TheVariants as parsed
 abbrev pub named : Parsed → Command
 named (parsed.Search topology settings) = Search topology.now settings
 named (parsed.Renew topology plan absent settings) = Renew topology.now plan.now absent.now settings
+named (parsed.Why topology) = Why topology.now
 named (parsed.Bounds topology plan budget) = Bounds topology.now plan.now budget
 named (parsed.Resume files) = Resume files.topology.now (map string_bytes files.plans.now) files.left files.schedule.now files.opening.now
 named (parsed.Record files) = Record files.topology.now (map string_bytes files.plans.now) files.log.now
@@ -20,6 +21,7 @@ named parsed.Version = Version
 abbrev pub IsGranted : Parsed → Type 0
 IsGranted (parsed.Search topology settings) = IsBudget settings.budget
 IsGranted (parsed.Renew topology plan absent settings) = IsBudget settings.budget
+IsGranted (parsed.Why topology) = Unit {0}
 IsGranted (parsed.Bounds topology plan budget) = IsBudget budget
 IsGranted (parsed.Resume files) = (length files.plans.now ≤ 64) × (files.left < length files.plans.now)
 IsGranted (parsed.Record files) = (1 ≤ length files.plans.now) × (length files.plans.now ≤ 64)

@@ -14,14 +14,15 @@ use Rattle.sd_record.specs.Recordings.{IsRecording}
 use Rattle.sd_resume.specs.command.Resumes.{IsResuming}
 use Rattle.sd_ctl_top.specs.Bounded.{IsBounding}
 use Rattle.sd_ctl_top.specs.Findings.{IsRenewing, IsSearch}
+use Rattle.sd_ctl_top.specs.Reasons.{IsReasoning}
 use Rattle.sd_ctl_top.specs.Words.{Command, command_of}
-use Rattle.sd_ctl_top.specs.Words.Command.{Search, Renew, Bounds, Resume, Record, Merge, Version}
+use Rattle.sd_ctl_top.specs.Words.Command.{Search, Renew, Why, Bounds, Resume, Record, Merge, Version}
 
 -- the usage line, with its status
 abbrev pub IsUsageLine : Allowed
 IsUsageLine bytes status =
     (bytes
-    ≡ codes "usage: sundialctl search TOPOLOGY BASE HOLD SEED STEPS | renew TOPOLOGY PLAN ABSENT BASE HOLD SEED STEPS | bounds TOPOLOGY PLAN BASE HOLD | resume TOPOLOGY PLAN.. SCHEDULE / PLAN.. OPENING | record TOPOLOGY PLAN.. LOG | merge LOGS FEED | version\n")
+    ≡ codes "usage: sundialctl search TOPOLOGY BASE HOLD SEED STEPS | renew TOPOLOGY PLAN ABSENT BASE HOLD SEED STEPS | why TOPOLOGY | bounds TOPOLOGY PLAN BASE HOLD | resume TOPOLOGY PLAN.. SCHEDULE / PLAN.. OPENING | record TOPOLOGY PLAN.. LOG | merge LOGS FEED | version\n")
     × (status ≡ Usage)
 
 -- the version of both programs
@@ -51,6 +52,7 @@ task_of None = once (Usage ∷ []) (λ texts. IsUsageLine)
 task_of (Some (Search topology settings)) = once (Done ∷ PlanRefused ∷ InputRefused ∷ []) (λ texts. IsSearch (texts topology))
 task_of (Some (Renew topology plan absent settings)) =
     once (Done ∷ PlanRefused ∷ InputRefused ∷ []) (λ texts. IsRenewing (texts topology) (texts plan) (texts absent))
+task_of (Some (Why topology)) = once (Done ∷ PlanRefused ∷ InputRefused ∷ []) (λ texts. IsReasoning (texts topology))
 task_of (Some (Bounds topology plan budget)) =
     step_by_step (Done ∷ PlanRefused ∷ InputRefused ∷ []) (λ texts. IsBounding (texts topology) (texts plan) budget)
 task_of (Some (Resume topology plans left schedule opening)) =

@@ -12,6 +12,7 @@ use Rattle.sd_record.specs.merge.Feeds.{from_one}
 pub data Command : Type 0 where
   Search : (topology : List ℕ) (settings : Settings) → Command
   Renew : (topology plan absent : List ℕ) (settings : Settings) → Command
+  Why : (topology : List ℕ) → Command
   Bounds : (topology plan : List ℕ) (budget : Budget) → Command
   Resume : (topology : List ℕ) (plans : List (List ℕ)) (left : ℕ) (schedule opening : List ℕ) → Command
   Record : (topology : List ℕ) (plans : List (List ℕ)) (log : List ℕ) → Command
@@ -73,6 +74,11 @@ renewal_over topology (plan ∷ others) = renewal_without topology plan others
 abbrev pub renewal_of : List (List ℕ) → Option Command
 renewal_of [] = None
 renewal_of (topology ∷ others) = renewal_over topology others
+
+-- the reason over a topology, where no word follows
+abbrev pub why_of : List (List ℕ) → Option Command
+why_of (topology ∷ []) = Some (Why topology)
+why_of _ = None
 
 -- the bounds of a plan over a topology, with the budget of the words
 abbrev pub bounds_over : List ℕ → List (List ℕ) → Option Command
@@ -154,6 +160,7 @@ command_of [] = None
 command_of (word ∷ others) =
     if bytes_eq word (codes "search") then search_of others
     else if bytes_eq word (codes "renew") then renewal_of others
+    else if bytes_eq word (codes "why") then why_of others
     else if bytes_eq word (codes "bounds") then bounds_of others
     else if bytes_eq word (codes "resume") then resume_of others
     else if bytes_eq word (codes "record") then record_of others
@@ -166,6 +173,7 @@ abbrev pub names_of : Option Command → List (List ℕ)
 names_of None = []
 names_of (Some (Search topology settings)) = topology ∷ []
 names_of (Some (Renew topology plan absent settings)) = topology ∷ plan ∷ absent ∷ []
+names_of (Some (Why topology)) = topology ∷ []
 names_of (Some (Bounds topology plan budget)) = topology ∷ plan ∷ []
 names_of (Some (Resume topology plans left schedule opening)) = topology ∷ (plans ++ schedule ∷ opening ∷ [])
 names_of (Some (Record topology plans log)) = topology ∷ (plans ++ log ∷ [])

@@ -4,6 +4,7 @@
 
 pub mod bounding;
 mod finding;
+mod reasons;
 mod renewal;
 mod top;
 mod whole;

@@ -7,10 +7,12 @@ ghost use Rattle.sd_files.specs.Writes.{WritesOnce};
 ghost use Rattle.sd_record.specs.merge.Laws.{FeedIsMerged};
 ghost use Rattle.sd_record.specs.Lawful.{LogIsRecorded};
 ghost use Rattle.sd_ctl_top.specs.Promise.{IsUsageLine, IsVersionLine, MeetsOutcome, MeetsResult, task_of};
+ghost use Rattle.sd_ctl_top.specs.Reasons.{ReasonsAreRight};
 ghost use Rattle.sd_ctl_top.specs.Words as meaning;
 ghost use Rattle.sd_ctl_top.specs.Words.{names_of};
 
 use crate::bounding::{BoundsLines, print_texts};
+use crate::reasons::reason_answer;
 use crate::renewal::{RenewalFiles, renewal_answer};
 use crate::whole::whole_answer;
 use crate::words::{Command, command_of};
@@ -55,6 +57,10 @@ pub fn run<S: Shelf, O: Sink>(alloc: Global, words: &[String], shelf: &mut S, ou
     ensures complete { (Rose (S.faults shelf.old) (S.faults shelf.new) → ⊥)
         → (Rose (O.faults out.old) (O.faults out.new) → ⊥)
         → (stop_of result ≡ None) ⊎ (result ≡ Status.Memory) }
+
+    // Of a reason that is printed: where it holds, the checker accepts no plan that has all of the
+    // topology and whose root and backup root are candidates.
+    ensures impossible { ReasonsAreRight }
 
     // Of the schedule that a recording writes: each line of a log that is accepted is recorded by
     // its event, after losses alone, and each event is accepted after those before it.
@@ -110,6 +116,10 @@ fn perform<S: Shelf, O: Sink>(
             let made = renewal_answer(alloc, shelf, files, settings);
             write_answer(alloc, &made, out)
         }
+        Some(Command::Why { topology }) => {
+            let made = reason_answer(alloc, shelf, topology);
+            write_answer(alloc, &made, out)
+        }
         Some(
             Command::Bounds {
                 topology,
@@ -159,7 +169,7 @@ fn usage<O: Sink>(out: &mut O) -> Result<Status, IoError>
 {
     write_line(
         out,
-        b"usage: sundialctl search TOPOLOGY BASE HOLD SEED STEPS | renew TOPOLOGY PLAN ABSENT BASE HOLD SEED STEPS | bounds TOPOLOGY PLAN BASE HOLD | resume TOPOLOGY PLAN.. SCHEDULE / PLAN.. OPENING | record TOPOLOGY PLAN.. LOG | merge LOGS FEED | version\n",
+        b"usage: sundialctl search TOPOLOGY BASE HOLD SEED STEPS | renew TOPOLOGY PLAN ABSENT BASE HOLD SEED STEPS | why TOPOLOGY | bounds TOPOLOGY PLAN BASE HOLD | resume TOPOLOGY PLAN.. SCHEDULE / PLAN.. OPENING | record TOPOLOGY PLAN.. LOG | merge LOGS FEED | version\n",
         Status::Usage,
     )
 }

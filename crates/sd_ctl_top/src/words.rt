@@ -24,6 +24,9 @@ pub(crate) enum Command<'w> {
         absent: &'w str,
         settings: Settings,
     },
+    Why {
+        topology: &'w str,
+    },
     Bounds {
         topology: &'w str,
         plan: &'w str,
@@ -169,6 +172,19 @@ fn renewal_of(words: &[String]) -> Option<Command<'_>>
         return None;
     };
     renewal_over(topology.as_str(), others)
+}
+
+/// The reason over a topology, if no word follows.
+fn why_of(words: &[String]) -> Option<Command<'_>>
+    ensures is { option_map named result ≡ meaning.why_of (map string_bytes words.now) }
+    ensures granted { IfSome result IsGranted }
+{
+    match words {
+        [topology] => Some(Command::Why {
+            topology: topology.as_str(),
+        }),
+        _ => None,
+    }
 }
 
 /// The bounds over a topology, of the words for its plan and its budget.
@@ -436,6 +452,8 @@ pub(crate) fn command_of(words: &[String]) -> Option<Command<'_>>
         search_of(others)
     } else if word.as_str() == "renew" {
         renewal_of(others)
+    } else if word.as_str() == "why" {
+        why_of(others)
     } else if word.as_str() == "bounds" {
         bounds_of(others)
     } else if word.as_str() == "resume" {

@@ -4,8 +4,9 @@ use Rattle.sd_files.proofs.Keeping.{keeps_for}
 use Rattle.sd_resume.specs.command.Resumes.{IsResuming}
 use Rattle.sd_ctl_top.specs.Findings.{IsRenewing, IsSearch}
 use Rattle.sd_ctl_top.specs.Parsed.{named}
+use Rattle.sd_ctl_top.specs.Reasons.{IsReasoning}
 use Rattle.sd_ctl_top.specs.Words.{command_of, names_of}
-use Rattle.sd_ctl_top.specs.Words.Command.{Search, Renew, Bounds, Resume, Record, Merge, Version}
+use Rattle.sd_ctl_top.specs.Words.Command.{Search, Renew, Why, Bounds, Resume, Record, Merge, Version}
 use Rattle.sd_ctl_top.specs.declared.words.Command.{Command as Parsed}
 use Rattle.sd_ctl_top.proofs.Meeting.{made_once, meets, usage_meets, version_meets}
 use Rattle.sd_ctl_top.proofs.Served.{end_served, first_served, inner_served, last_served, middle_served, name_served, second_served, third_served}
@@ -57,6 +58,26 @@ returns-in-Some-Renew-clause-outcome g c =
 pub returns-in-Some-Renew-clause-shelf : goal.returns-in-Some-Renew-clause-shelf
 returns-in-Some-Renew-clause-shelf g c =
     keeps_for g.S.Shelf _ _ _ _ c.write_answer-in-Some-Renew.ensures.shelf.1 c.write_answer-in-Some-Renew.ensures.shelf.0 c.renewal_answer-made.ensures.shelf
+
+pub reason_answer-made-requires : goal.reason_answer-made-requires
+reason_answer-made-requires g c =
+    record {
+      topology =
+          first_served (λ name. IsTrue (g.S.Shelf.serves c.args.shelf.now name)) (names_of (command_of (map string_bytes c.args.words.now)))
+          c.in-Some-Why.topology.now []
+          (ap names_of (ap (λ (x : Parsed). Some (named x)) (sym c.in-Some-Why.field-0-is) ∙ c.in-Some-Why.ensures.is)) c.requires;
+    }
+
+pub returns-in-Some-Why-clause-outcome : goal.returns-in-Some-Why-clause-outcome
+returns-in-Some-Why-clause-outcome g c =
+    meets _ _ (Some (Why c.in-Some-Why.topology.now)) _ _ _
+    (ap (λ (x : Parsed). Some (named x)) (sym c.in-Some-Why.field-0-is) ∙ c.in-Some-Why.ensures.is)
+    (made_once _ (λ texts. IsReasoning (texts c.in-Some-Why.topology.now)) c.reason_answer-made.result _ _ _ c.reason_answer-made.ensures.makes
+    c.write_answer-in-Some-Why.ensures.writes)
+
+pub returns-in-Some-Why-clause-shelf : goal.returns-in-Some-Why-clause-shelf
+returns-in-Some-Why-clause-shelf g c =
+    keeps_for g.S.Shelf _ _ _ _ c.write_answer-in-Some-Why.ensures.shelf.1 c.write_answer-in-Some-Why.ensures.shelf.0 c.reason_answer-made.ensures.shelf
 
 pub print_texts-requires-clause-topology : goal.print_texts-requires-clause-topology
 print_texts-requires-clause-topology g c =

@@ -4,6 +4,7 @@ use Rattle.sd_files.specs.declared.command_error.IoError.TheVariants as stop
 use Rattle.sd_record.proofs.merge.Laws.{feed_is_merged}
 use Rattle.sd_record.proofs.Lawful.{log_is_recorded}
 use Rattle.sd_ctl_top.specs.Words.{command_of}
+use Rattle.sd_ctl_top.proofs.Reasoned.{reasons_are_right}
 use Rattle.sd_ctl_top.proofs.Meeting.{ended_is, ended_rises, never_stopped, stopped_is, stopped_rises}
 use Rattle.sd_ctl_top.proofs.top.run.Goals as goal
 
@@ -30,6 +31,12 @@ returns-in-Err-clause-shelf g c = stopped_rises c.in-Err.stop stop.Shelf c.statu
 
 pub returns-in-Err-clause-sink : goal.returns-in-Err-clause-sink
 returns-in-Err-clause-sink g c = stopped_rises c.in-Err.stop stop.Sink c.status.result _ _ c.status.ensures c.in-Err.ensures.sink
+
+pub returns-in-Ok-clause-impossible : goal.returns-in-Ok-clause-impossible
+returns-in-Ok-clause-impossible g c = reasons_are_right
+
+pub returns-in-Err-clause-impossible : goal.returns-in-Err-clause-impossible
+returns-in-Err-clause-impossible g c = reasons_are_right
 
 pub returns-in-Ok-clause-lawful : goal.returns-in-Ok-clause-lawful
 returns-in-Ok-clause-lawful g c = log_is_recorded

@@ -1,0 +1,11 @@
+use Rattle.sd_plan.specs.topo.Topologies.{network}
+use Rattle.sd_files.specs.Inputs.{topology_of}
+use Rattle.sd_files.proofs.Loading.{told_goes_on, told_always}
+use Rattle.sd_ctl_top.specs.Reasons.{IsReason}
+use Rattle.sd_ctl_top.proofs.reasons.reason_answer.Goals as goal
+
+pub returns-clause-makes : goal.returns-clause-makes
+returns-clause-makes g c =
+    told_goes_on network (λ texts. topology_of (texts c.args.topology.now)) (λ texts net. IsReason net) _ c.in_ok-topo.topo c.reason_over.result
+    c.in_ok-topo.ensures.says
+    (told_always _ c.reason_over.ensures.makes)

@@ -1,0 +1,6 @@
+pub mod Plans
+pub mod Ways
+pub mod Rings
+pub mod Kinds
+pub mod Reasons
+pub mod Text
