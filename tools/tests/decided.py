@@ -2,11 +2,13 @@
 
 A line has seven words: KIND DEVICES DEPTH ROOTS LINKS DOMAINS PAIRS. A device is a letter, a link two of them. A domain is
 its devices, `:` and the numbers of its links with `.` between; domains are separated by `/`. PAIRS is `none`, `all`, or
-hexadecimal: one bit for each ordered pair of candidates, the first pair the highest. A list with nothing is `-`.
+hexadecimal: one bit for each ordered pair of candidates, the first pair the highest; or `first:` and the first pair that has a plan, where
+the others were not decided. A list with nothing is `-`.
 """
 
 from __future__ import annotations
 
+import functools
 import itertools
 import string
 from typing import FrozenSet, Iterable, Iterator, List, NamedTuple, Tuple
@@ -18,7 +20,7 @@ from sundial_tools.topology import Bounds, Device, Domain, Link, Topology
 
 LETTERS = string.ascii_lowercase + string.ascii_uppercase
 PERIOD, TICK, DELAYS = 100_000_000, 10_000_000, Bounds(100, 1000)
-NOTHING = "-"
+NOTHING, FIRST = "-", "first:"
 Pair = Tuple[int, int]
 
 
@@ -57,11 +59,7 @@ class Network(NamedTuple):
 
     def hops(self) -> List[List[Hop]]:
         """For each device its hops."""
-        found: List[List[Hop]] = [[] for _ in self.devices]
-        for link, (one, other) in enumerate(self.ends):
-            found[one].append(Hop(other, link))
-            found[other].append(Hop(one, link))
-        return found
+        return _hops(self.count, self.ends)
 
     def topology(self) -> Topology:
         """The devices are d0 and so on, the links l0 and the domains f0."""
@@ -74,17 +72,28 @@ class Network(NamedTuple):
         return Topology(2, 200, 1000, self.period, TICK, 1, self.depth, devices, links, domains, self.roots, *numbers)
 
 
+@functools.lru_cache(maxsize=2)
+def _hops(count: int, ends: Tuple[Pair, ...]) -> List[List[Hop]]:
+    found: List[List[Hop]] = [[] for _ in range(count)]
+    for link, (one, other) in enumerate(ends):
+        found[one].append(Hop(other, link))
+        found[other].append(Hop(one, link))
+    return found
+
+
 class Decided(NamedTuple):
-    """A network, and the pairs that have a plan."""
+    """A network, and the pairs that have a plan: all of them, or only the first."""
 
     kind: str
     network: Network
     planned: FrozenSet[Pair]
+    is_all: bool = True
 
     def line(self) -> str:
         net = self.network
         bits = "".join("01"[pair in self.planned] for pair in net.pairs)
         pairs = {0: "none", len(net.pairs): "all"}.get(len(self.planned), f"{int(bits or '0', 2):x}")
+        pairs = pairs if self.is_all or not self.planned else FIRST + _letters(min(self.planned))
         groups = "/".join(f"{_letters(sorted(it.devices))}:{'.'.join(map(str, sorted(it.links)))}" for it in net.groups)
         links = "".join(_letters(ends) for ends in net.ends)
         return " ".join([self.kind, str(net.count), str(net.depth), _letters(net.roots), links or NOTHING, groups or NOTHING, pairs])
@@ -104,6 +113,9 @@ def parsed(line: str) -> Decided:
     net = Network(
         int(count), int(depth), tuple(map(LETTERS.index, roots)), tuple(zip(numbers[::2], numbers[1::2])), tuple(listed)
     )
+    if pairs.startswith(FIRST):
+        one, other = pairs[len(FIRST):]
+        return Decided(kind, net, frozenset([(LETTERS.index(one), LETTERS.index(other))]), False)
     width = len(net.pairs)
     bits = {"none": "0" * width, "all": "1" * width}.get(pairs) or f"{int(pairs, 16):0{width}b}"
     return Decided(kind, net, frozenset(pair for pair, bit in zip(net.pairs, bits) if bit == "1"))

@@ -199,15 +199,25 @@ class _Decider:
                 device = hop.parent
         return hit
 
-    def _loops(self, rows: Rows, group: Group) -> Iterator[List[Arrow]]:
-        """Loops of arrows under a domain, one from each device that is on one."""
+    def _arrows(self, rows: Rows, group: Group) -> Dict[int, List[Arrow]]:
+        """The arrows under a domain, of the devices from which one can follow them without end."""
         hit = self._hit_set(rows, group)
         arrows: Dict[int, List[Arrow]] = {}
         for device in self._ordinary:
             arrows[device], backup = [(PRIMARY, device, rows[device].primary)], rows[device].backup
             if device in hit and backup:
                 arrows[device].append((BACKUP, device, backup))
-        for start in self._ordinary:
+        ending = list(arrows)
+        while ending:
+            ending = [device for device, some in arrows.items() if not any(hop.parent in arrows for _, _, hop in some)]
+            for device in ending:
+                del arrows[device]
+        return arrows
+
+    def _loops(self, rows: Rows, group: Group) -> Iterator[List[Arrow]]:
+        """Loops of arrows under a domain: of each device that is on one a shortest, unless it has a lower device."""
+        arrows = self._arrows(rows, group)
+        for start in arrows:
             before: Dict[int, Arrow] = {}
             waiting = [start]
             while waiting and start not in before:

@@ -135,8 +135,8 @@ def grid(random: Random, count: int) -> Draft:
 
 
 def torus(random: Random, count: int) -> Draft:
-    wide = random.choice([3, 4, 5])
-    high = max(3, count // wide)
+    wide = random.choice([3, 4])
+    high = max(3, count // 2 // wide)
     draft = Draft(random, wide * high)
     for device in range(draft.count):
         row, column = divmod(device, wide)
@@ -240,4 +240,4 @@ def middling(seeds: range) -> Iterator[Drawn]:
 
 
 def all_drawn() -> Iterator[Drawn]:
-    return itertools.chain(graphs(), small_rings(), small(range(600)), middling(range(320)))
+    return itertools.chain(middling(range(240)), small(range(600)), small_rings(), graphs())

@@ -1,4 +1,4 @@
-"""Why a network has no plan: each kind of reason by a plain slow reading of its definition (docs/TROUBLESHOOTING.md, No plan).
+"""Why a network has no plan: each kind of reason by a plain slow reading of its definition (docs/TROUBLESHOOTING.md, impossible).
 
 A kind is a question about the topology alone. Where it holds, `sundialctl why` prints `impossible` and these words.
 """
@@ -40,8 +40,10 @@ def blocks(net: Network) -> List[Set[int]]:
     """The links in classes: those of one class are on one side of each device."""
     sides: List[List[int]] = [[] for _ in net.ends]
     for lost in net.devices:
-        rest = Group(frozenset([lost]), frozenset())
-        side = {it: min(steps_from(net, it, rest)) for it in net.devices if it != lost}
+        side: Dict[int, int] = {}
+        for first in net.devices:
+            if first != lost and first not in side:
+                side.update(dict.fromkeys(steps_from(net, first, Group(frozenset([lost]), frozenset())), first))
         for link, (one, other) in enumerate(net.ends):
             sides[link].append(side[other if one == lost else one])
     classes: Dict[Tuple[int, ...], Set[int]] = {}
