@@ -20,7 +20,7 @@ from sundial_tools.topology import Bounds, Device, Domain, Link, Topology
 
 LETTERS = string.ascii_lowercase + string.ascii_uppercase
 PERIOD, TICK, DELAYS = 100_000_000, 10_000_000, Bounds(100, 1000)
-NOTHING, FIRST = "-", "first:"
+NOTHING, NONE, ALL, FIRST = "-", "none", "all", "first:"
 Pair = Tuple[int, int]
 
 
@@ -89,11 +89,21 @@ class Decided(NamedTuple):
     planned: FrozenSet[Pair]
     is_all: bool = True
 
+    @property
+    def pairs(self) -> List[Pair]:
+        """The pairs that were decided."""
+        pairs = self.network.pairs
+        return pairs if self.is_all else pairs[: pairs.index(min(self.planned)) + 1]
+
     def line(self) -> str:
         net = self.network
         bits = "".join("01"[pair in self.planned] for pair in net.pairs)
-        pairs = {0: "none", len(net.pairs): "all"}.get(len(self.planned), f"{int(bits or '0', 2):x}")
-        pairs = pairs if self.is_all or not self.planned else FIRST + _letters(min(self.planned))
+        if not self.planned:
+            pairs = NONE
+        elif not self.is_all:
+            pairs = FIRST + _letters(min(self.planned))
+        else:
+            pairs = ALL if len(self.planned) == len(net.pairs) else f"{int(bits, 2):x}"
         groups = "/".join(f"{_letters(sorted(it.devices))}:{'.'.join(map(str, sorted(it.links)))}" for it in net.groups)
         links = "".join(_letters(ends) for ends in net.ends)
         return " ".join([self.kind, str(net.count), str(net.depth), _letters(net.roots), links or NOTHING, groups or NOTHING, pairs])
@@ -116,8 +126,8 @@ def parsed(line: str) -> Decided:
     if pairs.startswith(FIRST):
         one, other = pairs[len(FIRST):]
         return Decided(kind, net, frozenset([(LETTERS.index(one), LETTERS.index(other))]), False)
-    width = len(net.pairs)
-    bits = {"none": "0" * width, "all": "1" * width}.get(pairs) or f"{int(pairs, 16):0{width}b}"
+    number = {NONE: 0, ALL: 2 ** len(net.pairs) - 1}.get(pairs)
+    bits = f"{int(pairs, 16) if number is None else number:0{len(net.pairs)}b}"
     return Decided(kind, net, frozenset(pair for pair, bit in zip(net.pairs, bits) if bit == "1"))
 
 

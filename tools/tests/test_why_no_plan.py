@@ -22,7 +22,10 @@ from sundial_tools.topology import topology_text
 # The kinds that `sundialctl why` knows, in its order.
 SAID = ("candidates", "timing", "shared", "apart", "deep")
 # By kind of network: how many there are, how many of them have no plan, and how many of these a reason explains.
-COUNTS = {}
+COUNTS = {
+    "ring": (30, 30, 29), "tree": (30, 12, 7), "mesh": (30, 13, 0), "grid": (30, 27, 6), "torus": (30, 0, 0), "leaf-spine": (30, 0, 0),
+    "rings": (30, 30, 23), "tiers": (30, 7, 6), "small": (600, 240, 172), "chords": (40, 22, 20), "graph": (995, 119, 108),
+}
 RING = Network(5, 64, tuple(range(5)), ((0, 1), (1, 2), (2, 3), (3, 4), (0, 4)))
 
 
@@ -30,7 +33,7 @@ def has_why() -> bool:
     if not SEARCH.is_file():
         return False
     done = subprocess.run([SEARCH], stdout=subprocess.PIPE, text=True, check=False, timeout=LIMIT)
-    return "sundialctl why " in done.stdout
+    return "why TOPOLOGY" in done.stdout
 
 
 class PlainReasons(unittest.TestCase):
@@ -118,7 +121,7 @@ class Deciding(unittest.TestCase):
         """Of the smallest of the networks that are stored."""
         small = [it for it in decided() if it.network.count < 5 and len(it.network.ends) < 7]
         for it in small:
-            for pair in it.network.pairs:
+            for pair in it.pairs:
                 self.assertEqual(pair in it.planned, has_plan(it.network, pair), it.line())
         self.assertGreater(len(small), 20)
 
