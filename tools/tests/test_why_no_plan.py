@@ -26,6 +26,8 @@ COUNTS = {
     "ring": (30, 30, 29), "tree": (30, 12, 7), "mesh": (30, 13, 0), "grid": (30, 27, 6), "torus": (30, 0, 0), "leaf-spine": (30, 0, 0),
     "rings": (30, 30, 23), "tiers": (30, 7, 6), "small": (600, 240, 172), "chords": (40, 22, 20), "graph": (995, 119, 108),
 }
+# Of so many stored networks, and pairs, one is decided again.
+SOME = 5
 RING = Network(5, 64, tuple(range(5)), ((0, 1), (1, 2), (2, 3), (3, 4), (0, 4)))
 
 
@@ -101,6 +103,16 @@ class Deciding(unittest.TestCase):
             draft.chords(random.randint(0, 2 if draft.count < 5 else 1), True)
             net = draft.network(random.randint(1, 4), 2, random.randint(0, 2))
             self.agree(net, net.pairs[0])
+
+    def test_plans_of_stored_networks(self):
+        """Of some networks of five and six devices with domains: a plan that is found is accepted, and is found where one is known."""
+        some = [it for it in decided() if it.kind == "small" and it.network.count in (5, 6)][::SOME]
+        for it in some:
+            for pair in it.pairs[::SOME]:
+                plan = plan_of(it.network, pair)
+                self.assertEqual(plan is not None, pair in it.planned, it.line())
+                self.assertTrue(plan is None or Conditions(it.network.topology(), plan).breach() is None, it.line())
+        self.assertGreater(len(some), 40)
 
     @needs_sundial
     def test_the_program_judges_its_plans_alike(self):
