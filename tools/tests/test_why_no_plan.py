@@ -152,15 +152,14 @@ class Why(unittest.TestCase):
         file = path / "topology.toml"
         file.write_text(topology_text(net.topology()))
         done = subprocess.run([SEARCH, "why", file], stdout=subprocess.PIPE, text=True, check=False, timeout=LIMIT)
-        return done.stdout
+        return done.stdout, done.returncode
 
     def test_each_network(self):
         with directory() as path:
             for it in self.chosen():
-                out = self.why(path, it.network)
-                told = next((kind for kind in SAID if kind in reasons(it.network)), None)
+                told = next((kind for kind in reasons(it.network) if kind in SAID), None)
                 line = " ".join(map(str, ("impossible", told, *KINDS[told](it.network)))) if told else "open"
-                self.assertEqual(out, line + "\n", it.line())
+                self.assertEqual(self.why(path, it.network), (line + "\n", 1 if told else 0), it.line())
                 self.assertFalse(told and it.planned)
 
     def chosen(self):
