@@ -47,6 +47,17 @@ KINDS = {
     "input opening 3 Refused\n": {"kind": "input opening", "line": 3, "reason": "Refused"},
     "input log 3 UnknownMessage\n": {"kind": "input log", "line": 3, "reason": "UnknownMessage"},
     "input feed 3 Number 2\n": {"kind": "input feed", "line": 3, "reason": "Number 2"},
+    "impossible candidates 1\n": {"kind": "impossible candidates", "count": 1},
+    "impossible timing\n": {"kind": "impossible timing"},
+    "impossible shared feed-a\n": {"kind": "impossible shared", "listed": "feed-a"},
+    "impossible apart x\n": {"kind": "impossible apart", "device": "x"},
+    "impossible deep r x 5 3\n": {"kind": "impossible deep", "candidate": "r", "device": "x", "hops": 5, "depth": 3},
+    "impossible few 5 0 5 6\n": {"kind": "impossible few", "links": 5, "bridges": 0, "devices": 5, "needed": 6},
+    "impossible nocycle\n": {"kind": "impossible nocycle"},
+    "impossible blocks\n": {"kind": "impossible blocks"},
+    "impossible orphans\n": {"kind": "impossible orphans"},
+    "impossible orphans x y\n": {"kind": "impossible orphans", "devices": ["x", "y"]},
+    "open\n": {"kind": "open"},
     "usage: sundial solo SCHEDULE\n": {"kind": "usage", "text": "usage: sundial solo SCHEDULE"},
 }
 

@@ -108,6 +108,36 @@ class Why(unittest.TestCase):
         out = self.says("It takes the link leaf1-spine1 of its way", "refused plan 1 domain listed rack1 device leaf1\n", "t.toml", files=files)
         self.assertIn("the link leaf1-spine2 of its backup", out)
 
+    # No plan
+
+    def test_each_reason_why_there_is_no_plan(self):
+        text, _ = networks.made("mesh", "--devices", "7", "--links-each", "2", "--candidates", "2")
+        text += '[[domain]]\nname = "tray"\ndevices = ["node1", "node2"]\n'
+        for line, *parts in (
+            ("candidates 1", "`roots` has only node1 and node2", "Change: name a second device"),
+            ("shared tray", "tray has all devices of `roots`: node1 and node2.", "outside tray"),
+            ("apart node4", "No links lead from node1 to node4", "The part of node4: node1, node2, node3, node4, node5 and 2 more."),
+            ("deep node1 node4 3 2", "From node1 to node4 it takes 3 links.", "a `depth` of at least 3, with which all devices are near enough to node1"),
+            ("few 7 0 7 9", "The network has 7 links. A plan needs at least 9.", "Change: add 2 or more"),
+            ("few 9 2 9 9", "The network has 7 links besides 2 whose loss parts the network."),
+            ("nocycle", "No two candidates lie on one ring.", "Change: "),
+            ("blocks", "meet other parts at one device each", "Change: a link between two parts"),
+            ("orphans", "There are devices of which each has only neighbours with two links.", "Change: a third link"),
+            ("orphans node1 node5", "Of node1 and node5 each has only"),
+        ):
+            for part in parts:
+                self.says(part, f"impossible {line}\n", "t.toml", files={"t.toml": text})
+        self.says("try `sundialctl search` with more steps", "open\n", "t.toml", files={"t.toml": text})
+        self.unclear("no domain feed-a: it is not the topology", "impossible shared feed-a\n", "t.toml", files={"t.toml": text})
+        self.unclear("no device x: it is not the topology", "impossible orphans node1 x\n", "t.toml", files={"t.toml": text})
+
+    def test_a_period_that_is_too_short_for_any_plan(self):
+        text = (TRIANGLE / "topology.toml").read_text()
+        self.unclear("it is not the topology of this output", "impossible timing\n", "t.toml", files={"t.toml": text})
+        short = text.replace("period = 100000000", "period = 10000000")
+        self.assertNotEqual(short, text)
+        self.says("Change: a `period` of at least", "impossible timing\n", "t.toml", files={"t.toml": short})
+
     # Topologies and plans
 
     def topology(self, part, line, change):

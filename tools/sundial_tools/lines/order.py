@@ -9,7 +9,7 @@ from sundial_tools.outputs import OutputLine
 
 ALONE = (
     "accepted", "refused", "input topology", "input plan", "input absent", "input exchanges", "input opening", "input log", "input feed",
-    "case", "usage", "agree", "differ",
+    "case", "usage", "agree", "differ", "impossible", "open",
 )
 FAMILY_OF = {
     "report": "replay", "broken": "replay", "alarm": "replay", "begin": "replay", "ended": "replay", "disorder": "replay",

@@ -37,6 +37,10 @@ _COLUMNS: Dict[str, Tuple[str, ...]] = {
     "case": ("kind", "events", "reports", "eps", "broken", "alarms"),
     "agree": ("kind", "lines", "opening"),
     "differ": ("kind", "fact", "thing", "number", "name"),
+    "impossible": (
+        "kind", "count", "listed", "candidate", "device", "hops", "depth", "links", "bridges", "devices", "needed",
+    ),
+    "open": ("kind",),
     "usage": ("kind", "text"),
 }
 _COLUMNS["nobound"] = _COLUMNS["bound"]
@@ -47,7 +51,7 @@ def columns_of(kind: str, fields: Fields) -> Tuple[str, ...]:
     """The columns of a command, by its first line."""
     if kind == "done":
         return _COLUMNS["link"] if "links" in fields else _COLUMNS["bound"] if "members" in fields else _REPLAY
-    return _COLUMNS.get("bounds" if "calm" in fields else kind, _REPLAY)
+    return _COLUMNS.get("bounds" if "calm" in fields else kind.partition(" ")[0], _REPLAY)
 
 
 def json_row(text: TextIO, with_strings: bool) -> Callable[[str, Fields], None]:

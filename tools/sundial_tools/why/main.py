@@ -14,6 +14,7 @@ from sundial_tools.safe_write import FOLLOW, output_of
 from sundial_tools.topology import Topology, parse_topology
 from sundial_tools.why.broken import Replayed
 from sundial_tools.why.course import Course
+from sundial_tools.why.impossible import Impossible
 from sundial_tools.why.inputs import plan_reason, topology_reason
 from sundial_tools.why.logs import RefusedEntry
 from sundial_tools.why.planned import planned
@@ -89,10 +90,10 @@ class Why:
         """A thing that a line names, and that the topology does not have."""
         assert self.topology
         known = {"device": self.topology.device_numbers, "link": self.topology.link_numbers, "listed": {it.name for it in self.topology.domains}}
-        named = [("device", fields[key]) for key in ("device", "other") if key in fields]
-        named += [("device", name) for key in ("cycle", "chain") for name in fields.get(key, ())]
+        named = [("device", fields[key]) for key in ("device", "other", "candidate") if key in fields]
+        named += [("device", name) for key in ("cycle", "chain", "devices") if isinstance(fields.get(key), list) for name in fields[key]]
         named += [(fields[key]["kind"], fields[key]["name"]) for key in ("domain", "at") if key in fields]
-        named += [("link", fields["link"])] if "link" in fields else []
+        named += [(kind, fields[kind]) for kind in ("link", "listed") if kind in fields]
         return next((f"{'domain' if kind == 'listed' else kind} {name}" for kind, name in named if name not in known[kind]), None)
 
     def _say(self, line: OutputLine) -> Iterator[str]:
@@ -104,6 +105,8 @@ class Why:
         elif first in ("report", "broken", "alarm") and self.topology:
             says = Replayed(self.topology, self.course)
             yield from getattr(says, first)(line)
+        elif first == "impossible" and self.topology:
+            yield from Impossible(self.topology).say(line)
         elif first in ("bound", "bounds", "nobound") and self.topology:
             yield from self._bound(line)
         elif first in ("agree", "differ") and self.topology:
@@ -180,6 +183,7 @@ def _plain(line: OutputLine) -> Iterator[str]:
         "link": "By {count} recorded, both delays of {link} lie from {min} to {max} ps. They are {verdict} the bounds of the topology.",
         "report": "{device} says: the time is {clock} ps, and off by at most {eps} ps.",
         "broken": "The network did not keep what it promised: `{premise}`.",
+        "open": "No reason is known why there should be no plan. That does not mean that there is one: try `sundialctl search` with more steps and other seeds.",
         "usage": "The words are not those of a command. Change: see the line for the words of each; there are no options.",
     }
     text = texts.get(line.kind)
