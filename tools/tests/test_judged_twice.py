@@ -10,6 +10,8 @@ from histories import given_of, judged, proved
 from support import PROGRAM, TOOLS, directory, needs_sundial
 
 READINGS, PACKAGE = TOOLS / "tests/readings", TOOLS / "sundial_tools"
+# The files of route 2 whose definitions are read, too: what `check` shows of a breach.
+SHOWN = ("Verdicts", "ShownChains", "ShownCycles")
 
 
 class Twice(unittest.TestCase):
@@ -30,9 +32,14 @@ class Readings(unittest.TestCase):
         self.read = " ".join(self.places.values()).split()
         self.edits = [(name, *row) for name, rows in tomllib.loads((READINGS / "edits.toml").read_text()).items() for row in rows]
 
+    def defined(self, route):
+        """The definitions of a route, each with the name of its file before it."""
+        listed = subprocess.run([TOOLS.parent / ".ci/promise", "--route", route], stdout=subprocess.PIPE, text=True, check=True).stdout
+        return [f"{pathlib.PurePath(file).stem}.{name}" for file, name in (line.split() for line in listed.splitlines())]
+
     def test_each_definition_of_the_route_is_in_the_table_once(self):
-        listed = subprocess.run([TOOLS.parent / ".ci/promise", "--route", "1"], stdout=subprocess.PIPE, text=True, check=True).stdout
-        names = [f"{pathlib.PurePath(file).stem}.{name}" for file, name in (line.split() for line in listed.splitlines())]
+        first, second = (self.defined(route) for route in "12")
+        names = first + [name for name in second if name.partition(".")[0] in SHOWN]
         self.assertEqual(len(names), len(set(names)))
         self.assertEqual(sorted([*dict.fromkeys(self.read), *self.unread]), sorted(names))
 

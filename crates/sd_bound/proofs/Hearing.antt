@@ -19,7 +19,7 @@ use Rattle.sd_plan.specs.declared.Plan.{Plan}
 use Rattle.sd_plan.specs.Plans.{Fits, is_member}
 use Rattle.sd_checker.specs.check_reach.Reach.{Fed}
 use Rattle.sd_checker.specs.check_root.Timing.{round_gap, silence}
-use Rattle.sd_checker.specs.Verdicts.{IsAccepted}
+use Rattle.sd_checker.specs.Conditions.{IsAccepted}
 use Rattle.sd_device.specs.declared.msg.Stamp.{Stamp}
 use Rattle.sd_device.specs.declared.msg.Message.{Message}
 use Rattle.sd_sched.specs.declared.Event.{Event}

@@ -5,7 +5,7 @@ use Rattle.sd_plan.specs.declared.domain.DomainId.{DomainId}
 use Rattle.sd_plan.specs.declared.Plan.{Plan}
 use Rattle.sd_plan.specs.Plans.{Fits}
 use Rattle.sd_plan.specs.topo.Network.{Network}
-use Rattle.sd_checker.specs.Verdicts.{IsAccepted}
+use Rattle.sd_checker.specs.Conditions.{IsAccepted}
 use Rattle.sd_drill.specs.Drill.{IsWorst}
 use Rattle.sd_drill.specs.declared.Budget.{Budget}
 use Rattle.sd_bound.specs.Bound.{StaysBelow}

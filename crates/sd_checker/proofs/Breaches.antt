@@ -11,12 +11,14 @@ use Rattle.sd_plan.specs.declared.Plan.{Plan}
 use Rattle.sd_plan.specs.Structure.{structure_breach, ancestor_breach}
 use Rattle.sd_checker.specs.check_root.Timing.{timing_breach}
 use Rattle.sd_checker.specs.declared.check_root.TimingBreach.{TimingBreach}
-use Rattle.sd_checker.specs.check_loop.Loops.{HasNoCycle, ShowsCycle}
-use Rattle.sd_checker.specs.check_reach.Reach.{DomainHolds, ShowsDevice, ReachHolds, IsShownChain}
-use Rattle.sd_checker.specs.Conditions.{Condition, Holds, Shows, IsFirstSuspect, is_before, place_of, condition_of}
+use Rattle.sd_checker.specs.check_loop.Loops.{HasNoCycle}
+use Rattle.sd_checker.specs.check_loop.ShownCycles.{ShowsCycle}
+use Rattle.sd_checker.specs.check_reach.Reach.{DomainHolds, ReachHolds}
+use Rattle.sd_checker.specs.check_reach.ShownChains.{ShowsDevice, IsShownChain}
+use Rattle.sd_checker.specs.Conditions.{Condition, Holds}
 use Rattle.sd_checker.specs.Conditions as condition
 use Rattle.sd_checker.specs.Findings.{HoldsOf, ShowsOf, Judges, IsFoundAmong, Finds, IsSound, is_open, is_loop}
-use Rattle.sd_checker.specs.Verdicts.{IsBreach}
+use Rattle.sd_checker.specs.Verdicts.{IsBreach, Shows, IsFirstSuspect, is_before, place_of, condition_of}
 use Rattle.sd_checker.specs.declared.Breach.{Breach}
 use Rattle.sd_checker.specs.declared.Breach.TheVariants as breach
 

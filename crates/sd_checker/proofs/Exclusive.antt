@@ -7,11 +7,13 @@ use Rattle.sd_plan.specs.declared.domain.DomainId.{DomainId}
 use Rattle.sd_plan.specs.Walks.{end_of}
 use Rattle.sd_plan.specs.declared.Hop.{Hop}
 use Rattle.sd_plan.specs.declared.Plan.{Plan}
-use Rattle.sd_checker.specs.check_loop.Loops.{hops_of, same_hop, is_walk, HasNoCycle, IsNextShown, IsChain, ShowsCycle}
-use Rattle.sd_checker.specs.check_reach.Reach.{ReachHolds, IsShownChain}
-use Rattle.sd_checker.specs.Conditions.{Condition, Holds, Shows, condition_of}
+use Rattle.sd_checker.specs.check_loop.Loops.{hops_of, same_hop, is_walk, HasNoCycle}
+use Rattle.sd_checker.specs.check_loop.ShownCycles.{IsNextShown, IsChain, ShowsCycle}
+use Rattle.sd_checker.specs.check_reach.Reach.{ReachHolds}
+use Rattle.sd_checker.specs.check_reach.ShownChains.{IsShownChain}
+use Rattle.sd_checker.specs.Conditions.{Condition, Holds, IsAccepted}
 use Rattle.sd_checker.specs.Conditions as condition
-use Rattle.sd_checker.specs.Verdicts.{IsAccepted, IsBreach}
+use Rattle.sd_checker.specs.Verdicts.{IsBreach, Shows, condition_of}
 use Rattle.sd_checker.specs.declared.Breach.{Breach}
 use Rattle.sd_checker.specs.declared.Breach.TheVariants as breach
 

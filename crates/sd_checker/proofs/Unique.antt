@@ -9,12 +9,14 @@ use Rattle.sd_plan.specs.domain.Domains.{domains}
 use Rattle.sd_plan.specs.declared.domain.DomainId.{DomainId}
 use Rattle.sd_plan.specs.declared.Plan.{Plan}
 use Rattle.sd_checker.specs.check_root.Roots.{root_breach}
-use Rattle.sd_checker.specs.check_loop.Loops.{HasNoCycle, ShowsCycle}
+use Rattle.sd_checker.specs.check_loop.Loops.{HasNoCycle}
+use Rattle.sd_checker.specs.check_loop.ShownCycles.{ShowsCycle}
 use Rattle.sd_checker.proofs.check_loop.Unique.{one_cycle}
-use Rattle.sd_checker.specs.check_reach.Reach.{DomainHolds, ShowsDevice, ReachHolds, IsShownChain}
+use Rattle.sd_checker.specs.check_reach.Reach.{DomainHolds, ReachHolds}
+use Rattle.sd_checker.specs.check_reach.ShownChains.{ShowsDevice, IsShownChain}
 use Rattle.sd_checker.proofs.check_reach.Unique.{one_device, one_chain}
-use Rattle.sd_checker.specs.Conditions.{Shows, IsFirstSuspect, RootHolds, place_of, condition_of}
-use Rattle.sd_checker.specs.Verdicts.{IsBreach, IsVerdict}
+use Rattle.sd_checker.specs.Conditions.{RootHolds}
+use Rattle.sd_checker.specs.Verdicts.{IsBreach, IsVerdict, Shows, IsFirstSuspect, place_of, condition_of}
 use Rattle.sd_checker.specs.Laws.{HasOneVerdict}
 use Rattle.sd_checker.specs.declared.Breach.{Breach}
 use Rattle.sd_checker.specs.declared.Breach.TheVariants as breach

@@ -7,10 +7,10 @@ use Rattle.sd_plan.specs.declared.domain.DomainId.{DomainId}
 use Rattle.sd_plan.specs.declared.Plan.{Plan}
 use Rattle.sd_checker.proofs.check_loop.Versions.{ShowsCycle-with_version}
 use Rattle.sd_checker.proofs.check_reach.Versions.{DomainHolds-with_version, ShowsDevice-with_version, ReachHolds-with_version, IsShownChain-with_version}
-use Rattle.sd_checker.specs.Conditions.{Condition, Holds, Shows, OfEachDomain, IsFirstSuspect}
+use Rattle.sd_checker.specs.Conditions.{Condition, Holds, OfEachDomain, IsAccepted}
 use Rattle.sd_checker.specs.Conditions as condition
 use Rattle.sd_checker.specs.Text.{accepted_line, refused_line}
-use Rattle.sd_checker.specs.Verdicts.{IsAccepted, IsBreach, IsVerdict}
+use Rattle.sd_checker.specs.Verdicts.{IsBreach, IsVerdict, Shows, IsFirstSuspect}
 use Rattle.sd_checker.specs.declared.Breach.{Breach}
 use Rattle.sd_checker.specs.declared.Breach.TheVariants.{Structure, Ancestor, Timing, Root, Loop, Domain, Reach}
 use Rattle.sd_checker.specs.declared.Verdict.{Verdict}

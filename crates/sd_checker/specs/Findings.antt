@@ -4,11 +4,13 @@ use Rattle.sd_plan.specs.topo.Network.{Network}
 use Rattle.sd_plan.specs.domain.Domains.{domains}
 use Rattle.sd_plan.specs.declared.domain.DomainId.{DomainId}
 use Rattle.sd_plan.specs.declared.Plan.{Plan}
-use Rattle.sd_checker.specs.check_loop.Loops.{HasNoCycle, ShowsCycle}
-use Rattle.sd_checker.specs.check_reach.Reach.{DomainHolds, ShowsDevice, ReachHolds, IsShownChain}
-use Rattle.sd_checker.specs.Conditions.{Condition, is_before, place_of, condition_of, Shows}
+use Rattle.sd_checker.specs.check_loop.Loops.{HasNoCycle}
+use Rattle.sd_checker.specs.check_loop.ShownCycles.{ShowsCycle}
+use Rattle.sd_checker.specs.check_reach.Reach.{DomainHolds, ReachHolds}
+use Rattle.sd_checker.specs.check_reach.ShownChains.{ShowsDevice, IsShownChain}
+use Rattle.sd_checker.specs.Conditions.{Condition, IsAccepted}
 use Rattle.sd_checker.specs.Conditions as condition
-use Rattle.sd_checker.specs.Verdicts.{IsAccepted, IsBreach}
+use Rattle.sd_checker.specs.Verdicts.{IsBreach, is_before, place_of, condition_of, Shows}
 use Rattle.sd_checker.specs.declared.Breach.{Breach}
 use Rattle.sd_checker.specs.declared.Breach.TheVariants as breach
 

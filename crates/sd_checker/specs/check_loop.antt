@@ -1,4 +1,5 @@
 pub mod Loops
+pub mod ShownCycles
 pub mod Answered
 pub mod Graphs
 pub mod Markings

@@ -2,6 +2,7 @@ pub mod Aftermaths
 pub mod Candidates
 pub mod Chains
 pub mod Reach
+pub mod ShownChains
 pub mod Answered
 pub mod Reached
 pub mod Homes

@@ -1,6 +1,7 @@
 //! The condition on the two roots, asked of all domains. It costs as much as they are long together.
 ghost use Rattle.std.specs.Prelude.{MatchOption};
-ghost use Rattle.sd_checker.specs.Conditions.{Holds, Shows};
+ghost use Rattle.sd_checker.specs.Conditions.{Holds};
+ghost use Rattle.sd_checker.specs.Verdicts.{Shows};
 ghost use Rattle.sd_checker.specs.Conditions as condition;
 ghost use Rattle.sd_checker.specs.declared.Breach.TheVariants as breach;
 ghost use Rattle.sd_plan.specs.topo.Topologies.{network};

@@ -14,7 +14,7 @@ use Rattle.sd_plan.specs.declared.domain.DomainId.TheVariants as domain
 use Rattle.sd_plan.specs.declared.Plan.{Plan}
 use Rattle.sd_plan.proofs.Numbered.{length-below, get_or-below}
 use Rattle.sd_checker.specs.check_loop.Loops.{HasNoCycle}
-use Rattle.sd_checker.specs.Verdicts.{IsAccepted}
+use Rattle.sd_checker.specs.Conditions.{IsAccepted}
 
 -- what is made of each number below a bound
 pub named : {X : Type 0} (g : ℕ → X) (n k : ℕ) → k < n → Contains (map g (below n)) (g k)

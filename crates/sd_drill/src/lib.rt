@@ -3,7 +3,7 @@
 #![tactic(auto)]
 
 ghost use Rattle.std.specs.Prelude.{◌≡◌, ◌^◌, ◌≤◌, IfOk};
-ghost use Rattle.sd_checker.specs.Verdicts.{IsAccepted};
+ghost use Rattle.sd_checker.specs.Conditions.{IsAccepted};
 ghost use Rattle.sd_plan.specs.domain.Lone.{IsDomain};
 ghost use Rattle.sd_drill.specs.Bounds.{AreBounds};
 ghost use Rattle.sd_drill.specs.Budgets.{IsBudget};

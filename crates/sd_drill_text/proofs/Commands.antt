@@ -8,7 +8,8 @@ use Rattle.sd_io.specs.declared.outside.shelf.Shelf.{Ghosts}
 use Rattle.sd_plan.specs.topo.Network.{Network}
 use Rattle.sd_plan.specs.declared.Plan.{Plan}
 use Rattle.sd_checker.specs.Text.{refused_line}
-use Rattle.sd_checker.specs.Verdicts.{IsAccepted, IsBreach}
+use Rattle.sd_checker.specs.Verdicts.{IsBreach}
+use Rattle.sd_checker.specs.Conditions.{IsAccepted}
 use Rattle.sd_checker.specs.declared.Breach.{Breach}
 use Rattle.sd_checker.specs.declared.Verdict.TheVariants.{Accepted, Refused}
 use Rattle.sd_checker.proofs.Exclusive.{accepted_unbroken}

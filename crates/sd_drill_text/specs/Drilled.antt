@@ -13,7 +13,7 @@ use Rattle.sd_plan.specs.declared.domain.DomainId.{DomainId}
 use Rattle.sd_plan.specs.Plans.{Fits, members}
 use Rattle.sd_plan.specs.declared.Plan.{Plan}
 use Rattle.sd_drill.specs.Bounds.{bound_at}
-use Rattle.sd_checker.specs.Verdicts.{IsAccepted}
+use Rattle.sd_checker.specs.Conditions.{IsAccepted}
 use Rattle.sd_drill.specs.Printed.{IsDrill, IsLinesOf, AreLines, bound_line, bound_words, domain_lines, done_line}
 use Rattle.sd_drill.specs.declared.Budget.{Budget}
 use Rattle.sd_drill.proofs.Circles.{no_circle}

@@ -6,7 +6,7 @@ use Rattle.sd_plan.specs.declared.domain.DomainId.{DomainId}
 use Rattle.sd_plan.specs.declared.Plan.{Plan}
 use Rattle.sd_drill.specs.declared.Budget.{Budget}
 use Rattle.sd_files.specs.Answering.{AtOnce, WritesAfter}
-use Rattle.sd_checker.specs.Verdicts.{IsAccepted}
+use Rattle.sd_checker.specs.Conditions.{IsAccepted}
 use Rattle.sd_files.specs.Inputs.{plan_in_file, topology_of}
 use Rattle.sd_drill_text.specs.Writes.{AreAllWrites}
 

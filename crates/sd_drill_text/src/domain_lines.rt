@@ -6,7 +6,7 @@ ghost use Rattle.sd_files.specs.work.Leaving.{are_lines};
 ghost use Rattle.sd_plan.specs.domain.Lone.{IsDomain};
 ghost use Rattle.sd_plan.specs.declared.domain.DomainId.{DomainId as AnyDomain};
 ghost use Rattle.sd_drill.specs.Budgets.{IsBudget};
-ghost use Rattle.sd_checker.specs.Verdicts.{IsAccepted};
+ghost use Rattle.sd_checker.specs.Conditions.{IsAccepted};
 ghost use Rattle.sd_drill.specs.declared.Budget.{Budget as AnyBudget};
 ghost use Rattle.sd_io.specs.outside.Pieces.{Pieces};
 ghost use Rattle.sd_plan.specs.Plans as plans;

@@ -7,7 +7,7 @@ ghost use Rattle.sd_files.specs.Writes.{Adds};
 ghost use Rattle.sd_plan.specs.domain.Domains.{domains};
 ghost use Rattle.sd_plan.specs.domain.Lone.{IsDomain};
 ghost use Rattle.sd_drill.specs.Budgets.{IsBudget};
-ghost use Rattle.sd_checker.specs.Verdicts.{IsAccepted};
+ghost use Rattle.sd_checker.specs.Conditions.{IsAccepted};
 ghost use Rattle.sd_drill.specs.Printed.{done_line};
 ghost use Rattle.sd_io.specs.outside.Causes.{RisesFor};
 ghost use Rattle.sd_io.specs.outside.Pieces.{piece_of};

@@ -13,7 +13,8 @@ use Rattle.sd_plantext.specs.Meaning.{plan_of}
 use Rattle.sd_plantext.specs.Reading.{tree_of as json_of}
 use Rattle.sd_plantext.proofs.Sound.{plan_ok}
 use Rattle.sd_checker.specs.Text.{refused_line}
-use Rattle.sd_checker.specs.Verdicts.{IsAccepted, IsVerdict}
+use Rattle.sd_checker.specs.Verdicts.{IsVerdict}
+use Rattle.sd_checker.specs.Conditions.{IsAccepted}
 use Rattle.sd_checker.specs.declared.Breach.{Breach}
 use Rattle.sd_checker.specs.declared.Verdict.{Verdict}
 use Rattle.sd_checker.specs.declared.Verdict.TheVariants.{Accepted, Refused}

@@ -5,7 +5,7 @@ use Rattle.sd_io.specs.outside.Pieces.{Pieces}
 use Rattle.sd_plan.specs.topo.Network.{Each, Network}
 use Rattle.sd_plan.specs.declared.Plan.{Plan}
 use Rattle.sd_files.specs.Answering.{AtOnce, InWrites}
-use Rattle.sd_checker.specs.Verdicts.{IsAccepted}
+use Rattle.sd_checker.specs.Conditions.{IsAccepted}
 use Rattle.sd_files.specs.Inputs.{topology_of}
 use Rattle.sd_files.specs.Loads.{Loads}
 use Rattle.sd_files.specs.Reasons.{refusal_line}

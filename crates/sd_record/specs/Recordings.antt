@@ -5,7 +5,7 @@ use Rattle.sd_plan.specs.topo.Network.{Each, Network}
 use Rattle.sd_plan.specs.declared.Plan.{Plan}
 use Rattle.sd_history.specs.World.{setting_over}
 use Rattle.sd_files.specs.Answering.{AtOnce, InWrites, MayWrite}
-use Rattle.sd_checker.specs.Verdicts.{IsAccepted}
+use Rattle.sd_checker.specs.Conditions.{IsAccepted}
 use Rattle.sd_files.specs.Inputs.{topology_of}
 use Rattle.sd_files.specs.Reasons.{refusal_line}
 use Rattle.sd_files.specs.declared.Status.{Status}

@@ -7,7 +7,7 @@ use Rattle.sd_plan.specs.topo.Topologies.{network}
 use Rattle.sd_plan.specs.declared.topo.topology.Topology.{Topology}
 use Rattle.sd_plan.specs.declared.Plan.{Plan}
 use Rattle.sd_plan.specs.Plans.{Fits}
-use Rattle.sd_checker.specs.Verdicts.{IsAccepted}
+use Rattle.sd_checker.specs.Conditions.{IsAccepted}
 use Rattle.sd_device.specs.declared.node.Node.{Ghosts}
 use Rattle.sd_device.specs.msg.Observed.{ReportAt}
 use Rattle.sd_device.specs.declared.msg.observer.Observer as observers

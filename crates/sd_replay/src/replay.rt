@@ -3,7 +3,7 @@ ghost use Rattle.std.specs.Prelude.{◌≡◌, ◌≤◌, ◌<◌, ◌^◌, ℕ,
 ghost use Rattle.sd_plan.specs.topo.Topologies.{network};
 ghost use Rattle.sd_plan.specs.topo.Network.{Each as OfEach};
 ghost use Rattle.sd_plan.specs.Plans.{Fits};
-ghost use Rattle.sd_checker.specs.Verdicts.{IsAccepted};
+ghost use Rattle.sd_checker.specs.Conditions.{IsAccepted};
 ghost use Rattle.sd_sched.specs.declared.Event.TheVariants as events_of;
 ghost use Rattle.sd_sched.specs.Lines.{event_of_line};
 ghost use Rattle.sd_sched.specs.Spelled.{is_within};

@@ -5,7 +5,8 @@ use Rattle.sd_plan.specs.Plans.{Fits}
 use Rattle.sd_plan.specs.declared.Absent.{Absent}
 use Rattle.sd_plan.specs.declared.Plan.{Plan}
 use Rattle.sd_checker.specs.check_root.Timing.{silence}
-use Rattle.sd_checker.specs.Verdicts.{IsAccepted, IsBreach}
+use Rattle.sd_checker.specs.Verdicts.{IsBreach}
+use Rattle.sd_checker.specs.Conditions.{IsAccepted}
 use Rattle.sd_planner.specs.Greedy.{IsGreedy, IsLeastWait}
 use Rattle.sd_drill.specs.declared.Budget.{Budget}
 use Rattle.sd_search.specs.Ratings.{IsNoWorse}

@@ -1,6 +1,6 @@
 //! How good an accepted plan is, by its drill under all domains.
 ghost use Rattle.std.specs.Prelude.{◌≡◌, ◌≤◌, ◌<◌, ◌+◌, ◌^◌, [], ◌∷◌, length, max, true, Ok, IfOk, Decides};
-ghost use Rattle.sd_checker.specs.Verdicts.{IsAccepted};
+ghost use Rattle.sd_checker.specs.Conditions.{IsAccepted};
 ghost use Rattle.sd_drill.specs.Bounds.{AreBounds};
 ghost use Rattle.sd_drill.specs.Budgets.{IsBudget};
 ghost use Rattle.sd_drill.specs.Times.{IsDrillOf};

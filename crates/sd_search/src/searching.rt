@@ -4,7 +4,7 @@ ghost use Rattle.sd_search.specs.Finds.{HasLeastWaits, IsAsGood, IsFound, IsJudg
 ghost use Rattle.sd_drill.specs.Budgets.{IsBudget};
 ghost use Rattle.sd_plan.specs.Plans.{Fits};
 ghost use Rattle.sd_planner.specs.Absences.{IsAbsentOf};
-ghost use Rattle.sd_checker.specs.Verdicts.{IsAccepted};
+ghost use Rattle.sd_checker.specs.Conditions.{IsAccepted};
 ghost use Rattle.sd_plan.specs.topo.Topologies.{network};
 
 use crate::candidates::Candidates;

@@ -7,7 +7,8 @@ use Rattle.sd_plan.specs.topo.Limits.{IsNetwork}
 use Rattle.sd_plan.specs.Plans.{Fits, nothing_absent}
 use Rattle.sd_plan.specs.declared.Absent.{Absent}
 use Rattle.sd_plan.specs.declared.Plan.{Plan}
-use Rattle.sd_checker.specs.Verdicts.{IsAccepted, IsVerdict}
+use Rattle.sd_checker.specs.Verdicts.{IsVerdict}
+use Rattle.sd_checker.specs.Conditions.{IsAccepted}
 use Rattle.sd_checker.specs.declared.Verdict.{Verdict}
 use Rattle.sd_checker.specs.declared.Verdict.TheVariants.{Accepted, Refused}
 use Rattle.sd_history.specs.World.{Setting}

@@ -5,7 +5,8 @@ use Rattle.sd_plan.specs.topo.Network.{Network}
 use Rattle.sd_plan.specs.declared.Absent.{Absent}
 use Rattle.sd_plan.specs.declared.Plan.{Plan}
 use Rattle.sd_plan.specs.Plans.{nothing_absent}
-use Rattle.sd_checker.specs.Verdicts.{IsAccepted, IsVerdict}
+use Rattle.sd_checker.specs.Verdicts.{IsVerdict}
+use Rattle.sd_checker.specs.Conditions.{IsAccepted}
 use Rattle.sd_checker.specs.declared.Verdict.{Verdict}
 use Rattle.sd_checker.specs.declared.Verdict.TheVariants.{Accepted, Refused}
 use Rattle.sd_checker.proofs.Exclusive.{accepted_unbroken}

@@ -10,7 +10,7 @@ use Rattle.sd_bound.proofs.slack.Accepted.{stays_accepted}
 use Rattle.sd_bound.proofs.slack.Bounded.{no_bound_rises}
 use Rattle.sd_bound.specs.slack.Tighter.{IsTighter}
 use Rattle.sd_files.specs.Answering.{After}
-use Rattle.sd_checker.specs.Verdicts.{IsAccepted}
+use Rattle.sd_checker.specs.Conditions.{IsAccepted}
 use Rattle.sd_checker.specs.declared.Verdict.TheVariants.{Accepted, Refused}
 use Rattle.sd_files.specs.Inputs.{topology_of, plan_in_file, in_file}
 use Rattle.sd_files.specs.declared.Status.TheVariants.{Done}

@@ -7,7 +7,8 @@ use Rattle.sd_plan.specs.declared.Plan.{Plan}
 use Rattle.sd_plan.specs.Plans.{nothing_absent}
 use Rattle.sd_plantext.specs.Printed.{plan_text as text_of_plan}
 use Rattle.sd_checker.specs.Text.{refused_line}
-use Rattle.sd_checker.specs.Verdicts.{IsAccepted, IsVerdict}
+use Rattle.sd_checker.specs.Verdicts.{IsVerdict}
+use Rattle.sd_checker.specs.Conditions.{IsAccepted}
 use Rattle.sd_checker.specs.declared.Verdict.{Verdict}
 use Rattle.sd_checker.specs.declared.Verdict.TheVariants.{Accepted, Refused}
 use Rattle.sd_planner.specs.Greedy.{IsGreedy}

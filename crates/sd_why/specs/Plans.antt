@@ -4,7 +4,7 @@ use Rattle.sd_num.specs.Lists.{has}
 use Rattle.sd_plan.specs.topo.Network.{Network}
 use Rattle.sd_plan.specs.Plans.{Fits, nothing_absent}
 use Rattle.sd_plan.specs.declared.Plan.{Plan}
-use Rattle.sd_checker.specs.Verdicts.{IsAccepted}
+use Rattle.sd_checker.specs.Conditions.{IsAccepted}
 
 -- the plan speaks of this network, and leaves nothing out
 pub record IsWhole (net : Network) (plan : Plan) : Type 0 where

@@ -9,7 +9,8 @@ use Rattle.sd_plan.specs.declared.domain.DomainId.{DomainId}
 use Rattle.sd_plan.specs.declared.Hop.{Hop}
 use Rattle.sd_plan.specs.declared.Plan.{Plan}
 use Rattle.sd_plan.specs.Walks.{devices_of, end_of}
-use Rattle.sd_checker.specs.check_loop.Loops.{LeadsTo, IsChain, AreDifferent, hops_of, same_hop, is_walk}
+use Rattle.sd_checker.specs.check_loop.Loops.{hops_of, same_hop, is_walk}
+use Rattle.sd_checker.specs.check_loop.ShownCycles.{LeadsTo, IsChain, AreDifferent}
 use Rattle.sd_checker.proofs.check_loop.Shared.{parent_any}
 use Rattle.sd_beside.specs.needed.Loops.{ClosesLoop, CycleIsNeeded}
 use Rattle.sd_beside.proofs.needed.Loops.{loop_is_needed}

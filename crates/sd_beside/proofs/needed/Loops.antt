@@ -16,7 +16,7 @@ use Rattle.sd_plan.specs.Plans.{Fits, primary_of, backup_of}
 use Rattle.sd_plan.specs.Structure.{structure_breach}
 use Rattle.sd_plan.specs.Walks.{is_hit}
 use Rattle.sd_checker.specs.Conditions as condition
-use Rattle.sd_checker.specs.check_loop.Loops.{IsChain, AreDifferent, IsNextShown, LeadsTo, IsShownCycle}
+use Rattle.sd_checker.specs.check_loop.ShownCycles.{IsChain, AreDifferent, IsNextShown, LeadsTo, IsShownCycle}
 use Rattle.sd_checker.proofs.Exclusive.{chain_tail}
 use Rattle.sd_plan.proofs.Forest.{IsParent}
 use Rattle.sd_history.specs.Chronicle.{chronicle}

@@ -21,7 +21,7 @@ use Rattle.sd_plan.specs.Plans.{Fits, is_member, primary_of, backup_of, row_of}
 use Rattle.sd_plan.specs.Walks.{ends_walks, is_hit, epath, things_of, short_path, short_walk}
 use Rattle.sd_plan.specs.Structure.{structure_breach}
 use Rattle.sd_plan.proofs.Forest.{IsForest, forest_of, climb, IsParent, one_parent}
-use Rattle.sd_checker.specs.check_loop.Loops.{LeadsTo, IsChain, AreDifferent}
+use Rattle.sd_checker.specs.check_loop.ShownCycles.{LeadsTo, IsChain, AreDifferent}
 use Rattle.sd_history.proofs.Among as among
 use Rattle.sd_history.proofs.Among.{Among, on_right, either_side}
 use Rattle.sd_history.proofs.Given.{some_is}

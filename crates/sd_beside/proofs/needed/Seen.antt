@@ -5,7 +5,7 @@ use Rattle.std.proofs.lemmas.Bool.{and_parts, or_left, or_parts, eqb-true, eqb-f
 use Rattle.sd_num.specs.Lists.{has, same_number, follow}
 use Rattle.sd_plan.specs.topo.Network.{Network, device_numbers}
 use Rattle.sd_plan.specs.declared.Plan.{Plan}
-use Rattle.sd_checker.specs.check_loop.Loops.{IsChain, AreDifferent}
+use Rattle.sd_checker.specs.check_loop.ShownCycles.{IsChain, AreDifferent}
 use Rattle.sd_num.proofs.Shared.{follow_first}
 use Rattle.sd_history.specs.World.{is_up, is_counted, alone}
 use Rattle.sd_history.specs.Steps.{seen_of, parent_in}

@@ -18,7 +18,7 @@ use Rattle.sd_checker.specs.check_root.Timing.{timing_breach}
 use Rattle.sd_checker.specs.check_root.Roots.{root_breach}
 use Rattle.sd_checker.specs.check_loop.Loops.{hops_of, same_hop, is_walk, HasNoCycle}
 use Rattle.sd_checker.specs.check_reach.Reach.{acting_end, is_sound, next_hop, Fed, acts, stands_by, spared, turns, DomainHolds, ReachHolds}
-use Rattle.sd_checker.specs.Verdicts.{IsAccepted}
+use Rattle.sd_checker.specs.Conditions.{IsAccepted}
 use Rattle.sd_plan.proofs.Numbered.{none_found}
 use Rattle.sd_plan.proofs.Forest.{onward}
 

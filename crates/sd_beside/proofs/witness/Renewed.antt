@@ -2,7 +2,7 @@
 use Rattle.std.specs.Prelude.{◌≡◌, true, reverse, refl}
 use Rattle.std.proofs.Common.{arith}
 use Rattle.sd_plan.specs.Plans.{Fits}
-use Rattle.sd_checker.specs.Verdicts.{IsAccepted}
+use Rattle.sd_checker.specs.Conditions.{IsAccepted}
 use Rattle.sd_sched.specs.Lines.{event_of_line}
 use Rattle.sd_safety.specs.invariant.Coming.{IsFair, IsClean}
 use Rattle.sd_safety.proofs.whole.Safe.{stays_safe}

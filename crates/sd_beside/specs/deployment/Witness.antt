@@ -3,7 +3,7 @@
 use Rattle.std.specs.Prelude.{◌≡◌, ℕ, ◌+◌, ◌-◌, ◌<◌, ◌≤◌, true, List, ◌∷◌, reverse, take, Option, Some, option_map}
 use Rattle.sd_plan.specs.declared.domain.DomainId.TheVariants as domain
 use Rattle.sd_checker.specs.check_root.Timing.{silence}
-use Rattle.sd_checker.specs.Verdicts.{IsAccepted}
+use Rattle.sd_checker.specs.Conditions.{IsAccepted}
 use Rattle.sd_drill.specs.Drill.{IsWorst}
 use Rattle.sd_sched.specs.declared.Event.TheVariants as event
 use Rattle.sd_device.specs.declared.registers.Registers.{Registers}

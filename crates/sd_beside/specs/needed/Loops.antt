@@ -13,7 +13,8 @@ use Rattle.sd_plan.specs.declared.Plan.{Plan}
 use Rattle.sd_plan.specs.Plans.{Fits}
 use Rattle.sd_plan.specs.Walks.{end_of}
 use Rattle.sd_plan.specs.Duties.{ends_of}
-use Rattle.sd_checker.specs.check_loop.Loops.{LeadsTo, IsChain, AreDifferent, is_walk}
+use Rattle.sd_checker.specs.check_loop.Loops.{is_walk}
+use Rattle.sd_checker.specs.check_loop.ShownCycles.{LeadsTo, IsChain, AreDifferent}
 use Rattle.sd_checker.specs.Conditions.{Holds}
 use Rattle.sd_checker.specs.Conditions as condition
 use Rattle.sd_checker.specs.Verdicts.{IsBreach}

@@ -12,7 +12,7 @@ use Rattle.sd_plan.specs.domain.Lone.{IsDomain}
 use Rattle.sd_plan.specs.declared.domain.DomainId.{DomainId}
 use Rattle.sd_plan.specs.declared.Plan.{Plan}
 use Rattle.sd_plan.specs.Plans.{Fits}
-use Rattle.sd_checker.specs.check_reach.Reach.{IsStarved, begins_with}
+use Rattle.sd_checker.specs.check_reach.ShownChains.{IsStarved, begins_with}
 use Rattle.sd_checker.specs.Conditions.{Holds}
 use Rattle.sd_checker.specs.Conditions as condition
 use Rattle.sd_checker.specs.Verdicts.{IsBreach}

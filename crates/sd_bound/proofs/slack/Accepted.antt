@@ -7,8 +7,7 @@ use Rattle.sd_plan.specs.declared.domain.DomainId.{DomainId}
 use Rattle.sd_plan.specs.declared.Plan.{Plan}
 use Rattle.sd_checker.specs.check_loop.Loops.{HasNoCycle}
 use Rattle.sd_checker.specs.check_reach.Reach.{DomainHolds, ReachHolds}
-use Rattle.sd_checker.specs.Conditions.{OfEachDomain, RootHolds}
-use Rattle.sd_checker.specs.Verdicts.{IsAccepted}
+use Rattle.sd_checker.specs.Conditions.{OfEachDomain, RootHolds, IsAccepted}
 use Rattle.sd_bound.specs.slack.Tighter.{IsTighter}
 use Rattle.sd_bound.specs.slack.Slack.{StaysAccepted}
 use Rattle.sd_bound.proofs.slack.Alike.{HasShape, HasThings, structure_same, ancestor_same, root_same, no_cycle_kept, domain_kept, reach_kept}

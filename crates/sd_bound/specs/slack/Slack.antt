@@ -4,7 +4,7 @@ use Rattle.sd_plan.specs.topo.Network.{Network}
 use Rattle.sd_plan.specs.topo.Limits.{IsNetwork}
 use Rattle.sd_plan.specs.declared.domain.DomainId.{DomainId}
 use Rattle.sd_plan.specs.declared.Plan.{Plan}
-use Rattle.sd_checker.specs.Verdicts.{IsAccepted}
+use Rattle.sd_checker.specs.Conditions.{IsAccepted}
 use Rattle.sd_drill.specs.Drill.{IsWorst}
 use Rattle.sd_drill.specs.Bounds.{AreBounds, bound_at}
 use Rattle.sd_drill.specs.declared.Budget.{Budget}

@@ -11,7 +11,7 @@ use Rattle.sd_plan.specs.Plans.{Fits}
 use Rattle.sd_plan.specs.Structure.{structure_breach}
 use Rattle.sd_checker.specs.check_hit.Hit.{hit_by}
 use Rattle.sd_checker.specs.check_loop.Graphs.{place_in, successors_of, graph_of}
-use Rattle.sd_checker.specs.check_loop.Loops.{IsChain, IsFirstOf, IsLeast, IsEndless, IsNextShown, ShowsCycle}
+use Rattle.sd_checker.specs.check_loop.ShownCycles.{IsChain, IsFirstOf, IsLeast, IsEndless, IsNextShown, ShowsCycle}
 use Rattle.sd_checker.specs.check_loop.Answered.{LoopShown}
 use Rattle.sd_checker.specs.check_loop.Markings.{mark_at, IsMarked}
 use Rattle.sd_checker.specs.check_loop.Shown.{IsStep, CycleIs, IsAnswer, AnswersFor}

@@ -14,7 +14,8 @@ use Rattle.sd_plan.specs.declared.PlanRow.{PlanRow}
 use Rattle.sd_plan.specs.Plans.{is_member, row_of, has_row, primary_of, backup_of}
 use Rattle.sd_plan.specs.Walks.{ends_walks, is_hit}
 use Rattle.sd_plan.proofs.Forest.{IsParent, one_parent}
-use Rattle.sd_checker.specs.check_loop.Loops.{same_hop, LeadsTo}
+use Rattle.sd_checker.specs.check_loop.Loops.{same_hop}
+use Rattle.sd_checker.specs.check_loop.ShownCycles.{LeadsTo}
 use Rattle.sd_checker.proofs.check_loop.Shared.{primary_row}
 
 -- of hops, one that leads to the device

@@ -18,7 +18,8 @@ use Rattle.sd_plan.proofs.Rules.{keeps_rules, other_member}
 use Rattle.sd_plan.proofs.Forest.{IsParent}
 use Rattle.sd_checker.specs.check_hit.Hit.{hit_by}
 use Rattle.sd_checker.specs.check_loop.Graphs.{place_in, parent_place, no_successors, successors_of, graph_of, successors_at, leads, IsGraph, BothAre}
-use Rattle.sd_checker.specs.check_loop.Loops.{hops_of, same_hop, is_walk, HasNoCycle, IsEndless, IsLeast, LeadsTo, IsNextShown}
+use Rattle.sd_checker.specs.check_loop.Loops.{hops_of, same_hop, is_walk, HasNoCycle}
+use Rattle.sd_checker.specs.check_loop.ShownCycles.{IsEndless, IsLeast, LeadsTo, IsNextShown}
 use Rattle.sd_checker.specs.check_loop.Markings.{mark_at, EndsBelow, IsMarked}
 use Rattle.sd_checker.specs.check_loop.Shown.{next_endless}
 use Rattle.sd_checker.specs.declared.check_loop.graph.Successors.{Successors}

@@ -6,7 +6,7 @@ use Rattle.std.proofs.lemmas.List.Folds.{list_any-append}
 use Rattle.std.proofs.lemmas.Option.{slice_get-get_or}
 use Rattle.sd_num.specs.Lists.{ascends, has}
 use Rattle.sd_checker.specs.check_loop.Graphs.{place_in, IsGraph}
-use Rattle.sd_checker.specs.check_loop.Loops.{IsChain, IsFirstOf, AreDifferent}
+use Rattle.sd_checker.specs.check_loop.ShownCycles.{IsChain, IsFirstOf, AreDifferent}
 use Rattle.sd_checker.specs.check_loop.Shown.{next_endless, IsStep, CycleIs}
 use Rattle.sd_checker.specs.check_loop.Trails.{IsTrail, device_at, passed_at}
 use Rattle.sd_checker.specs.declared.check_loop.graph.Successors.{Successors}

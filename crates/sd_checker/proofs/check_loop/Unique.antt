@@ -9,7 +9,7 @@ use Rattle.sd_num.proofs.Runs.{IsRun, SeenWith, same_run}
 use Rattle.sd_plan.specs.topo.Network.{Network}
 use Rattle.sd_plan.specs.declared.domain.DomainId.{DomainId}
 use Rattle.sd_plan.specs.declared.Plan.{Plan}
-use Rattle.sd_checker.specs.check_loop.Loops.{IsLeast, IsEndless, IsNextShown, IsChain, IsFirstOf, AreDifferent, IsShownCycle, ShowsCycle}
+use Rattle.sd_checker.specs.check_loop.ShownCycles.{IsLeast, IsEndless, IsNextShown, IsChain, IsFirstOf, AreDifferent, IsShownCycle, ShowsCycle}
 
 -- there is at most one least number with a property
 pub one_least : (P : ℕ → Type 0) (x y : ℕ) → IsLeast P x → IsLeast P y → x ≡ y

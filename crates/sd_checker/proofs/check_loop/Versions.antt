@@ -4,7 +4,7 @@ use Rattle.sd_plan.specs.topo.Network.{Network}
 use Rattle.sd_plan.proofs.topo.Versions.{with_version}
 use Rattle.sd_plan.specs.declared.domain.DomainId.{DomainId}
 use Rattle.sd_plan.specs.declared.Plan.{Plan}
-use Rattle.sd_checker.specs.check_loop.Loops.{IsShownCycle, ShowsCycle}
+use Rattle.sd_checker.specs.check_loop.ShownCycles.{IsShownCycle, ShowsCycle}
 
 module _ (v w : ℕ) (net : Network) (plan : Plan) (domain : DomainId) where
   pub IsShownCycle-with_version : (first : ℕ) (others : List ℕ) → IsShownCycle (with_version v net) plan domain first others

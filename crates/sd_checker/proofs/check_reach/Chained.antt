@@ -9,7 +9,8 @@ use Rattle.sd_plan.specs.domain.Domains.{holds_device, holds_link}
 use Rattle.sd_plan.specs.declared.domain.DomainId.{DomainId}
 use Rattle.sd_plan.specs.declared.Hop.{Hop}
 use Rattle.sd_plan.specs.declared.Plan.{Plan}
-use Rattle.sd_checker.specs.check_reach.Reach.{next_hop, turns_to, begins_with, follows_turns}
+use Rattle.sd_checker.specs.check_reach.Reach.{next_hop}
+use Rattle.sd_checker.specs.check_reach.ShownChains.{turns_to, begins_with, follows_turns}
 use Rattle.sd_checker.specs.check_reach.Reached.{is_left}
 use Rattle.sd_checker.specs.check_reach.Chains.{onward, turns_along, ends_with, IsChainTo, IsChainOf}
 use Rattle.sd_num.proofs.Places.{has_cases}

@@ -13,7 +13,8 @@ use Rattle.sd_plan.specs.declared.Plan.{Plan}
 use Rattle.sd_plan.specs.Plans.{Fits, is_member, is_root, backup_of}
 use Rattle.sd_plan.specs.Walks.{is_hit, ends_walks}
 use Rattle.sd_plan.proofs.Rules.{KeepsRules}
-use Rattle.sd_checker.specs.check_reach.Reach.{Fed, spared, acting_end, is_sound, LosesBackup, ReachHolds, IsShownChain}
+use Rattle.sd_checker.specs.check_reach.Reach.{Fed, spared, acting_end, is_sound, LosesBackup, ReachHolds}
+use Rattle.sd_checker.specs.check_reach.ShownChains.{IsShownChain}
 use Rattle.sd_checker.specs.check_reach.Answered.{DomainShown}
 use Rattle.sd_checker.specs.check_reach.Reached.{Reaches, AreAll, FirstReached}
 use Rattle.sd_checker.specs.check_reach.Candidates.{AreDecided, Chooses, loses, IsLosing, IsUnheard}

@@ -9,7 +9,8 @@ use Rattle.sd_plan.specs.domain.Domains.{holds_device, holds_link}
 use Rattle.sd_plan.specs.declared.domain.DomainId.{DomainId}
 use Rattle.sd_plan.specs.declared.Hop.{Hop}
 use Rattle.sd_plan.specs.declared.Plan.{Plan}
-use Rattle.sd_checker.specs.check_reach.Reach.{next_hop, turns_to, follows_turns, begins_with, IsStarved, IsShownChain, ShowsDevice}
+use Rattle.sd_checker.specs.check_reach.Reach.{next_hop}
+use Rattle.sd_checker.specs.check_reach.ShownChains.{turns_to, follows_turns, begins_with, IsStarved, IsShownChain, ShowsDevice}
 
 -- two least numbers with a property are the same
 one_least : (P : ℕ → Type 0) (x y : ℕ) → P x → ((e : ℕ) → e < x → P e → ⊥) → P y → ((e : ℕ) → e < y → P e → ⊥) → x ≡ y

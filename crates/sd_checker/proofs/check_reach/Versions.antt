@@ -5,7 +5,8 @@ use Rattle.sd_plan.specs.topo.Network.{Network}
 use Rattle.sd_plan.proofs.topo.Versions.{with_version, Joined-with_version}
 use Rattle.sd_plan.specs.declared.domain.DomainId.{DomainId}
 use Rattle.sd_plan.specs.declared.Plan.{Plan}
-use Rattle.sd_checker.specs.check_reach.Reach.{acting_end, is_sound, is_sound_link, CanReach, IsCut, Fed, acts, stands_by, spared, turns, LosesBackup, DomainHolds, ShowsDevice, ReachHolds, IsStarved, IsShownChain}
+use Rattle.sd_checker.specs.check_reach.Reach.{acting_end, is_sound, is_sound_link, CanReach, IsCut, Fed, acts, stands_by, spared, turns, LosesBackup, DomainHolds, ReachHolds}
+use Rattle.sd_checker.specs.check_reach.ShownChains.{ShowsDevice, IsStarved, IsShownChain}
 
 -- what is said of a network is carried over ..
 module _ (v w : ℕ) (net : Network) (plan : Plan) (domain : DomainId) where

@@ -3,7 +3,8 @@ use Rattle.std.specs.Prelude.{ℕ, List, Option, Some, None}
 use Rattle.sd_plan.specs.topo.Network.{Network}
 use Rattle.sd_plan.specs.declared.domain.DomainId.{DomainId}
 use Rattle.sd_plan.specs.declared.Plan.{Plan}
-use Rattle.sd_checker.specs.check_loop.Loops.{HasNoCycle, ShowsCycle}
+use Rattle.sd_checker.specs.check_loop.Loops.{HasNoCycle}
+use Rattle.sd_checker.specs.check_loop.ShownCycles.{ShowsCycle}
 
 -- what is to be answered: nothing where there is no cycle, else the one to be shown
 abbrev pub LoopShown : Network → Plan → DomainId → Option (List ℕ) → Type 0

@@ -1,7 +1,7 @@
 -- The cycle that is shown, by the marks of the places.
 use Rattle.std.specs.Prelude.{◌≡◌, ◌≢◌, ℕ, ◌<◌, List, [], ◌∷◌, ◌++◌, length, min, slice_get, slice_index_or, Option, Some, None}
 use Rattle.sd_checker.specs.check_loop.Graphs.{successors_at, graph_of}
-use Rattle.sd_checker.specs.check_loop.Loops.{IsChain, IsFirstOf, AreDifferent}
+use Rattle.sd_checker.specs.check_loop.ShownCycles.{IsChain, IsFirstOf, AreDifferent}
 use Rattle.sd_checker.specs.check_loop.Markings.{mark_at, IsMarked}
 use Rattle.sd_plan.specs.declared.Plan.{Plan}
 use Rattle.sd_checker.specs.declared.check_loop.graph.Successors.{Successors}

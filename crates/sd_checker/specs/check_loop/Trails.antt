@@ -1,7 +1,7 @@
 -- The devices that are passed on the way to the cycle that is shown.
 use Rattle.std.specs.Prelude.{◌≡◌, ℕ, ◌<◌, Bool, true, false, List, [], ◌∷◌, ◌++◌, length, slice_index_or, Option, Some, None}
 use Rattle.sd_num.specs.Lists.{has}
-use Rattle.sd_checker.specs.check_loop.Loops.{IsChain, IsFirstOf, AreDifferent}
+use Rattle.sd_checker.specs.check_loop.ShownCycles.{IsChain, IsFirstOf, AreDifferent}
 use Rattle.sd_checker.specs.check_loop.Markings.{mark_at}
 use Rattle.sd_checker.specs.check_loop.Shown.{IsStep}
 use Rattle.sd_checker.specs.declared.check_loop.graph.Successors.{Successors}

@@ -3,7 +3,8 @@ use Rattle.std.specs.Prelude.{ℕ, List, Option, Some, None}
 use Rattle.sd_plan.specs.topo.Network.{Network}
 use Rattle.sd_plan.specs.declared.domain.DomainId.{DomainId}
 use Rattle.sd_plan.specs.declared.Plan.{Plan}
-use Rattle.sd_checker.specs.check_reach.Reach.{DomainHolds, ReachHolds, IsShownChain, ShowsDevice}
+use Rattle.sd_checker.specs.check_reach.Reach.{DomainHolds, ReachHolds}
+use Rattle.sd_checker.specs.check_reach.ShownChains.{IsShownChain, ShowsDevice}
 
 -- what is to be answered of the domain condition: nothing where it holds, else the device to be shown
 abbrev pub DomainShown : Network → Plan → DomainId → Option ℕ → Type 0

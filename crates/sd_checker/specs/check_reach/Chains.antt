@@ -4,7 +4,8 @@ use Rattle.sd_num.specs.Lists.{has, map_or}
 use Rattle.sd_plan.specs.topo.Network.{Network}
 use Rattle.sd_plan.specs.declared.domain.DomainId.{DomainId}
 use Rattle.sd_plan.specs.declared.Plan.{Plan}
-use Rattle.sd_checker.specs.check_reach.Reach.{next_hop, turns_to, begins_with, follows_turns}
+use Rattle.sd_checker.specs.check_reach.Reach.{next_hop}
+use Rattle.sd_checker.specs.check_reach.ShownChains.{turns_to, begins_with, follows_turns}
 use Rattle.sd_checker.specs.check_reach.Reached.{is_left}
 
 -- where the next hop of the device leads, if the domain leaves it

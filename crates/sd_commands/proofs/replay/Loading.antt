@@ -6,7 +6,7 @@ use Rattle.sd_io.specs.outside.Pieces.{Pieces}
 use Rattle.sd_io.specs.stream.Reader.{IsNear}
 use Rattle.sd_plan.specs.topo.Network.{Network, Each}
 use Rattle.sd_plan.specs.declared.Plan.{Plan}
-use Rattle.sd_checker.specs.Verdicts.{IsAccepted}
+use Rattle.sd_checker.specs.Conditions.{IsAccepted}
 use Rattle.sd_checker.specs.declared.Verdict.{Verdict}
 use Rattle.sd_checker.specs.declared.Verdict.TheVariants.{Accepted, Refused}
 use Rattle.sd_device.specs.declared.registers.Registers.{Registers}

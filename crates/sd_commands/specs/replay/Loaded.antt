@@ -1,7 +1,7 @@
 -- The files of a topology and of plans that were read, and what ends a command before its schedule.
 use Rattle.std.specs.Prelude.{◌≡◌, ℕ, List, Ok}
 use Rattle.sd_plan.specs.topo.Network.{Each}
-use Rattle.sd_checker.specs.Verdicts.{IsAccepted}
+use Rattle.sd_checker.specs.Conditions.{IsAccepted}
 use Rattle.sd_io.specs.outside.Pieces.{Pieces}
 use Rattle.sd_sched.specs.declared.Event.{Event}
 use Rattle.sd_history.specs.World.{Setting}

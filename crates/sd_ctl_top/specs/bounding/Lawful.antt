@@ -14,7 +14,7 @@ use Rattle.sd_plan.specs.Plans.{Fits, members}
 use Rattle.sd_plan.specs.declared.Plan.{Plan}
 use Rattle.sd_drill.specs.Bounds.{bound_at}
 use Rattle.sd_checker.specs.Text.{domain_words}
-use Rattle.sd_checker.specs.Verdicts.{IsAccepted}
+use Rattle.sd_checker.specs.Conditions.{IsAccepted}
 use Rattle.sd_drill.specs.Printed.{done_line}
 use Rattle.sd_drill.specs.declared.Budget.{Budget}
 use Rattle.sd_drill.proofs.Circles.{no_circle}

@@ -4,7 +4,7 @@ ghost use Rattle.sd_io.specs.outside.Shelves.{KeepsShelf};
 ghost use Rattle.sd_plan.specs.Plans.{Fits};
 ghost use Rattle.sd_plan.specs.topo.Network.{Each};
 ghost use Rattle.sd_plan.specs.topo.Topologies.{network};
-ghost use Rattle.sd_checker.specs.Verdicts.{IsAccepted};
+ghost use Rattle.sd_checker.specs.Conditions.{IsAccepted};
 ghost use Rattle.sd_files.specs.Inputs.{plan_in_file};
 ghost use Rattle.sd_files.specs.Texts.{texts_of};
 ghost use Rattle.sd_files.specs.Writes.{IsAllowed};

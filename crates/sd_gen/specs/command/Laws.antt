@@ -2,7 +2,7 @@
 use Rattle.std.specs.Prelude.{◌≡◌, ◌⊎◌, ℕ, List}
 use Rattle.sd_plan.specs.declared.Plan.{Plan}
 use Rattle.sd_plan.specs.Plans.{nothing_absent}
-use Rattle.sd_checker.specs.Verdicts.{IsAccepted}
+use Rattle.sd_checker.specs.Conditions.{IsAccepted}
 use Rattle.sd_planner.specs.Greedy.{IsGreedy}
 use Rattle.sd_gen.specs.fabric.Fabrics.{fabric, second_absent}
 use Rattle.sd_files.specs.declared.Status.{Status}

@@ -4,7 +4,7 @@ use Rattle.sd_plan.specs.topo.Network.{Network}
 use Rattle.sd_plan.specs.Plans.{Fits, nothing_absent}
 use Rattle.sd_plan.specs.declared.Absent.{Absent}
 use Rattle.sd_plan.specs.declared.Plan.{Plan}
-use Rattle.sd_checker.specs.Verdicts.{IsAccepted}
+use Rattle.sd_checker.specs.Conditions.{IsAccepted}
 use Rattle.sd_planner.specs.Greedy.{IsGreedy}
 use Rattle.sd_gen.specs.fabric.Fabrics.{second_absent}
 use Rattle.sd_files.specs.declared.Status.TheVariants.{PlanRefused}

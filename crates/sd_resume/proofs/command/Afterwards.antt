@@ -10,7 +10,7 @@ use Rattle.sd_sched.specs.declared.Event.{Event}
 use Rattle.sd_history.specs.World.{setting_over}
 use Rattle.sd_resume.specs.law.Law.{whole}
 use Rattle.sd_files.specs.Answering.{After, Allowed}
-use Rattle.sd_checker.specs.Verdicts.{IsAccepted}
+use Rattle.sd_checker.specs.Conditions.{IsAccepted}
 use Rattle.sd_files.specs.Inputs.{plan_in_file}
 use Rattle.sd_files.specs.Statuses.{is_among}
 use Rattle.sd_files.specs.Texts.{texts_of}

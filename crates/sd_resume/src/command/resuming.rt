@@ -6,7 +6,7 @@ ghost use Rattle.sd_plan.specs.topo.Topologies.{network};
 ghost use Rattle.sd_plan.specs.declared.Plan.{Plan as AnyPlan};
 ghost use Rattle.sd_plan.specs.Plans.{Fits};
 ghost use Rattle.sd_history.specs.World.{setting_over};
-ghost use Rattle.sd_checker.specs.Verdicts.{IsAccepted};
+ghost use Rattle.sd_checker.specs.Conditions.{IsAccepted};
 ghost use Rattle.sd_files.specs.Statuses.{is_among};
 ghost use Rattle.sd_files.specs.Texts.{texts_of};
 ghost use Rattle.sd_files.specs.Writes.{IsAllowed};

@@ -4,7 +4,7 @@ use Rattle.std.specs.Prelude.{◌≤◌, List, ◌∷◌, length, IsTrue, ℕ}
 use Rattle.sd_plan.specs.topo.Network.{Each}
 use Rattle.sd_plan.specs.topo.Limits.{IsNetwork}
 use Rattle.sd_plan.specs.Plans.{Fits}
-use Rattle.sd_checker.specs.Verdicts.{IsAccepted}
+use Rattle.sd_checker.specs.Conditions.{IsAccepted}
 use Rattle.sd_sched.specs.declared.Event.{Event}
 use Rattle.sd_sched.specs.Events.{reference_of}
 use Rattle.sd_history.specs.World.{Setting}

@@ -3,7 +3,7 @@ ghost use Rattle.std.specs.Prelude.{◌≤◌, ◌<◌, ◌^◌, length, IfOk};
 ghost use Rattle.sd_plan.specs.topo.Topologies.{network};
 ghost use Rattle.sd_plan.specs.topo.Network.{Each as OfEach};
 ghost use Rattle.sd_plan.specs.Plans.{Fits};
-ghost use Rattle.sd_checker.specs.Verdicts.{IsAccepted};
+ghost use Rattle.sd_checker.specs.Conditions.{IsAccepted};
 
 use sd_checker::{Verdict, check};
 use sd_num::NoMemory;

@@ -7,7 +7,7 @@ use Rattle.sd_plan.specs.declared.domain.DomainId.{DomainId}
 use Rattle.sd_plan.specs.declared.domain.DomainId.TheVariants as domain
 use Rattle.sd_plan.specs.Plans.{Fits}
 use Rattle.sd_checker.specs.check_root.Timing.{silence}
-use Rattle.sd_checker.specs.Verdicts.{IsAccepted}
+use Rattle.sd_checker.specs.Conditions.{IsAccepted}
 use Rattle.sd_drill.specs.recovery.Walks.{halves}
 use Rattle.sd_drill.specs.Drill.{IsWorst, quiet}
 use Rattle.sd_sched.specs.declared.Event.TheVariants as event

@@ -7,9 +7,8 @@ use Rattle.sd_plantext.specs.Reading as json
 use Rattle.sd_plan.specs.topo.Limits.{IsNetwork}
 use Rattle.sd_plan.specs.Plans.{Fits}
 use Rattle.sd_checker.specs.check_root.Timing.{timing_breach}
-use Rattle.sd_checker.specs.Conditions.{Holds}
+use Rattle.sd_checker.specs.Conditions.{Holds, IsAccepted}
 use Rattle.sd_checker.specs.Conditions as condition
-use Rattle.sd_checker.specs.Verdicts.{IsAccepted}
 use Rattle.sd_history.specs.Chronicle.{chronicle, IsHistory}
 use Rattle.sd_history.specs.Lines.{first_on_loop}
 use Rattle.sd_history.specs.Premises.{all_hold}

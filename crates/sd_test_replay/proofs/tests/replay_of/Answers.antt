@@ -1,6 +1,6 @@
 use Rattle.sd_plan.specs.topo.Topologies.{network}
 use Rattle.sd_plan.specs.Plans.{Fits}
-use Rattle.sd_checker.specs.Verdicts.{IsAccepted}
+use Rattle.sd_checker.specs.Conditions.{IsAccepted}
 use Rattle.sd_test_replay.proofs.Longer.{each_as}
 use Rattle.sd_test_replay.proofs.tests.replay_of.Goals as goal
 

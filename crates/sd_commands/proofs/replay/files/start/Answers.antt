@@ -4,7 +4,7 @@ use Rattle.sd_plan.specs.topo.Network.{Each}
 use Rattle.sd_plan.specs.topo.Topologies.{network}
 use Rattle.sd_plan.specs.Plans.{Fits}
 use Rattle.sd_plan.specs.declared.Plan.{Plan}
-use Rattle.sd_checker.specs.Verdicts.{IsAccepted}
+use Rattle.sd_checker.specs.Conditions.{IsAccepted}
 use Rattle.sd_files.specs.Texts.{texts_of}
 use Rattle.sd_files.specs.planfiles.PlanFiles.{AreRead}
 use Rattle.sd_commands.proofs.replay.Loading.{started_over}

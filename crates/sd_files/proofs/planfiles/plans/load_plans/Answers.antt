@@ -2,7 +2,7 @@ use Rattle.std.proofs.Common.{rules, ◌≡◌, ◌+◌, ◌++◌, ◌∷◌, []
 use Rattle.std.specs.Prelude.{IfSome, IsTrue, map, string_bytes}
 use Rattle.sd_plan.specs.topo.Topologies.{network}
 use Rattle.sd_plan.specs.Plans.{Fits}
-use Rattle.sd_checker.specs.Verdicts.{IsAccepted}
+use Rattle.sd_checker.specs.Conditions.{IsAccepted}
 use Rattle.sd_files.specs.Inputs.{plan_in_file}
 use Rattle.sd_files.specs.Texts.{texts_of}
 use Rattle.sd_files.specs.Writes.{IsAllowed}

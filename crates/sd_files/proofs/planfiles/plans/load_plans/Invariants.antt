@@ -3,7 +3,7 @@ use Rattle.std.specs.Prelude.{string_bytes}
 use Rattle.sd_plan.specs.topo.Network.{Each}
 use Rattle.sd_plan.specs.topo.Topologies.{network}
 use Rattle.sd_plan.specs.Plans.{Fits}
-use Rattle.sd_checker.specs.Verdicts.{IsAccepted}
+use Rattle.sd_checker.specs.Conditions.{IsAccepted}
 use Rattle.sd_files.specs.Texts.{texts_of}
 use Rattle.sd_files.specs.planfiles.PlanFiles.{AreRead}
 use Rattle.sd_files.proofs.planfiles.plans.load_plans.Given as goal

@@ -3,7 +3,7 @@ use Rattle.sd_plan.specs.topo.Network.{Each}
 use Rattle.sd_plan.specs.topo.Topologies.{network}
 use Rattle.sd_plan.specs.declared.Plan.{Plan}
 use Rattle.sd_plan.specs.Plans.{Fits}
-use Rattle.sd_checker.specs.Verdicts.{IsAccepted}
+use Rattle.sd_checker.specs.Conditions.{IsAccepted}
 use Rattle.sd_replay.proofs.replay.Replay.new.Goals as goal
 
 pub over-requires-clause-fit : goal.over-requires-clause-fit

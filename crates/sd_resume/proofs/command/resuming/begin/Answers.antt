@@ -2,7 +2,7 @@ use Rattle.std.proofs.Common.{sym, subst}
 use Rattle.sd_plan.specs.topo.Network.{Each, Network}
 use Rattle.sd_plan.specs.topo.Topologies.{network}
 use Rattle.sd_plan.specs.Plans.{Fits}
-use Rattle.sd_checker.specs.Verdicts.{IsAccepted}
+use Rattle.sd_checker.specs.Conditions.{IsAccepted}
 use Rattle.sd_resume.proofs.command.Takings.{begins}
 use Rattle.sd_resume.proofs.command.resuming.begin.Goals as goal
 

@@ -4,7 +4,7 @@ use Rattle.sd_plan.specs.topo.Topologies.{network}
 use Rattle.sd_plan.specs.declared.Plan.{Plan}
 use Rattle.sd_plan.specs.Plans.{Fits}
 use Rattle.sd_history.specs.World.{setting_over}
-use Rattle.sd_checker.specs.Verdicts.{IsAccepted}
+use Rattle.sd_checker.specs.Conditions.{IsAccepted}
 use Rattle.sd_resume.specs.command.Played.{HasPlayed}
 use Rattle.sd_resume.proofs.command.Afterwards.{each_drop}
 use Rattle.sd_resume.proofs.command.resuming.resume_beside.Goals as goal

@@ -1,7 +1,7 @@
 use Rattle.std.proofs.Common.{IfSome, List, map, string_bytes, subst, sym}
 use Rattle.sd_plan.specs.declared.Plan.{Plan}
 use Rattle.sd_plan.specs.Plans.{Fits}
-use Rattle.sd_checker.specs.Verdicts.{IsAccepted}
+use Rattle.sd_checker.specs.Conditions.{IsAccepted}
 use Rattle.sd_files.specs.Texts.{texts_of}
 use Rattle.sd_files.specs.Writes.{IsAllowed}
 use Rattle.sd_plan.specs.topo.Network.{Each}

@@ -1,7 +1,7 @@
 use Rattle.std.proofs.Common.{arith}
 use Rattle.sd_plan.specs.topo.Topologies.{network}
 use Rattle.sd_plan.specs.Plans.{Fits}
-use Rattle.sd_checker.specs.Verdicts.{IsAccepted}
+use Rattle.sd_checker.specs.Conditions.{IsAccepted}
 use Rattle.sd_test_replay.proofs.Longer.{each_longer}
 use Rattle.sd_test_replay.proofs.tests.accepted.accepted_plans.Goals as goal
 
