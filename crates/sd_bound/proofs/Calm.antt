@@ -37,7 +37,7 @@ use Rattle.sd_bound.specs.Bound.{failures}
 use Rattle.sd_bound.specs.Recovering.{steps_under}
 use Rattle.sd_bound.specs.Steady.{RecoversSteadily}
 use Rattle.sd_bound.specs.Calm.{RunsCalmly, CalmHolds}
-use Rattle.sd_bound.specs.timeouts.Settled.{IsUnderWay, IsWell}
+use Rattle.sd_bound.specs.timeouts.Settled.{IsUnderWay, IsSoundMember}
 use Rattle.sd_bound.specs.ages.Sums.{lag}
 use Rattle.sd_bound.proofs.Composing.{asked, held_at, held_when, aged}
 use Rattle.sd_bound.proofs.histories.Plain.{IsPlain, none_any}
@@ -135,7 +135,7 @@ module _ (net : Network) (plan : Plan) (budget : Budget) (d : ℕ) (x : Event) (
       way : IsUnderWay (alone net plan) 1 (x ∷ h) (event.Ask r d c) begun
       way = first_way (alone net plan) (x ∷ h) (event.Ask r d c) begun comes_ unstaged (least begun)
 
-      well_ : IsWell (alone net plan) 1 (failed_now (chronicle (alone net plan) (x ∷ h))) d
+      well_ : IsSoundMember (alone net plan) 1 (failed_now (chronicle (alone net plan) (x ∷ h))) d
       well_ =
           record {
             known = here.within;

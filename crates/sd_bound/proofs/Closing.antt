@@ -7,7 +7,7 @@ use Rattle.sd_num.specs.Lists.{map_or, leading}
 use Rattle.sd_plan.specs.declared.Duty.{Duty}
 use Rattle.sd_plan.specs.Plans.{is_member, members}
 use Rattle.sd_device.specs.Calls as calls
-use Rattle.sd_device.specs.Calls.{Call, Past, Did}
+use Rattle.sd_device.specs.Calls.{Call, Past, CallDone}
 use Rattle.sd_device.specs.Words.{after, transition_of, taken_up, takes_up, duty_now, epoch_now, is_sealed, is_seal as is_seal_call}
 use Rattle.sd_sched.specs.declared.Event.{Event}
 use Rattle.sd_sched.specs.declared.Event.TheVariants as event
@@ -108,7 +108,7 @@ has_so setting history n d of =
 pub epoch_same : (past : Past) (call : Call) → taken_up (transition_of past call) ≡ None → epoch_now (after past call) ≡ epoch_now past
 epoch_same past call none = ap (λ o. map_or (map_or (option_map Some o) (duty_now past) (λ told. told)) 0 (λ u. u.epoch)) none
 
-still_sealed : (x : Did) (did : List Did) (b : Bool) → b ≡ false
+still_sealed : (x : CallDone) (did : List CallDone) (b : Bool) → b ≡ false
     → (not (is_some (find takes_up did)) || list_any (λ y. is_seal_call y.call) (leading (λ y. not (takes_up y)) did)) ≡ true
     → (not (is_some (cond b (Some x) (find takes_up did))) || list_any (λ y. is_seal_call y.call) (cond (not b) (x ∷ leading (λ y. not (takes_up y)) did) []))
     ≡ true

@@ -14,7 +14,7 @@ use Rattle.sd_plan.specs.Plans.{members}
 use Rattle.sd_plan.specs.Duties.{duty_of}
 use Rattle.sd_device.specs.declared.msg.Flight.{Flight}
 use Rattle.sd_device.specs.Calls as calls
-use Rattle.sd_device.specs.Calls.{Making, Call, Past, Did}
+use Rattle.sd_device.specs.Calls.{Making, Call, Past, CallDone}
 use Rattle.sd_device.specs.Words.{after, transition_of, taken_up, duty_now, epoch_now, given_now, duty_given, since_entry}
 use Rattle.sd_sched.specs.declared.Event.{Event}
 use Rattle.sd_sched.specs.declared.Event.TheVariants as event
@@ -101,7 +101,7 @@ module _ (most : ℕ) (past : Past) (call : Call) (within : IsWithin most (epoch
   called_within gives =
       by (record { call = call; transition = transition_of past call }) (taken_up (transition_of past call)) refl gives (takes_given past call)
     where
-      by : (x : Did) (t : Option Duty) → x.call ≡ call → GivesOf most call → ((v : Duty) → t ≡ Some v → given_now past ≡ Some v)
+      by : (x : CallDone) (t : Option Duty) → x.call ≡ call → GivesOf most call → ((v : Duty) → t ≡ Some v → given_now past ≡ Some v)
           → IsWithin most (map_or (map_or (option_map Some t) (duty_now past) (λ told. told)) 0 (λ u. u.epoch))
           (find_map_or (λ y. option_map Some (duty_given y.call)) (if not (is_some t) then x ∷ since_entry past else []) None)
       by x None is gives taken =

@@ -55,7 +55,7 @@ use Rattle.sd_safety.proofs.waits.Standing.{times, sound}
 use Rattle.sd_safety.proofs.whole.Kept.{comes}
 use Rattle.sd_safety.proofs.whole.Silent.{are_silent}
 use Rattle.sd_safety.proofs.frame.Standing.{chosen}
-use Rattle.sd_bound.specs.timeouts.Settled.{the_plan, IsUnderWay, IsSettled, IsWell, Scene}
+use Rattle.sd_bound.specs.timeouts.Settled.{the_plan, IsUnderWay, IsSettled, IsSoundMember, Scene}
 use Rattle.sd_bound.specs.traces.Led.{Led, at_source, IsWithin}
 use Rattle.sd_bound.specs.chains.Chains.{Chain, passing, turning, IsTurned}
 use Rattle.sd_bound.proofs.histories.Failures.{era_within}
@@ -119,7 +119,7 @@ module _ (setting : Setting) (epoch : ℕ) (silent : AreSilent setting) (x : Eve
   limit = calm + turning setting.net (the_plan setting epoch)
 
   abbrev Well : ℕ → Type 0
-  Well y = IsWell setting epoch (failed_now (chronicle setting (x ∷ h))) y
+  Well y = IsSoundMember setting epoch (failed_now (chronicle setting (x ∷ h))) y
 
   past_limit : calm + turning setting.net (the_plan setting epoch) < reference_of e
   past_limit = omega (arith, late)
@@ -228,7 +228,7 @@ module _ (setting : Setting) (epoch : ℕ) (silent : AreSilent setting) (x : Eve
 
   -- Each device that comes to hear again
 
-  module _ (d : ℕ) (well : IsWell setting epoch (failed_now (chronicle setting (x ∷ h))) d) (fed : Fed setting.net (the_plan setting epoch) f d)
+  module _ (d : ℕ) (well : IsSoundMember setting epoch (failed_now (chronicle setting (x ∷ h))) d) (fed : Fed setting.net (the_plan setting epoch) f d)
       (within : IsWithin setting epoch f d long) where
     abbrev Served : Type 0
     Served = IsServed (chronicle setting (x ∷ h)) d calm (reference_of e - silence setting.net)
@@ -428,7 +428,7 @@ module _ (net : Network) (plan : Plan) (f : DomainId) (since : ℕ) (e x : Event
         (joined_in_window (seen_of (chronicle setting (x ∷ h))) d) counted
         (unjoined (seen_of (chronicle setting (x ∷ h))) d (no_window (seen_of (chronicle setting (x ∷ h))) unstaged_then))
 
-    well : IsWell (alone net plan) 1 (failed_now (chronicle (alone net plan) (x ∷ h))) d
+    well : IsSoundMember (alone net plan) 1 (failed_now (chronicle (alone net plan) (x ∷ h))) d
     well =
         let member : is_member (the_plan (alone net plan) 1) d ≡ true =
         subst (λ n. is_member (plan_numbered (alone net plan) n) d ≡ true) (first_era (alone net plan) (x ∷ h) unstaged_then) live.1 in

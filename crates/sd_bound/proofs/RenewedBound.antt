@@ -50,7 +50,7 @@ use Rattle.sd_bound.specs.Renewed.{IsRenewed, IsSettledIn}
 use Rattle.sd_bound.specs.RenewedBound.{IsRenewedSince, HearsAgainRenewed, IsHitOnce, AgesHoldRenewed, BoundHoldsRenewed}
 use Rattle.sd_bound.specs.ages.Sums.{lag, silence_at_most}
 use Rattle.sd_bound.specs.chains.Chains.{turning}
-use Rattle.sd_bound.specs.timeouts.Settled.{IsUnderWay, IsSettled, IsWell}
+use Rattle.sd_bound.specs.timeouts.Settled.{IsUnderWay, IsSettled, IsSoundMember}
 use Rattle.sd_bound.specs.traces.Led.{IsWithin}
 use Rattle.sd_bound.proofs.Bounded.{worst_covers}
 use Rattle.sd_bound.proofs.Composing.{aged}
@@ -264,7 +264,7 @@ module _ (setting : Setting) (f : DomainId) (since : ℕ) (e x : Event) (h : Lis
       → IsServed (chronicle setting (x ∷ h)) d since (reference_of e - silence setting.net)
   hears_so d counted fed long within short =
       let c : IsCounted setting (x ∷ h) d = counted_so setting (x ∷ h) e comes_ shut d counted in
-      let well : IsWell setting (era (chronicle setting (x ∷ h))) (failed_now (chronicle setting (x ∷ h))) d =
+      let well : IsSoundMember setting (era (chronicle setting (x ∷ h))) (failed_now (chronicle setting (x ∷ h))) d =
       record { known = c.known; member = c.member; self = (scene setting (era (chronicle setting (x ∷ h))) x h e since way_since later_at).well d c.up c.member } in
       served setting (era (chronicle setting (x ∷ h))) (are_silent setting) x h e since settled_since f quiet.hit.inside long short late_at d well fed within
 
@@ -420,7 +420,7 @@ module _ (setting : Setting) (f : DomainId) (at reference d counter : ℕ) (x : 
             (rounds_gap setting.net + 2 * (depth setting.net + 1) * delay setting.net)
             (upto_ reference (when first.moment) (heard_at steps d + lag setting.net) le heard_then)
         go (inl late) =
-            let well : IsWell setting epoch (failed_now steps) d =
+            let well : IsSoundMember setting epoch (failed_now steps) d =
             record {
               known = is_live.known;
               member = is_live.member;

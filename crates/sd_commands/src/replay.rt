@@ -3,11 +3,11 @@
 //!
 //! `order` is `replay` with commit wait: it adds what each report begins, ends and disorders.
 mod files;
-mod ordered;
+mod observer;
+mod order_work;
 mod reasons;
-mod replayed;
+mod replay_work;
 mod schedule;
-mod told;
 
 pub use files::Files;
 pub use reasons::print_line_fault;

@@ -10,7 +10,7 @@ use Rattle.sd_device.specs.declared.registers.Mode.{Mode}
 use Rattle.sd_device.specs.declared.registers.Mode.TheVariants.{Primary, Backup, Acting, Idle}
 use Rattle.sd_device.specs.declared.turns.Turn.{Turn}
 use Rattle.sd_device.specs.declared.turns.Turn.TheVariants.{Emit, TakeOver, Move, Stay}
-use Rattle.sd_device.specs.Calls.{Making, Started, Joined, Tick, Transition, Moved, TookOver, Emitted, Nothing, Did, Past}
+use Rattle.sd_device.specs.Calls.{Making, Started, Joined, Tick, Transition, Moved, TookOver, Emitted, Nothing, CallDone, Past}
 use Rattle.sd_device.specs.Words.{duty_now, is_acting, has_moved, is_sealed, heard, moved_at, sent_at, wait_to_move, transition_of, first_duty, starts_as_root, taken_up, takes_up, later_entry, is_commit}
 use Rattle.sd_device.specs.Rules.{is_backup_root, turn_of}
 use Rattle.sd_device.specs.Standing.{registers_of, last_of}
@@ -24,7 +24,7 @@ transition_by_turn Move = Moved
 transition_by_turn Stay = Nothing
 
 -- without a later entry the duty is that of the making
-pub same_duty : (did : List Did) (first : Option Duty) → find takes_up did ≡ None → find_map_or (λ x. option_map Some (taken_up x.transition)) did first ≡ first
+pub same_duty : (did : List CallDone) (first : Option Duty) → find takes_up did ≡ None → find_map_or (λ x. option_map Some (taken_up x.transition)) did first ≡ first
 same_duty [] first none = refl
 same_duty (x ∷ earlier) first none = go (taken_up x.transition) (same_duty earlier first) none
   where
@@ -35,7 +35,7 @@ same_duty (x ∷ earlier) first none = go (taken_up x.transition) (same_duty ear
     go None later none = later none
 
 -- what a tick turns on
-record Situation (making : Making) (entry : Option Did) (duty : Option Duty) (acts moved sealed took_over : Bool) (heard moved_at last : ℕ) : Type 0 where
+record Situation (making : Making) (entry : Option CallDone) (duty : Option Duty) (acts moved sealed took_over : Bool) (heard moved_at last : ℕ) : Type 0 where
   first : entry ≡ None → duty ≡ first_duty making
   acting : acts ≡ (map_or entry (starts_as_root making) (λ x. is_commit x.transition) || took_over)
   took : took_over ≡ true → moved ≡ true
@@ -43,7 +43,7 @@ record Situation (making : Making) (entry : Option Did) (duty : Option Duty) (ac
   hears : map_or entry (is_some (first_duty making)) (λ x. not (is_commit x.transition)) ≡ true → moved ≡ false → last ≡ heard
   order : last ≡ max heard moved_at
 
-abbrev lets_move : Making → Option Did → Bool
+abbrev lets_move : Making → Option CallDone → Bool
 lets_move making entry = map_or entry (is_some (first_duty making)) (λ x. not (is_commit x.transition))
 
 pub no_wait_as_root : (making : Making) → starts_as_root making ≡ true → option_and_then wait_to_move (first_duty making) ≡ None
@@ -59,7 +59,7 @@ no_wait_as_root (Started duty counter clock eps) acts = go duty.role acts
 no_wait_as_root (Joined rates counter clock eps) acts = cc
 
 -- a device that acts does not wait to move
-acting_waits_not : (making : Making) (entry : Option Did) (duty : Option Duty) (took_over moved : Bool)
+acting_waits_not : (making : Making) (entry : Option CallDone) (duty : Option Duty) (took_over moved : Bool)
     → (entry ≡ None → duty ≡ first_duty making) → (took_over ≡ true → moved ≡ true)
     → (map_or entry (starts_as_root making) (λ x. is_commit x.transition) || took_over) ≡ true → lets_move making entry ≡ true → moved ≡ false
     → option_and_then wait_to_move duty ≡ None
@@ -77,7 +77,7 @@ acting_waits_not making None duty false moved first took acts lets still =
     go false a = a
 
 -- a device with a duty that does not act may move
-others_may_move : (making : Making) (entry : Option Did) (duty : Duty) (took_over : Bool)
+others_may_move : (making : Making) (entry : Option CallDone) (duty : Duty) (took_over : Bool)
     → (entry ≡ None → Some duty ≡ first_duty making) → (map_or entry (starts_as_root making) (λ x. is_commit x.transition) || took_over) ≡ false
     → lets_move making entry ≡ true
 others_may_move making None duty took_over first acts = rw (← first refl) refl
@@ -129,7 +129,7 @@ no_duty_turn false true = refl
 no_duty_turn false false = refl
 
 -- the registers decide what the words say
-decides : (making : Making) (entry : Option Did) (duty : Option Duty) (acts moved sealed took_over : Bool) (heard moved_at last sent counter : ℕ)
+decides : (making : Making) (entry : Option CallDone) (duty : Option Duty) (acts moved sealed took_over : Bool) (heard moved_at last sent counter : ℕ)
     → Situation making entry duty acts moved sealed took_over heard moved_at last
     → (if acts && map_or duty false (λ d. nat_le d.period (counter - sent)) then Emitted
     else if map_or duty false is_backup_root && moved && not acts

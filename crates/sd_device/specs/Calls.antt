@@ -39,11 +39,11 @@ pub data Transition : Type 0 where
   Nothing : Transition
 
 -- a call with what it did
-pub record Did : Type 0 where
+pub record CallDone : Type 0 where
   pub call : Call
   pub transition : Transition
 
 -- the life of a device with what each call did, the newest first
 pub record Past : Type 0 where
   pub making : Making
-  pub did : List Did
+  pub did : List CallDone

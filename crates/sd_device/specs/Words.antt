@@ -14,7 +14,7 @@ use Rattle.sd_device.specs.declared.msg.Message.{Message}
 use Rattle.sd_device.specs.msg.Stamps.{stamp, is_newer, carried, message_of}
 use Rattle.sd_device.specs.declared.Effect.{Effect}
 use Rattle.sd_device.specs.declared.Effect.TheVariants.{Quiet, Send}
-use Rattle.sd_device.specs.Calls.{Making, Started, Joined, Call, Tick, Receive, Fix, Give, Commit, Seal, Transition, Entered, Committed, Recommitted, Accepted, Moved, TookOver, Emitted, Nothing, Did, Past}
+use Rattle.sd_device.specs.Calls.{Making, Started, Joined, Call, Tick, Receive, Fix, Give, Commit, Seal, Transition, Entered, Committed, Recommitted, Accepted, Moved, TookOver, Emitted, Nothing, CallDone, Past}
 
 -- the counter at which a device was made
 abbrev pub making_counter : Making → ℕ
@@ -37,7 +37,7 @@ taken_up (Recommitted duty) = Some duty
 taken_up _ = None
 
 -- the call took up a duty
-abbrev pub takes_up : Did → Bool
+abbrev pub takes_up : CallDone → Bool
 takes_up x = is_some (taken_up x.transition)
 
 -- the edge over which a call accepted a message, an entering receipt among them
@@ -57,11 +57,11 @@ is_takeover TookOver = true
 is_takeover _ = false
 
 -- The entry is the latest of the making, the commits and the entering receipts. What came after it:
-abbrev pub since_entry : Past → List Did
+abbrev pub since_entry : Past → List CallDone
 since_entry past = leading (λ x. not (takes_up x)) past.did
 
 -- the entry, where it is no making
-abbrev pub later_entry : Past → Option Did
+abbrev pub later_entry : Past → Option CallDone
 later_entry past = find takes_up past.did
 
 -- the duty at the making: a join has none
@@ -155,7 +155,7 @@ received_stamp (Receive link message counter) before = message.stamp
 received_stamp _ before = before
 
 -- the stamp after a call, from the one before it
-abbrev pub stamp_after : Did → Stamp → Stamp
+abbrev pub stamp_after : CallDone → Stamp → Stamp
 stamp_after x before =
     elim x.transition [
       | Entered duty edge ↦ received_stamp x.call before
@@ -167,7 +167,7 @@ stamp_after x before =
     ]
 
 -- the stamp after these calls
-abbrev pub stamp_of : List Did → Stamp
+abbrev pub stamp_of : List CallDone → Stamp
 stamp_of [] = stamp 0 0
 stamp_of (x ∷ earlier) = stamp_after x (stamp_of earlier)
 
@@ -176,7 +176,7 @@ abbrev pub stamp_now : Past → Stamp
 stamp_now past = stamp_of past.did
 
 -- the counter of a call that emits: an emission, a takeover, or a commit that made the device act
-abbrev pub emits : Did → Option ℕ
+abbrev pub emits : CallDone → Option ℕ
 emits x =
     elim x.transition [
       | Committed duty ↦ counter_of x.call
@@ -195,7 +195,7 @@ first_estimate (Started duty counter clock eps) = estimate_at clock eps counter
 first_estimate (Joined rates counter clock eps) = estimate_at clock eps counter
 
 -- the estimate that a call sets: a fix its clock and uncertainty, an accepted receipt the message's, corrected by the bounds of the edge
-abbrev pub estimate_set : Did → Option Estimate
+abbrev pub estimate_set : CallDone → Option Estimate
 estimate_set x =
     elim x.call [
       | Receive link message counter ↦ option_map (λ edge. corrected (carried message) edge.bounds counter) (accepted_over x.transition)
@@ -294,7 +294,7 @@ emitted past None = Quiet
 emitted past (Some counter) = Send (message_of (epoch_now past) (stamp_now past) (report_at past counter))
 
 -- what the latest call sent: an accepted receipt the estimate, an emission the report at its counter
-abbrev pub effect_of_latest : Past → Did → Effect
+abbrev pub effect_of_latest : Past → CallDone → Effect
 effect_of_latest past x =
     elim x.transition [
       | Entered duty edge ↦ Send (relayed past)

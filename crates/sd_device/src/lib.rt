@@ -10,7 +10,7 @@ mod rebases;
 mod receipts;
 mod registers;
 mod turns;
-mod years;
+mod wide;
 
 use crate::msg::Message;
 pub use device::Device;

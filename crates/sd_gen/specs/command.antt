@@ -3,4 +3,4 @@ pub mod Cases
 pub mod Laws
 pub mod OneCase
 pub mod Planned
-pub mod Replayed
+pub mod CaseRuns

@@ -10,20 +10,20 @@ ghost use Rattle.sd_files.specs.Writes.{IsAllowed};
 ghost use Rattle.sd_gen.specs.command.Cases.{IsCase, IsCaseOver};
 ghost use Rattle.sd_gen.specs.command.Sizes.{IsWithin};
 
+mod case_run;
 mod plans;
-mod replayed;
 mod tally;
 
 use crate::fabric_topology;
 use plans::greedy_plans;
-use replayed::replay_case;
+use case_run::replay_case;
 use sd_files::{Answer, CommandError, Status};
 use sd_plan::topo::Topology;
 use std::alloc::Global;
 
 /// The sizes of a network of leaves and spines.
 #[derive(Clone, Copy, Debug, PartialEq, Eq)]
-pub struct Fabric {
+pub struct FabricSize {
     /// 2 to 256.
     pub leaves: u32,
     /// 3 to 32.
@@ -35,7 +35,7 @@ pub struct Fabric {
 /// The answer is the line `case` with what its tally counts, with the status `Done`, or `Broken`
 /// where a premise broke or an alarm was due; or it is the line of the first greedy plan that the
 /// checker refuses. The only error is out of memory.
-pub fn case(alloc: Global, number: u64, fabric: Fabric) -> Result<Answer, CommandError>
+pub fn case(alloc: Global, number: u64, fabric: FabricSize) -> Result<Answer, CommandError>
     requires { IsWithin fabric }
     ensures makes { IsAllowed (IsCase number fabric.leaves fabric.spines) result }
     ensures gives { IfOk result

@@ -6,7 +6,7 @@ ghost use Rattle.sd_history.specs.Nodes.{NodeStep, steps_of};
 ghost use Rattle.sd_fleet.specs.Standing.{StandsFor};
 ghost use Rattle.sd_replay.specs.Standing.{parent_row_in, parent_row_at, IsParentTable, IsStepOf, HasAlarms};
 
-use crate::sights::{parent_row_of, update_rows};
+use crate::observe::{parent_row_of, update_rows};
 use crate::watch::parent_table::{ParentRow, ParentTable};
 use sd_device::Node;
 use sd_fleet::Fleet;

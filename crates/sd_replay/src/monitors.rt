@@ -15,7 +15,7 @@ ghost use Rattle.sd_replay.specs.Troubles.{found_with};
 
 use crate::alarms::{NO_ALARMS, alarms_of};
 use crate::judging::judge;
-use crate::sights::collect;
+use crate::observe::collect;
 use crate::trouble::Trouble;
 use crate::watch::parent_table::ParentTable;
 use sd_device::Node;

@@ -23,7 +23,7 @@ ghost use Rattle.sd_replay.specs.Standing.{HasRun, HasSeen, room_of};
 
 use crate::event_output::EventOutput;
 use crate::monitors::Monitors;
-use crate::sights::acts_named;
+use crate::observe::acts_named;
 use crate::{PlanList, ReplayFault, Tally};
 use sd_device::Node;
 use sd_device::msg::{Flight, Observer};

@@ -14,11 +14,11 @@
 //! Numbers are decimal, with no leading zero. Devices and links go to 2^32 - 1, all others to 2^60.
 #![tactic(auto)]
 
-mod eights;
+mod digits_by_eight;
+mod event_of_fields;
 mod events;
 mod fast;
 mod fields;
-mod making;
 mod numbers;
 mod printing;
 mod reading;

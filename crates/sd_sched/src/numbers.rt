@@ -8,7 +8,7 @@ ghost use lib.Lanes.{number_l};
 ghost use Rattle.sd_sched.specs.InPlace.{HasNumber, is_at};
 ghost use Rattle.sd_sched.specs.Words.{IsOfDigits};
 
-use crate::eights::{Digits, digits_in, number_in, word_at};
+use crate::digits_by_eight::{Digits, digits_in, number_in, word_at};
 use crate::fields::is_plain;
 use core::dec2flt::ten_to;
 

@@ -19,7 +19,7 @@ use Rattle.sd_files.specs.Answering.{Allowed}
 use Rattle.sd_files.specs.declared.Status.{Status}
 use Rattle.sd_files.specs.planfiles.PlanFiles.{AfterVerdict}
 use Rattle.sd_gen.specs.command.Cases.{AfterGreedy, IsTallied, case_tally}
-use Rattle.sd_gen.specs.declared.command.Fabric.{Fabric}
+use Rattle.sd_gen.specs.declared.command.FabricSize.{FabricSize}
 use Rattle.sd_gen.proofs.command.Histories.{case_is_history}
 use Rattle.sd_gen.proofs.command.Sized.{fabric_is_network}
 use Rattle.sd_headline.specs.Headlines.{no_case_alarm}
@@ -58,7 +58,7 @@ module _ (net : Network) (is : IsNetwork net) (bytes : List ℕ) (status : Statu
       } in
       ap no_case_alarm told.0 ∙ tally_is_calm setting sound (history_of setting number) (case_is_history setting number)
 
-pub case_keeps_alarms : (number : ℕ) (sizes : Fabric) → CaseKeepsAlarms number sizes
+pub case_keeps_alarms : (number : ℕ) (sizes : FabricSize) → CaseKeepsAlarms number sizes
 case_keeps_alarms number sizes within bytes status written =
     let net = fabric sizes.leaves sizes.spines in
     let is : IsNetwork net = fabric_is_network sizes within in

@@ -7,7 +7,7 @@ use Rattle.sd_num.specs.Decimals.{number}
 use Rattle.sd_num.specs.Lists.{map_or}
 use Rattle.sd_num.specs.declared.NumFault.{NumFault}
 use Rattle.sd_gen.specs.command.Sizes as sizes
-use Rattle.sd_gen.specs.declared.command.Fabric.{Fabric}
+use Rattle.sd_gen.specs.declared.command.FabricSize.{FabricSize}
 use Rattle.sd_top.specs.Words.{Command, but_last, budget_of, case_of, command_of, fabric_of, if_within, number_from, of_plans, over_plans, takes_plans, with_fixed, with_plans}
 use Rattle.sd_top.specs.Words.Command.{Solo, Plan as PlanOf, Check, Renew, Replay, Case, Migrate, Order, Twoway, Drill}
 
@@ -60,7 +60,7 @@ given_within low high (Ok m) n given = by (nat_le low m && nat_le m high) refl g
         subst (λ (k : ℕ). (low ≤ k) × (k ≤ high)) same (leb-true low m parts.0, leb-true m high parts.1)
 
 -- and so are the sizes of a case
-fabric_within : (leaves spines : List ℕ) (fabric : Fabric) → fabric_of leaves spines ≡ Some fabric → sizes.IsWithin fabric
+fabric_within : (leaves spines : List ℕ) (fabric : FabricSize) → fabric_of leaves spines ≡ Some fabric → sizes.IsWithin fabric
 fabric_within leaves spines fabric given =
     by (number_from 2 256 leaves) (number_from 3 32 spines) (given_within 2 256 (number leaves)) (given_within 3 32 (number spines)) given
   where
@@ -71,7 +71,7 @@ fabric_within leaves spines fabric given =
     by (Some l) (Some s) first second given =
         let one = first l refl in
         let two = second s refl in
-        let same : ◌≡◌ {A = Fabric} (record { leaves = l; spines = s }) fabric = cc in
+        let same : ◌≡◌ {A = FabricSize} (record { leaves = l; spines = s }) fabric = cc in
         subst sizes.IsWithin same (record { some_leaves = one.0; few_leaves = one.1; some_spines = two.0; few_spines = two.1 })
 
 case_within : (any leaves spines : List ℕ) → IsWithin (case_of any leaves spines)

@@ -4,7 +4,7 @@ use Rattle.sd_files.specs.declared.Status.{Status}
 use Rattle.sd_commands.specs.replay.Replays.{IsReplay, IsOrder}
 use Rattle.sd_gen.specs.command.Cases.{IsCase}
 use Rattle.sd_gen.specs.command.Sizes.{IsWithin}
-use Rattle.sd_gen.specs.declared.command.Fabric.{Fabric}
+use Rattle.sd_gen.specs.declared.command.FabricSize.{FabricSize}
 use Rattle.sd_headline.specs.Headlines.{no_case_alarm, no_early_alarm, no_early_interval, no_early_disorder}
 
 module _ (topology : List ℕ) (plans : List (List ℕ)) (schedule : List ℕ) where
@@ -26,6 +26,6 @@ module _ (topology : List ℕ) (plans : List (List ℕ)) (schedule : List ℕ) w
   OrderKeepsAlarms = 1 ≤ length plans → (bytes : List ℕ) (status : Status) → IsOrder topology plans schedule bytes status → IsTrue (no_early_alarm bytes)
 
 -- the printed number of alarms is 0 where the number of broken lines is 0
-abbrev pub CaseKeepsAlarms : (number : ℕ) → Fabric → Type 0
+abbrev pub CaseKeepsAlarms : (number : ℕ) → FabricSize → Type 0
 CaseKeepsAlarms number fabric = IsWithin fabric → (bytes : List ℕ) (status : Status) → IsCase number fabric.leaves fabric.spines bytes status
     → IsTrue (no_case_alarm bytes)

@@ -5,7 +5,7 @@ use Rattle.sd_num.specs.Decimals.{number}
 use Rattle.sd_num.specs.Lists.{map_or}
 use Rattle.sd_num.specs.declared.NumFault.{NumFault}
 use Rattle.sd_drill.specs.declared.Budget.{Budget}
-use Rattle.sd_gen.specs.declared.command.Fabric.{Fabric}
+use Rattle.sd_gen.specs.declared.command.FabricSize.{FabricSize}
 
 -- a command, with the names of its files and its numbers
 pub data Command : Type 0 where
@@ -14,7 +14,7 @@ pub data Command : Type 0 where
   Check : (topology plan : List ℕ) → Command
   Renew : (topology plan absent : List ℕ) → Command
   Replay : (topology : List ℕ) (plans : List (List ℕ)) (schedule : List ℕ) → Command
-  Case : (number : ℕ) (fabric : Fabric) → Command
+  Case : (number : ℕ) (fabric : FabricSize) → Command
   Migrate : (topology : List ℕ) → Command
   Order : (topology : List ℕ) (plans : List (List ℕ)) (schedule : List ℕ) → Command
   Twoway : (topology exchanges : List ℕ) → Command
@@ -45,7 +45,7 @@ abbrev pub number_from : ℕ → ℕ → List ℕ → Option ℕ
 number_from low high word = if_within low high (number word)
 
 -- the sizes of the words for leaves and spines
-abbrev pub fabric_of : List ℕ → List ℕ → Option Fabric
+abbrev pub fabric_of : List ℕ → List ℕ → Option FabricSize
 fabric_of leaves spines = map_or (number_from 2 256 leaves) None (λ l. map_or (number_from 3 32 spines) None (λ s. Some (record { leaves = l; spines = s })))
 
 -- the case of the words for its number and its sizes

@@ -7,7 +7,7 @@ ghost use Rattle.sd_top.specs.Words as meaning;
 
 use sd_commands::replay::Files;
 use sd_drill::Budget;
-use sd_gen::command::Fabric;
+use sd_gen::command::FabricSize;
 use sd_num::read_u64;
 
 /// A command, with the names of its files and its numbers.
@@ -33,7 +33,7 @@ pub(crate) enum Command<'w> {
     },
     Case {
         number: u64,
-        fabric: Fabric,
+        fabric: FabricSize,
     },
     Migrate {
         topology: &'w str,
@@ -105,13 +105,13 @@ fn number_from(word: &str, low: u64, high: u64) -> Option<u64>
 }
 
 /// The sizes of the words for leaves and spines.
-fn fabric_of(leaves: &str, spines: &str) -> Option<Fabric>
+fn fabric_of(leaves: &str, spines: &str) -> Option<FabricSize>
     ensures is { result ≡ meaning.fabric_of leaves.now spines.now }
     ensures limits { IfSome result IsWithin }
 {
     let leaves = number_from(leaves, 2, 256)?;
     let spines = number_from(spines, 3, 32)?;
-    Some(Fabric {
+    Some(FabricSize {
         leaves: leaves as u32,
         spines: spines as u32,
     })

@@ -219,7 +219,7 @@ by_call setting steps r d call o (Some past) sends f a =
 -- at a tick a device sends what it holds, as it reports it at the counter
 tick_sends : (past : Past) (counter : ℕ) (a b c : Bool) (m : Message)
     → (let transition = if a then calls.Emitted else if b then calls.TookOver else if c then calls.Moved else calls.Nothing in
-    let x : calls.Did = record { call = calls.Tick counter; transition = transition } in
+    let x : calls.CallDone = record { call = calls.Tick counter; transition = transition } in
     effect_of_latest (record { making = past.making; did = x ∷ past.did }) x) ≡ Send m
     → (m.clock ≡ (report_at past counter).clock) × (m.eps ≡ (report_at past counter).eps)
 tick_sends past counter true b c m same = (sym (ap (λ (n : Message). n.clock) (send_same same)), sym (ap (λ (n : Message). n.eps) (send_same same)))

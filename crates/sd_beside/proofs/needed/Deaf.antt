@@ -8,14 +8,14 @@ use Rattle.sd_plan.specs.declared.Edge.{Edge}
 use Rattle.sd_plan.specs.declared.Role.TheVariants.{Ordinary}
 use Rattle.sd_device.specs.declared.msg.Message.{Message}
 use Rattle.sd_device.specs.msg.Stamps.{is_newer}
-use Rattle.sd_device.specs.Calls.{Started, Call, Tick, Receive, Did, Past, Transition, Nothing, Moved}
+use Rattle.sd_device.specs.Calls.{Started, Call, Tick, Receive, CallDone, Past, Transition, Nothing, Moved}
 use Rattle.sd_device.specs.Words.{starts_as_root, accepted_over, is_move, is_takeover, duty_given, is_acting, may_move, is_sealed, has_moved, duty_now, parent_edge, wait_to_move, emits_at, takes_over_at, moves_at, transition_of, after, accepted_by, entered_by, over_link, epoch_now, stamp_now}
 use Rattle.sd_beside.proofs.needed.Pasts.{is_plain, Plain, since_is, duty_is, given_none}
 use Rattle.sd_beside.proofs.needed.Still.{Still, still_plain, is_nothing, nothing_is, did_nothing, on_primary, not_acting, just_moved}
 use Rattle.sd_beside.proofs.needed.Turns.{plain_on, acting_after}
 
 -- the call accepted nothing
-abbrev pub heard_nothing : Did → Bool
+abbrev pub heard_nothing : CallDone → Bool
 heard_nothing x = not (is_some (accepted_over x.transition))
 
 -- the device follows this edge and has heard nothing; it has moved, or has no wait to move
@@ -88,7 +88,7 @@ module _ (duty : Duty) (edge : Option Edge) (past : Past) (s : Settled duty edge
       either true = refl
       either false = refl
 
-all_heard : (did : List Did) → list_all did_nothing did ≡ true → list_all heard_nothing did ≡ true
+all_heard : (did : List CallDone) → list_all did_nothing did ≡ true → list_all heard_nothing did ≡ true
 all_heard [] all = refl
 all_heard (x ∷ xs) all =
     let (here, rest) = and_parts (did_nothing x) (list_all did_nothing xs) all in

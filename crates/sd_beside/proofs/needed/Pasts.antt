@@ -6,31 +6,31 @@ use Rattle.std.proofs.lemmas.Bool.{and_parts, or_from, not-true}
 use Rattle.sd_num.specs.Lists.{map_or, find_map_or, leading}
 use Rattle.sd_plan.specs.declared.Duty.{Duty}
 use Rattle.sd_num.proofs.Shared.{none_if_not_some}
-use Rattle.sd_device.specs.Calls.{Started, Did, Past}
+use Rattle.sd_device.specs.Calls.{Started, CallDone, Past}
 use Rattle.sd_device.specs.Words.{takes_up, taken_up, duty_given, later_entry, since_entry, duty_now, given_now}
 
 -- Calls of one kind
 
-pub latest_none : {B : Type 0} (p : Did → Bool) (f : Did → Option B) (d : B) (did : List Did) → ((x : Did) → p x ≡ true → f x ≡ None)
+pub latest_none : {B : Type 0} (p : CallDone → Bool) (f : CallDone → Option B) (d : B) (did : List CallDone) → ((x : CallDone) → p x ≡ true → f x ≡ None)
     → list_all p did ≡ true → find_map_or f did d ≡ d
 latest_none p f d [] each all = refl
 latest_none p f d (x ∷ xs) each all =
     let (here, rest) = and_parts (p x) (list_all p xs) all in
     ap (λ o. map_or o (find_map_or f xs d) (λ told. told)) (each x here) ∙ latest_none p f d xs each rest
 
-pub any_none : (p q : Did → Bool) (did : List Did) → ((x : Did) → p x ≡ true → q x ≡ false) → list_all p did ≡ true → list_any q did ≡ false
+pub any_none : (p q : CallDone → Bool) (did : List CallDone) → ((x : CallDone) → p x ≡ true → q x ≡ false) → list_all p did ≡ true → list_any q did ≡ false
 any_none p q [] each all = refl
 any_none p q (x ∷ xs) each all =
     let (here, rest) = and_parts (p x) (list_all p xs) all in
     or_from (q x) (list_any q xs) (each x here) (any_none p q xs each rest)
 
-pub find_none_of : (p q : Did → Bool) (did : List Did) → ((x : Did) → p x ≡ true → q x ≡ false) → list_all p did ≡ true → find q did ≡ None
+pub find_none_of : (p q : CallDone → Bool) (did : List CallDone) → ((x : CallDone) → p x ≡ true → q x ≡ false) → list_all p did ≡ true → find q did ≡ None
 find_none_of p q [] each all = refl
 find_none_of p q (x ∷ xs) each all =
     let (here, rest) = and_parts (p x) (list_all p xs) all in
     rw (each x here) (find_none_of p q xs each rest)
 
-pub leading_all : (p q : Did → Bool) (did : List Did) → ((x : Did) → p x ≡ true → q x ≡ true) → list_all p did ≡ true → leading q did ≡ did
+pub leading_all : (p q : CallDone → Bool) (did : List CallDone) → ((x : CallDone) → p x ≡ true → q x ≡ true) → list_all p did ≡ true → leading q did ≡ did
 leading_all p q [] each all = refl
 leading_all p q (x ∷ xs) each all =
     let (here, rest) = and_parts (p x) (list_all p xs) all in
@@ -39,7 +39,7 @@ leading_all p q (x ∷ xs) each all =
 -- No other duty
 
 -- the call neither took up a duty nor gave one
-abbrev pub is_plain : Did → Bool
+abbrev pub is_plain : CallDone → Bool
 is_plain x = not (takes_up x) && not (is_some (duty_given x.call))
 
 -- the device was started with this duty at counter 0, and has no other
@@ -47,14 +47,14 @@ pub record Plain (duty : Duty) (past : Past) : Type 0 where
   pub made : past.making ≡ Started duty 0 0 0
   pub did : list_all is_plain past.did ≡ true
 
-plain_takes : (x : Did) → is_plain x ≡ true → takes_up x ≡ false
+plain_takes : (x : CallDone) → is_plain x ≡ true → takes_up x ≡ false
 plain_takes x is = not-true (takes_up x) (and_parts (not (takes_up x)) (not (is_some (duty_given x.call))) is).0
 
-plain_gives : (x : Did) → is_plain x ≡ true → duty_given x.call ≡ None
+plain_gives : (x : CallDone) → is_plain x ≡ true → duty_given x.call ≡ None
 plain_gives x is =
     none_if_not_some (duty_given x.call) (not-true (is_some (duty_given x.call)) (and_parts (not (takes_up x)) (not (is_some (duty_given x.call))) is).1)
 
-plain_takes_none : (x : Did) → is_plain x ≡ true → taken_up x.transition ≡ None
+plain_takes_none : (x : CallDone) → is_plain x ≡ true → taken_up x.transition ≡ None
 plain_takes_none x is = none_if_not_some (taken_up x.transition) (plain_takes x is)
 
 module _ (duty : Duty) (past : Past) (plain : Plain duty past) where

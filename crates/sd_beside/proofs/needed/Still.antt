@@ -13,7 +13,7 @@ use Rattle.sd_device.specs.msg.Stamps.{is_newer}
 use Rattle.sd_device.specs.declared.Effect.{Effect}
 use Rattle.sd_device.specs.declared.Effect.TheVariants.{Quiet, Send}
 use Rattle.sd_beside.proofs.needed.Pasts.{latest_none, any_none, is_plain, Plain, no_entry, since_is, duty_is, given_none}
-use Rattle.sd_device.specs.Calls.{Started, Call, Tick, Receive, Did, Past, Transition, Moved, Nothing}
+use Rattle.sd_device.specs.Calls.{Started, Call, Tick, Receive, CallDone, Past, Transition, Moved, Nothing}
 use Rattle.sd_device.specs.Words.{taken_up, accepted_over, counter_of, is_move, is_takeover, duty_given, duty_now, heard, has_moved, is_acting, is_sealed, may_move, moved_at, starts_as_root, parent_edge, parent_now, wait_to_move, emits_at, takes_over_at, moves_at, is_backup_root_now, transition_of, after, effect_of, accepted_by, entered_by, over_link, epoch_now, stamp_now}
 
 abbrev pub is_nothing : Transition → Bool
@@ -21,7 +21,7 @@ is_nothing Nothing = true
 is_nothing _ = false
 
 -- the call did nothing, and gave no duty
-abbrev pub did_nothing : Did → Bool
+abbrev pub did_nothing : CallDone → Bool
 did_nothing x = is_nothing x.transition && not (is_some (duty_given x.call))
 
 -- the device was started with this duty at counter 0, and has done nothing since
@@ -33,11 +33,11 @@ pub nothing_is : (t : Transition) → is_nothing t ≡ true → t ≡ Nothing
 nothing_is Nothing is = refl
 nothing_is _ is = cc
 
-record Nought (x : Did) : Type 0 where
+record Nought (x : CallDone) : Type 0 where
   pub transition : x.transition ≡ Nothing
   pub call : duty_given x.call ≡ None
 
-nought : (x : Did) → did_nothing x ≡ true → Nought x
+nought : (x : CallDone) → did_nothing x ≡ true → Nought x
 nought x is =
     let (front, back) = and_parts (is_nothing x.transition) (not (is_some (duty_given x.call))) is in
     record { transition = nothing_is x.transition front; call = none_if_not_some (duty_given x.call) (not-true (is_some (duty_given x.call)) back) }
@@ -46,7 +46,7 @@ nought x is =
 pub still_plain : (duty : Duty) (past : Past) → Still duty past → Plain duty past
 still_plain duty past still = record { made = still.made; did = all_plain past.did still.did }
   where
-    all_plain : (did : List Did) → list_all did_nothing did ≡ true → list_all is_plain did ≡ true
+    all_plain : (did : List CallDone) → list_all did_nothing did ≡ true → list_all is_plain did ≡ true
     all_plain [] all = refl
     all_plain (x ∷ xs) all =
         let (here, rest) = and_parts (did_nothing x) (list_all did_nothing xs) all in

@@ -13,14 +13,14 @@ use Rattle.sd_num.specs.clock.Estimates.{report_of}
 use Rattle.sd_device.specs.declared.msg.Stamp.{Stamp}
 use Rattle.sd_device.specs.msg.Stamps.{is_newer, message_of}
 use Rattle.sd_device.specs.declared.Effect.TheVariants.{Send}
-use Rattle.sd_device.specs.Calls.{Making, Started, Joined, Call, Tick, Receive, Fix, Give, Commit, Seal, Transition, Entered, Committed, Recommitted, Accepted, Moved, TookOver, Emitted, Nothing, Did, Past}
+use Rattle.sd_device.specs.Calls.{Making, Started, Joined, Call, Tick, Receive, Fix, Give, Commit, Seal, Transition, Entered, Committed, Recommitted, Accepted, Moved, TookOver, Emitted, Nothing, CallDone, Past}
 use Rattle.sd_device.specs.Words.{making_counter, counter_of, taken_up, takes_up, accepted_over, is_move, is_takeover, since_entry, later_entry, first_duty, duty_now, epoch_now, first_rates, rates_now, is_seal, is_sealed, duty_given, given_now, heard, has_moved, moved_at, starts_as_root, is_commit, is_acting, parent_edge, received_stamp, stamp_after, stamp_of, stamp_now, emits, sent_at, first_estimate, estimate_set, estimate_now, report_at, wait_to_move, may_move, moves_at, is_backup_root_now, takes_over_at, emits_at, over_link, entered_by, accepted_by, transition_of, after, relayed, emitted, effect_of_latest, effect_of}
 use Rattle.sd_history.specs.Chronicle.{answers_by}
 use Rattle.sd_beside.specs.translation.Moves.{moved_report, moved_estimate, moved_message, moved_effect, moved_making, moved_call}
 use Rattle.sd_beside.proofs.translation.Lists.{any_mapped, told_mapped, leading_mapped, find_mapped, look_up_moved, number_moved, MovedOrNone}
 
 -- a call with what it did, and the past of a device
-abbrev pub moved_did : (time by : ℕ) → Did → Did
+abbrev pub moved_did : (time by : ℕ) → CallDone → CallDone
 moved_did time by x = record { call = moved_call time by x.call; transition = x.transition }
 
 abbrev pub moved_past : (time by : ℕ) → Past → Past
@@ -76,7 +76,7 @@ module _ (time by : ℕ) where
   later_entry_moved : (past : Past) → later_entry (moved_past time by past) ≡ option_map (moved_did time by) (later_entry past)
   later_entry_moved past = find_mapped (moved_did time by) takes_up takes_up (λ x. refl) past.did
 
-  any_since_same : (test : Did → Bool) → ((x : Did) → test (moved_did time by x) ≡ test x) → (past : Past)
+  any_since_same : (test : CallDone → Bool) → ((x : CallDone) → test (moved_did time by x) ≡ test x) → (past : Past)
       → list_any test (since_entry (moved_past time by past)) ≡ list_any test (since_entry past)
   any_since_same test same past =
       ap (list_any test) (since_entry_moved past) ∙ any_mapped (moved_did time by) test test same (since_entry past)
@@ -95,7 +95,7 @@ module _ (time by : ℕ) where
   entered_same : (past : Past) → is_some (later_entry (moved_past time by past)) ≡ is_some (later_entry past)
   entered_same past = ap is_some (later_entry_moved past) ∙ go (later_entry past)
     where
-      go : (o : Option Did) → is_some (option_map (moved_did time by) o) ≡ is_some o
+      go : (o : Option CallDone) → is_some (option_map (moved_did time by) o) ≡ is_some o
       go None = refl
       go (Some x) = refl
 
@@ -114,7 +114,7 @@ module _ (time by : ℕ) where
   acting_same : (past : Past) → is_acting (moved_past time by past) ≡ is_acting past
   acting_same past = λ i. by_entry i || any_since_same (λ x. is_takeover x.transition) (λ x. refl) past i
     where
-      go : (o : Option Did) {b c : Bool} → b ≡ c
+      go : (o : Option CallDone) {b c : Bool} → b ≡ c
           → map_or (option_map (moved_did time by) o) b (λ entry. is_commit entry.transition) ≡ map_or o c (λ entry. is_commit entry.transition)
       go None same = same
       go (Some x) same = refl
@@ -140,7 +140,7 @@ module _ (time by : ℕ) where
         sealed = sealed_same past i;
       }
 
-  stamp_of_same : (did : List Did) → stamp_of (map (moved_did time by) did) ≡ stamp_of did
+  stamp_of_same : (did : List CallDone) → stamp_of (map (moved_did time by) did) ≡ stamp_of did
   stamp_of_same [] = refl
   stamp_of_same (x ∷ did) = ap (stamp_after (moved_did time by x)) (stamp_of_same did) ∙ go x.transition
     where
@@ -269,7 +269,7 @@ module _ (time by : ℕ) where
       ap (λ o. map_or o (is_some (first_duty (moved_making time by past.making))) (λ entry. not (is_commit entry.transition))) (later_entry_moved past)
       ∙ go (later_entry past) (ap is_some (first_duty_same past.making))
     where
-      go : (o : Option Did) {b c : Bool} → b ≡ c
+      go : (o : Option CallDone) {b c : Bool} → b ≡ c
           → map_or (option_map (moved_did time by) o) b (λ entry. not (is_commit entry.transition)) ≡ map_or o c (λ entry. not (is_commit entry.transition))
       go None same = same
       go (Some x) same = refl
@@ -325,7 +325,7 @@ module _ (time by : ℕ) where
   emitted_moved past None = refl
   emitted_moved past (Some counter) = λ i. Send (message_of (epoch_same past i) (stamp_same past i) (report_moved past counter i))
 
-  latest_moved : (past : Past) (x : Did) → effect_of_latest (moved_past time by past) (moved_did time by x) ≡ moved_effect time (effect_of_latest past x)
+  latest_moved : (past : Past) (x : CallDone) → effect_of_latest (moved_past time by past) (moved_did time by x) ≡ moved_effect time (effect_of_latest past x)
   latest_moved past x = go x.transition
     where
       sends : emitted (moved_past time by past) (counter_of (moved_call time by x.call)) ≡ moved_effect time (emitted past (counter_of x.call))

@@ -28,7 +28,7 @@ use Rattle.sd_safety.proofs.windows.Eras.{era_kept}
 use Rattle.sd_safety.proofs.silences.Phases.{Stage, stage}
 use Rattle.sd_safety.proofs.silences.SoundWays.{top_of}
 use Rattle.sd_safety.proofs.entering.SoundWays.{nothing_touches}
-use Rattle.sd_bound.specs.timeouts.Settled.{the_plan, IsUnderWay, IsWell, Place, Scene}
+use Rattle.sd_bound.specs.timeouts.Settled.{the_plan, IsUnderWay, IsSoundMember, Place, Scene}
 use Rattle.sd_bound.proofs.timeouts.Scenes.{not_early, old_now, primary_now, scene, by_silence}
 use Rattle.sd_bound.proofs.timeouts.Unstaged.{failed_same, none_closed}
 use Rattle.sd_bound.proofs.timeouts.Settled.{way_before}
@@ -42,7 +42,7 @@ module _ (setting : Setting) (epoch : ℕ) (x : Event) (h : List Event) (e : Eve
   sc = scene setting epoch x h e calm way late
 
   -- a device that does not act is not the root
-  pub not_root : (d : ℕ) → IsWell setting epoch (failed_now (chronicle setting (x ∷ h))) d → acts_in (chronicle setting (x ∷ h)) d ≡ false
+  pub not_root : (d : ℕ) → IsSoundMember setting epoch (failed_now (chronicle setting (x ∷ h))) d → acts_in (chronicle setting (x ∷ h)) d ≡ false
       → is_root (the_plan setting epoch) d ≡ false
   not_root d well idle =
       false_from_ne_true (is_root (the_plan setting epoch) d)
@@ -51,7 +51,7 @@ module _ (setting : Setting) (epoch : ℕ) (x : Event) (h : List Event) (e : Eve
       not_both (acts_in steps d)
       (subst (λ z. acts_in steps z ≡ true) same (sc.root (subst (λ z. is_among (failed_now steps) (thing.Device z) ≡ false) (sym same) well.self))) idle)
 
-  module _ (none : failed_now (chronicle setting (x ∷ h)) ≡ []) (d : ℕ) (well : IsWell setting epoch (failed_now (chronicle setting (x ∷ h))) d)
+  module _ (none : failed_now (chronicle setting (x ∷ h)) ≡ []) (d : ℕ) (well : IsSoundMember setting epoch (failed_now (chronicle setting (x ∷ h))) d)
       (other : is_root (the_plan setting epoch) d ≡ false) where
     touched : (things : List Thing) → touches (failed_now (chronicle setting (x ∷ h))) things ≡ false
     touched things = subst (λ failed. touches failed things ≡ false) (sym none) (nothing_touches things)
@@ -80,7 +80,7 @@ module _ (setting : Setting) (epoch : ℕ) (x : Event) (h : List Event) (e : Eve
         by true backup =
             let same : (the_plan setting epoch).backup_root ≡ d = eqb-true (the_plan setting epoch).backup_root d backup in
             false_from_ne_true (moved steps d)
-            (λ put. not_both _ (sc.move (subst (λ z. IsWell setting epoch (failed_now steps) z) (sym same) well) (subst (λ z. moved steps z ≡ true) (sym same) put))
+            (λ put. not_both _ (sc.move (subst (λ z. IsSoundMember setting epoch (failed_now steps) z) (sym same) well) (subst (λ z. moved steps z ≡ true) (sym same) put))
             (touched _))
 
     pub heard_whole : AtNext WholePathHears setting → reference_of e ≤ heard_at (chronicle setting (x ∷ h)) d + lag setting.net
@@ -164,7 +164,7 @@ heard_rises setting older steps d t timed_ =
 
 module _ (setting : Setting) (epoch : ℕ) (x : Event) (h : List Event) (e : Event) (way : IsUnderWay setting epoch (x ∷ h) e (all_started setting (chronicle setting (e ∷ x ∷ h))))
     (late : all_started setting (chronicle setting (e ∷ x ∷ h)) < reference_of e)
-    (hears_ : AtNext WholePathHears setting) (d : ℕ) (well : IsWell setting epoch (failed_now (chronicle setting (x ∷ h))) d)
+    (hears_ : AtNext WholePathHears setting) (d : ℕ) (well : IsSoundMember setting epoch (failed_now (chronicle setting (x ∷ h))) d)
     (other : is_root (the_plan setting epoch) d ≡ false) where
   abbrev begun : ℕ
   begun = all_started setting (chronicle setting (e ∷ x ∷ h))
@@ -202,7 +202,7 @@ module _ (setting : Setting) (epoch : ℕ) (x : Event) (h : List Event) (e : Eve
           let earlier_is : f.moment.earlier ≡ older = ap (λ (q : Moment). q.earlier) st.is in
           let less_ : begun < reference_of st.e = subst (λ q. begun < when q) st.is less in
           let none : failed_now older ≡ [] = subst (λ l. failed_now l ≡ []) earlier_is f.none in
-          let well_ : IsWell setting epoch (failed_now older) d =
+          let well_ : IsSoundMember setting epoch (failed_now older) d =
           record { known = well.known; member = well.member; self = subst (λ failed. is_among failed (thing.Device d) ≡ false) (sym none) refl } in
           let whole_ : reference_of st.e ≤ heard_at older d + lag setting.net =
           heard_whole setting epoch st.x st.h st.e begun st.way less_ none d well_ other hears_ in

@@ -28,7 +28,7 @@ use Rattle.sd_safety.specs.messages.Moments.{whole, behind, Moment, when, IsIn}
 use Rattle.sd_safety.proofs.moves.Starts.{IsUnstaged}
 use Rattle.sd_safety.proofs.waits.Standing.{sound}
 use Rattle.sd_safety.proofs.silences.SoundWays.{top_of}
-use Rattle.sd_bound.specs.timeouts.Settled.{the_plan, IsUnderWay, IsSettled, IsWell, Scene}
+use Rattle.sd_bound.specs.timeouts.Settled.{the_plan, IsUnderWay, IsSettled, IsSoundMember, Scene}
 use Rattle.sd_bound.proofs.timeouts.Settled.{era_is, first_way}
 use Rattle.sd_bound.proofs.timeouts.Scenes.{scene}
 use Rattle.sd_bound.proofs.timeouts.Unstaged.{failed_same, none_closed}
@@ -107,7 +107,7 @@ within_chain r h c l t a m n one two three = omega (arith, one, two, three)
 
 module _ (setting : Setting) (epoch : ℕ) (silent : AreSilent setting) (x : Event) (h : List Event) (e : Event) (calm : ℕ)
     (settled : IsSettled setting epoch (x ∷ h) e calm) (f : DomainId) (inside : list_all (holds setting.net f) (failed_now (chronicle setting (x ∷ h))) ≡ true)
-    (d : ℕ) (well : IsWell setting epoch (failed_now (chronicle setting (x ∷ h))) d) (idle : acts_in (chronicle setting (x ∷ h)) d ≡ false)
+    (d : ℕ) (well : IsSoundMember setting epoch (failed_now (chronicle setting (x ∷ h))) d) (idle : acts_in (chronicle setting (x ∷ h)) d ≡ false)
     (fed : Fed setting.net (the_plan setting epoch) f d) (long : ℕ) (within : IsWithin setting epoch f d long) (short : long ≤ depth setting.net + 1)
     (heard_then : calm ≤ heard_at (chronicle setting (x ∷ h)) d + lag setting.net) where
   abbrev steps' : List Step
@@ -204,7 +204,7 @@ module _ (setting : Setting) (silent : AreSilent setting) (x : Event) (h : List 
     sc : Scene setting 1 (failed_now (chronicle setting (x ∷ h))) (top_of setting (x ∷ h) e)
     sc = scene setting 1 x h e begun way late
 
-    well : IsWell setting 1 (failed_now (chronicle setting (x ∷ h))) d
+    well : IsSoundMember setting 1 (failed_now (chronicle setting (x ∷ h))) d
     well = record { known = admitted_up_is_known setting (x ∷ h) comes.clean.is.0 d up; member = member; self = sc.well d up member }
 
     other : is_root (the_plan setting 1) d ≡ false

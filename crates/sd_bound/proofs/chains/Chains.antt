@@ -30,7 +30,7 @@ use Rattle.sd_safety.proofs.invariant.Facts.{IsSound}
 use Rattle.sd_safety.proofs.invariant.Sides.{not_both}
 use Rattle.sd_safety.specs.messages.Moments.{whole, Moment, upto, when, IsIn}
 use Rattle.sd_safety.proofs.silences.SoundWays.{top_of}
-use Rattle.sd_bound.specs.timeouts.Settled.{the_plan, IsSettled, IsWell, IsOrdinary, Place, Scene, hop_on}
+use Rattle.sd_bound.specs.timeouts.Settled.{the_plan, IsSettled, IsSoundMember, IsOrdinary, Place, Scene, hop_on}
 use Rattle.sd_bound.proofs.timeouts.Backed.{moved_backed}
 use Rattle.sd_bound.proofs.timeouts.Scenes.{scene_at}
 use Rattle.sd_bound.proofs.timeouts.Onward.{onward_at}
@@ -63,7 +63,7 @@ module _ (setting : Setting) (epoch : ℕ) (x : Event) (h : List Event) (e : Eve
   Reached y k = Chain setting epoch (failed_now (chronicle setting (x ∷ h))) (top_of setting (x ∷ h) e) limit y k
 
   abbrev Well : ℕ → Type 0
-  Well y = IsWell setting epoch (failed_now (chronicle setting (x ∷ h))) y
+  Well y = IsSoundMember setting epoch (failed_now (chronicle setting (x ∷ h))) y
 
   from : calm ≤ limit
   from = let le = turned.wait in omega (arith, le)
@@ -152,11 +152,11 @@ module _ (setting : Setting) (epoch : ℕ) (x : Event) (h : List Event) (e : Eve
 
   -- chains to where hops lead
   abbrev Again : ℕ → Type 0
-  Again k = (z j : ℕ) → k ≡ suc j → Fed setting.net (the_plan setting epoch) f z → IsWell setting epoch (failed_now (chronicle setting (x ∷ h))) z → IsWithin setting epoch f z j
+  Again k = (z j : ℕ) → k ≡ suc j → Fed setting.net (the_plan setting epoch) f z → IsSoundMember setting epoch (failed_now (chronicle setting (x ∷ h))) z → IsWithin setting epoch f z j
       → Chain setting epoch (failed_now (chronicle setting (x ∷ h))) (top_of setting (x ∷ h) e) limit z j
 
   -- neither root nor backup root
-  module _ (y k : ℕ) (fed : Fed setting.net (the_plan setting epoch) f y) (well : IsWell setting epoch (failed_now (chronicle setting (x ∷ h))) y)
+  module _ (y k : ℕ) (fed : Fed setting.net (the_plan setting epoch) f y) (well : IsSoundMember setting epoch (failed_now (chronicle setting (x ∷ h))) y)
       (within : IsWithin setting epoch f y k) (few : k ≤ depth setting.net + 1) (ordinary : IsOrdinary setting epoch y) (again : Again k) where
     -- over its next hop
     turned_chain : (put : Bool) (hop : Hop) → hop_on (the_plan setting epoch) put y ≡ Some hop → (put ≡ true → is_hit setting.net (the_plan setting epoch) f y ≡ true)
@@ -230,7 +230,7 @@ module _ (setting : Setting) (epoch : ℕ) (x : Event) (h : List Event) (e : Eve
   less : (k : ℕ) → suc k ≤ depth setting.net + 1 → k ≤ depth setting.net + 1
   less k le = omega (arith, le)
 
-  pub fed_chain : (k y : ℕ) → Fed setting.net (the_plan setting epoch) f y → IsWell setting epoch (failed_now (chronicle setting (x ∷ h))) y → IsWithin setting epoch f y k
+  pub fed_chain : (k y : ℕ) → Fed setting.net (the_plan setting epoch) f y → IsSoundMember setting epoch (failed_now (chronicle setting (x ∷ h))) y → IsWithin setting epoch f y k
       → k ≤ depth setting.net + 1
       → Chain setting epoch (failed_now (chronicle setting (x ∷ h))) (top_of setting (x ∷ h) e) limit y k
   fed_chain zero y fed well within few =

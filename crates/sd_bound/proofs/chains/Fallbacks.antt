@@ -23,7 +23,7 @@ use Rattle.sd_safety.specs.messages.Moments.{Moment, upto, when, IsIn}
 use Rattle.sd_safety.proofs.silences.FallbackWay.{falls, the_hop, on_fallback, link_of_fallback}
 use Rattle.sd_safety.proofs.silences.WalkWays.{walk_length}
 use Rattle.sd_safety.proofs.feeds.Cuts.{first_hop}
-use Rattle.sd_bound.specs.timeouts.Settled.{the_plan, IsWell, Scene}
+use Rattle.sd_bound.specs.timeouts.Settled.{the_plan, IsSoundMember, Scene}
 use Rattle.sd_bound.specs.traces.Led.{Remains, Led, at_source, onward}
 use Rattle.sd_bound.proofs.traces.Sounding.{IsPlanned, planned_hop}
 use Rattle.sd_bound.specs.chains.Chains.{Chain}
@@ -41,7 +41,7 @@ module _ (setting : Setting) (epoch : ℕ) (failed : List Thing) (top : Moment) 
   walk_led : (hs : List Hop) (z : ℕ) → walk setting.net (the_plan setting epoch) z ≡ hs → z < length setting.net.devices → is_member (the_plan setting epoch) z ≡ true
       → ((d : ℕ) → has (devices_of z hs) d ≡ true → is_among failed (thing.Device d) ≡ false)
       → ((l : ℕ) → has (links_of hs) l ≡ true → is_among failed (thing.Link l) ≡ false)
-      → ((d : ℕ) → has (devices_of z hs) d ≡ true → is_root (the_plan setting epoch) d ≡ false → IsWell setting epoch failed d → Remains top limit d false)
+      → ((d : ℕ) → has (devices_of z hs) d ≡ true → is_root (the_plan setting epoch) d ≡ false → IsSoundMember setting epoch failed d → Remains top limit d false)
       → Led setting epoch failed top limit (the_plan setting epoch).root z (length hs)
   walk_led [] z is known member devices links remains =
       let reach : is_root plan (end_of z (walk setting.net plan z)) ≡ true = implied (is_member plan z) _ (fine.rules.reaches z known) member in
@@ -54,7 +54,7 @@ module _ (setting : Setting) (epoch : ℕ) (failed : List Thing) (top : Moment) 
       let up : IsStep setting.net plan z first.0 = forest.up z first.0 known first.1 in
       let same = first_hop first.0 hop (walk setting.net plan first.0.parent) hs (sym up.walk ∙ is) in
       let primary : primary_of plan z ≡ Some hop = first.1 ∙ ap Some same.0 in
-      let well : IsWell setting epoch failed z = record { known = known; member = member; self = devices z (or_left (nat_eq z z) _ (eq-eqb z z refl)) } in
+      let well : IsSoundMember setting epoch failed z = record { known = known; member = member; self = devices z (or_left (nat_eq z z) _ (eq-eqb z z refl)) } in
       onward
       (walk_led hs hop.parent (ap (λ (k : Hop). walk setting.net plan k.parent) (sym same.0) ∙ same.1)
       (subst (λ (k : Hop). k.parent < length setting.net.devices) same.0 up.within) (subst (λ (k : Hop). is_member plan k.parent ≡ true) same.0 up.above)
@@ -67,7 +67,7 @@ module _ (setting : Setting) (epoch : ℕ) (failed : List Thing) (top : Moment) 
   module _ (scenes : (q : Moment) → IsIn q (upto top) → limit < when q
       → Scene setting epoch failed q) (before_top : limit < when top) (here : IsIn top (upto top))
       (kept : is_among failed (thing.Device (the_plan setting epoch).root) ≡ false)
-      (well : IsWell setting epoch failed (the_plan setting epoch).backup_root) (put : (q : Moment) → IsIn q (upto top) → limit < when q
+      (well : IsSoundMember setting epoch failed (the_plan setting epoch).backup_root) (put : (q : Moment) → IsIn q (upto top) → limit < when q
       → moved q.earlier (the_plan setting epoch).backup_root ≡ true) where
     -- it does not act, since the root does
     idle : (q : Moment) → IsIn q (upto top) → limit < when q → acts_in q.earlier (the_plan setting epoch).backup_root ≡ false
@@ -78,7 +78,7 @@ module _ (setting : Setting) (epoch : ℕ) (failed : List Thing) (top : Moment) 
         by true is = absurd (not_both (is_among failed (thing.Device plan.root)) ((scenes q q_in late).takeover is) kept)
 
     stays : (hop : Hop) → backup_of (the_plan setting epoch) (the_plan setting epoch).backup_root ≡ Some hop → (d : ℕ)
-        → has (devices_of hop.parent (walk setting.net (the_plan setting epoch) hop.parent)) d ≡ true → is_root (the_plan setting epoch) d ≡ false → IsWell setting epoch failed d
+        → has (devices_of hop.parent (walk setting.net (the_plan setting epoch) hop.parent)) d ≡ true → is_root (the_plan setting epoch) d ≡ false → IsSoundMember setting epoch failed d
         → Remains top limit d false
     stays hop is d on root well_d q q_in late =
         let sc : Scene setting epoch failed q = scenes q q_in late in

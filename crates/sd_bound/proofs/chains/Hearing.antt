@@ -36,7 +36,7 @@ use Rattle.sd_safety.proofs.silences.Phases.{Following, following}
 use Rattle.sd_safety.proofs.silences.SoundWays.{top_of}
 use Rattle.sd_safety.proofs.receipts.Hearings.{IsReceipt, accepts_receipt}
 use Rattle.sd_safety.proofs.frame.Standing.{chosen}
-use Rattle.sd_bound.specs.timeouts.Settled.{IsSettled, IsWell, Place, Scene}
+use Rattle.sd_bound.specs.timeouts.Settled.{IsSettled, IsSoundMember, Place, Scene}
 use Rattle.sd_bound.proofs.timeouts.Settled.{all_chronicle}
 use Rattle.sd_bound.proofs.timeouts.Scenes.{scene_at}
 use Rattle.sd_bound.specs.traces.Led.{IsWithin, Stands}
@@ -135,7 +135,7 @@ module _ (setting : Setting) (epoch : ℕ) (x : Event) (h : List Event) (e : Eve
   chronicle_ = all_chronicle setting epoch (x ∷ h) e calm settled
 
   -- what a device heard is of the plan
-  pub receipt_epoch : (p : Moment) → IsIn p (chronicle setting (x ∷ h)) → calm < when p → (y : ℕ) → IsWell setting epoch (failed_now (chronicle setting (x ∷ h))) y
+  pub receipt_epoch : (p : Moment) → IsIn p (chronicle setting (x ∷ h)) → calm < when p → (y : ℕ) → IsSoundMember setting epoch (failed_now (chronicle setting (x ∷ h))) y
       → (b : HeardBy p y) → b.message.epoch ≡ epoch
   receipt_epoch p here late y well b =
       let n : Following p (top_of setting (x ∷ h) e) = following p (next_step setting steps e) steps here in
@@ -149,7 +149,7 @@ module _ (setting : Setting) (epoch : ℕ) (x : Event) (h : List Event) (e : Eve
       sym (passes_on b.past b.link b.message b.counter b.edge b.over).1 ∙ ap epoch_now same
       ∙ ap (λ (o : Option Duty). map_or o 0 (λ (u : Duty). u.epoch)) place.duty
 
-  module _ (limit : ℕ) (from : calm ≤ limit) (y k : ℕ) (well : IsWell setting epoch (failed_now (chronicle setting (x ∷ h))) y) (within : IsWithin setting epoch f y k)
+  module _ (limit : ℕ) (from : calm ≤ limit) (y k : ℕ) (well : IsSoundMember setting epoch (failed_now (chronicle setting (x ∷ h))) y) (within : IsWithin setting epoch f y k)
       (few : k ≤ depth setting.net + 1)
       (p : Moment) (here : IsIn p (chronicle setting (x ∷ h))) (late : calm + passing setting.net < when p) (by : when p ≤ limit) (b : HeardBy p y) where
     after_calm : calm < when p
@@ -179,7 +179,7 @@ module _ (setting : Setting) (epoch : ℕ) (x : Event) (h : List Event) (e : Eve
         let emitted = trace_emits setting b.message.stamp epoch traced.first traced.source traced.hops p y traced.trace in
         let started : IsIn traced.first (upto p) = trace_first setting b.message.stamp epoch traced.first traced.source traced.hops p y traced.trace in
         let first_in : IsIn traced.first (chronicle setting (x ∷ h)) = tail_trans started here in
-        let source_well : IsWell setting epoch (failed_now (chronicle setting (x ∷ h))) traced.source =
+        let source_well : IsSoundMember setting epoch (failed_now (chronicle setting (x ∷ h))) traced.source =
         well_emitter setting epoch (x ∷ h) e calm settled traced.first first_in outcome.0 traced.source emitted.0 emitted.1 in
         let acting = acts_after setting epoch (x ∷ h) e calm settled traced.first outcome.0 traced.source emitted.0 emitted.1 source_well in
         let stands : Stands traced.trace (top_of setting (x ∷ h) e) =
@@ -199,7 +199,7 @@ module _ (setting : Setting) (epoch : ℕ) (x : Event) (h : List Event) (e : Eve
         few_hops le = omega (arith, le, few)
 
   -- a device that heard late enough by an event is served from then on
-  pub served : (limit : ℕ) → calm ≤ limit → (y k : ℕ) → IsWell setting epoch (failed_now (chronicle setting (x ∷ h))) y → IsWithin setting epoch f y k
+  pub served : (limit : ℕ) → calm ≤ limit → (y k : ℕ) → IsSoundMember setting epoch (failed_now (chronicle setting (x ∷ h))) y → IsWithin setting epoch f y k
       → k ≤ depth setting.net + 1
       → (q : Moment) → IsIn q (chronicle setting (e ∷ x ∷ h)) → latest_reference (seen_of q.earlier) ≤ limit → calm + passing setting.net < heard_at q.earlier y
       → Chain setting epoch (failed_now (chronicle setting (x ∷ h))) (top_of setting (x ∷ h) e) limit y k

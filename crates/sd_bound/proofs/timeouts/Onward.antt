@@ -40,7 +40,7 @@ use Rattle.sd_safety.proofs.receipts.Alive.{Went, made, called, alone, went}
 use Rattle.sd_safety.proofs.silences.SoundWays.{top_of}
 use Rattle.sd_device.proofs.Reached.{added}
 use Rattle.sd_safety.proofs.timers.Pasts.{stays_moved, stays_acting}
-use Rattle.sd_bound.specs.timeouts.Settled.{the_plan, IsSettled, IsWell, Place, IsOnward}
+use Rattle.sd_bound.specs.timeouts.Settled.{the_plan, IsSettled, IsSoundMember, Place, IsOnward}
 use Rattle.sd_bound.proofs.timeouts.Settled.{settled_before, era_is, failed_then}
 use Rattle.sd_bound.proofs.timeouts.Scenes.{place_now, scene}
 
@@ -131,12 +131,12 @@ module _ (setting : Setting) (epoch : ℕ) (x : Event) (h : List Event) (e next 
   fine = subst (λ n. IsSound setting.net (plan_numbered setting n)) (era_is setting epoch (x ∷ h) e calm (settled_before setting epoch x h e next calm settled late))
       (sound setting x h e (settled_before setting epoch x h e next calm settled late).comes)
 
-  module _ (y : ℕ) (well : IsWell setting epoch (failed_now (chronicle setting (x ∷ h))) y) where
+  module _ (y : ℕ) (well : IsSoundMember setting epoch (failed_now (chronicle setting (x ∷ h))) y) where
     now_ : Place setting epoch (top_of setting (x ∷ h) e) y
     now_ = place_now setting epoch x h e calm (settled_before setting epoch x h e next calm settled late).way late y well
 
     next_ : Place setting epoch (top_of setting (e ∷ x ∷ h) next) y
-    next_ = place_now setting epoch e (x ∷ h) next calm settled.way later_event y (subst (λ failed. IsWell setting epoch failed y) (sym same_failed) well)
+    next_ = place_now setting epoch e (x ∷ h) next calm settled.way later_event y (subst (λ failed. IsSoundMember setting epoch failed y) (sym same_failed) well)
 
     -- what the event called, where it called the device
     record IsCalled (past : Past) (call : Call) : Type 0 where
@@ -266,7 +266,7 @@ reached setting epoch x h e next calm settled q t late =
 
 -- the events of a settled run in turn
 onward_in : (setting : Setting) (epoch : ℕ) (history : List Event) (next : Event) (calm : ℕ) → IsSettled setting epoch history next calm → (q : Moment)
-    → IsIn q (chronicle setting history) → calm < when q → (y : ℕ) → IsWell setting epoch (failed_now q.earlier) y → IsOnward setting epoch q y
+    → IsIn q (chronicle setting history) → calm < when q → (y : ℕ) → IsSoundMember setting epoch (failed_now q.earlier) y → IsOnward setting epoch q y
 onward_in setting epoch [] next calm settled q here late y well = elim here [ ]
 onward_in setting epoch (e ∷ []) next calm settled q whole late y well =
     let begun : reference_of e ≤ calm = settled.way.begun in absurd (omega (arith, begun, late))
@@ -277,7 +277,7 @@ onward_in setting epoch (e ∷ x ∷ h) next calm settled q (behind t) late y we
     y well
 
 pub onward_at : (setting : Setting) (epoch : ℕ) (history : List Event) (next : Event) (calm : ℕ) → IsSettled setting epoch history next calm → (q : Moment)
-    → IsIn q (chronicle setting history) → calm < when q → (y : ℕ) → IsWell setting epoch (failed_now (chronicle setting history)) y → IsOnward setting epoch q y
+    → IsIn q (chronicle setting history) → calm < when q → (y : ℕ) → IsSoundMember setting epoch (failed_now (chronicle setting history)) y → IsOnward setting epoch q y
 onward_at setting epoch history next calm settled q here late y well =
     onward_in setting epoch history next calm settled q here late y
-    (subst (λ failed. IsWell setting epoch failed y) (failed_then setting epoch history next calm settled q (behind here) late) well)
+    (subst (λ failed. IsSoundMember setting epoch failed y) (failed_then setting epoch history next calm settled q (behind here) late) well)

@@ -32,7 +32,7 @@ use Rattle.sd_safety.proofs.silences.NoMaking.{not_made}
 use Rattle.sd_safety.proofs.silences.SoundWays.{top_of}
 use Rattle.sd_safety.proofs.moves.Tickings.{first_only}
 use Rattle.sd_safety.proofs.waits.LookingBack.{all_three}
-use Rattle.sd_bound.specs.timeouts.Settled.{IsUnderWay, IsSettled, IsWell, IsOrdinary, Place, above, Scene}
+use Rattle.sd_bound.specs.timeouts.Settled.{IsUnderWay, IsSettled, IsSoundMember, IsOrdinary, Place, above, Scene}
 use Rattle.sd_bound.proofs.timeouts.Unstaged.{uncommitted, unjoined, none_among}
 use Rattle.sd_bound.proofs.timeouts.Settled.{StageAt, stage_at}
 
@@ -90,7 +90,7 @@ module _ (setting : Setting) (epoch : ℕ) (x : Event) (h : List Event) (e : Eve
   to_first P is = subst (λ n. P (plan_numbered setting n)) first is
 
   -- who did not fail is up and old
-  module _ (y : ℕ) (well : IsWell setting epoch (failed_now (chronicle setting (x ∷ h))) y) where
+  module _ (y : ℕ) (well : IsSoundMember setting epoch (failed_now (chronicle setting (x ∷ h))) y) where
     member_now : is_member (plan_now setting (chronicle setting (x ∷ h))) y ≡ true
     member_now = to_now (λ p. is_member p y ≡ true) well.member
 
@@ -194,7 +194,7 @@ module _ (setting : Setting) (epoch : ℕ) (x : Event) (h : List Event) (e : Eve
   sound_now l whole = none_among setting (x ∷ h) way.comes.clean.is.0 way.shut (thing.Link l) whole
 
   -- the backup root
-  module _ (well : IsWell setting epoch (failed_now (chronicle setting (x ∷ h))) (plan_numbered setting epoch).backup_root) where
+  module _ (well : IsSoundMember setting epoch (failed_now (chronicle setting (x ∷ h))) (plan_numbered setting epoch).backup_root) where
     old_b : is_old (chronicle setting (x ∷ h)) (plan_now setting (chronicle setting (x ∷ h))).backup_root ≡ true
     old_b = to_now (λ p. is_old (chronicle setting (x ∷ h)) p.backup_root ≡ true) (old_now (plan_numbered setting epoch).backup_root well)
 
@@ -217,7 +217,7 @@ module _ (setting : Setting) (epoch : ℕ) (x : Event) (h : List Event) (e : Eve
 
     path_now : moved (chronicle setting (x ∷ h)) (plan_numbered setting epoch).backup_root ≡ false
         → acts_in (chronicle setting (x ∷ h)) (plan_numbered setting epoch).backup_root ≡ false
-        → (z : ℕ) → has (above setting epoch) z ≡ true → is_root (plan_numbered setting epoch) z ≡ false → IsWell setting epoch (failed_now (chronicle setting (x ∷ h))) z
+        → (z : ℕ) → has (above setting epoch) z ≡ true → is_root (plan_numbered setting epoch) z ≡ false → IsSoundMember setting epoch (failed_now (chronicle setting (x ∷ h))) z
         → moved (chronicle setting (x ∷ h)) z ≡ false
     path_now unmoved still z on other well_z =
         let plan_ : Plan = plan_now setting steps in
@@ -253,7 +253,7 @@ module _ (setting : Setting) (epoch : ℕ) (x : Event) (h : List Event) (e : Eve
 
     fallback_stays_now : moved (chronicle setting (x ∷ h)) (plan_numbered setting epoch).backup_root ≡ true
         → acts_in (chronicle setting (x ∷ h)) (plan_numbered setting epoch).backup_root ≡ false
-        → (z : ℕ) → has (fallback_devices setting.net (plan_numbered setting epoch)) z ≡ true → IsWell setting epoch (failed_now (chronicle setting (x ∷ h))) z
+        → (z : ℕ) → has (fallback_devices setting.net (plan_numbered setting epoch)) z ≡ true → IsSoundMember setting epoch (failed_now (chronicle setting (x ∷ h))) z
         → moved (chronicle setting (x ∷ h)) z ≡ false
     fallback_stays_now put still z on well_z =
         not-true (moved steps z)

@@ -21,7 +21,7 @@ use Rattle.sd_safety.proofs.silences.Phases.{Following, following}
 use Rattle.sd_safety.proofs.silences.SoundWays.{top_of}
 use Rattle.sd_safety.specs.timers.Times.{AreTimed}
 use Rattle.sd_safety.proofs.terms.Actors.{IsActor, actor_is_current}
-use Rattle.sd_bound.specs.timeouts.Settled.{IsSettled, IsWell}
+use Rattle.sd_bound.specs.timeouts.Settled.{IsSettled, IsSoundMember}
 use Rattle.sd_bound.proofs.timeouts.Unstaged.{uncommitted}
 use Rattle.sd_bound.proofs.timeouts.Settled.{era_is, all_chronicle, StageAt, stage_at}
 use Rattle.sd_bound.proofs.timeouts.Scenes.{scene_at}
@@ -46,7 +46,7 @@ module _ (setting : Setting) (epoch : ℕ) (x : Event) (h : List Event) (e : Eve
 
 module _ (setting : Setting) (epoch : ℕ) (history : List Event) (e : Event) (calm : ℕ) (settled : IsSettled setting epoch history e calm) where
   pub well_emitter : (first : Moment) → IsIn first (chronicle setting history) → calm < when first → (source : ℕ) (m : Message) → Emits first source m
-      → IsWell setting epoch (failed_now (chronicle setting history)) source
+      → IsSoundMember setting epoch (failed_now (chronicle setting history)) source
   well_emitter first here late source m emits =
       let steps : List Step = chronicle setting history in
       let chronicle_ : IsChronicle setting (chronicle setting (e ∷ history)) = all_chronicle setting epoch history e calm settled in

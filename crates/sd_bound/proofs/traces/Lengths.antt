@@ -34,7 +34,7 @@ use Rattle.sd_safety.proofs.messages.Tails.{tail_trans, rest_of}
 use Rattle.sd_safety.proofs.messages.Flowing.{tail_rest}
 use Rattle.sd_safety.proofs.silences.FallbackWay.{on_fallback}
 use Rattle.sd_safety.proofs.silences.WalkWays.{walk_length}
-use Rattle.sd_bound.specs.timeouts.Settled.{the_plan, IsSettled, IsWell, Scene, IsOnward, hop_on}
+use Rattle.sd_bound.specs.timeouts.Settled.{the_plan, IsSettled, IsSoundMember, Scene, IsOnward, hop_on}
 use Rattle.sd_bound.proofs.timeouts.Settled.{all_chronicle, not_after}
 use Rattle.sd_bound.proofs.timeouts.Scenes.{scene_at}
 use Rattle.sd_bound.proofs.timeouts.Onward.{onward_at}
@@ -110,7 +110,7 @@ module _ (setting : Setting) (epoch : ℕ) (history : List Event) (e : Event) (c
   scene_in q here late = scene_at setting epoch history e calm settled q here late
 
   -- who has moved later had not moved before where it has not moved now
-  moved_later : (q : Moment) → calm < when q → (z : ℕ) → IsWell setting epoch (failed_now (chronicle setting history)) z → moved q.earlier z ≡ true
+  moved_later : (q : Moment) → calm < when q → (z : ℕ) → IsSoundMember setting epoch (failed_now (chronicle setting history)) z → moved q.earlier z ≡ true
       → (s : Step) (steps : List Step) → IsIn (record { step = s; earlier = steps }) (chronicle setting (e ∷ history))
       → IsIn q (chronicle setting (e ∷ history))
       → Tail q.earlier steps → moved steps z ≡ true
@@ -124,7 +124,7 @@ module _ (setting : Setting) (epoch : ℕ) (history : List Event) (e : Event) (c
       on.moved_on (moved_later q late z well put s' xs (behind r_in) q_in t)
 
   pub unmoved_before : (q r : Moment) → IsIn q (chronicle setting (e ∷ history)) → IsIn r (chronicle setting (e ∷ history)) → calm < when q
-      → Tail q.earlier r.earlier → (z : ℕ) → IsWell setting epoch (failed_now (chronicle setting history)) z
+      → Tail q.earlier r.earlier → (z : ℕ) → IsSoundMember setting epoch (failed_now (chronicle setting history)) z
       → moved r.earlier z ≡ false → moved q.earlier z ≡ false
   unmoved_before q r q_in r_in late t z well unmoved =
       false_from_ne_true (moved q.earlier z) (λ put. not_both (moved r.earlier z) (moved_later q late z well put r.step r.earlier r_in q_in t) unmoved)
@@ -209,7 +209,7 @@ module _ (setting : Setting) (epoch : ℕ) (history : List Event) (e : Event) (c
   -- where no device of a walk has moved, the trace goes up the walk
   walk_down : {stamp : Stamp} {first : Moment} {source m : ℕ} {to : Moment} {y : ℕ} → (trace : Trace setting stamp epoch first source m to y)
       → IsIn to (chronicle setting (e ∷ history)) → calm < when to → (hs : List Hop) → walk setting.net (the_plan setting epoch) y ≡ hs
-      → ((z : ℕ) → has (devices_of y hs) z ≡ true → is_root (the_plan setting epoch) z ≡ false → IsWell setting epoch (failed_now (chronicle setting history)) z
+      → ((z : ℕ) → has (devices_of y hs) z ≡ true → is_root (the_plan setting epoch) z ≡ false → IsSoundMember setting epoch (failed_now (chronicle setting history)) z
       → moved to.earlier z ≡ false) → Outcome first to m (length hs)
   walk_down (begins message emits carries epoch_is) to_in to_late hs is unmoved = inl (to_late, omega arith)
   walk_down {stamp} {first} (goes_on {m = m} {from = from} {x = x} {to = to} {d = y} trace hop) to_in to_late hs is unmoved =
@@ -218,7 +218,7 @@ module _ (setting : Setting) (epoch : ℕ) (history : List Event) (e : Event) (c
     where
       onward_ : LateHop from to x y
           → ((l : List Hop) → walk setting.net (the_plan setting epoch) x ≡ l
-          → ((z : ℕ) → has (devices_of x l) z ≡ true → is_root (the_plan setting epoch) z ≡ false → IsWell setting epoch (failed_now (chronicle setting history)) z
+          → ((z : ℕ) → has (devices_of x l) z ≡ true → is_root (the_plan setting epoch) z ≡ false → IsSoundMember setting epoch (failed_now (chronicle setting history)) z
           → moved from.earlier z ≡ false) → Outcome first from m (length l))
           → Outcome first to (suc m) (length hs)
       onward_ late_ again =
@@ -260,8 +260,8 @@ module _ (setting : Setting) (epoch : ℕ) (history : List Event) (e : Event) (c
       by late_ false unmoved =
           let c : Came setting epoch (failed_now (chronicle setting history)) to x b = late_.came_ in
           let sc : Scene setting epoch (failed_now (chronicle setting history)) to = scene_in to to_in to_late in
-          let well_b : IsWell setting epoch (failed_now (chronicle setting history)) plan.backup_root =
-          subst (λ z. IsWell setting epoch (failed_now (chronicle setting history)) z) same c.well in
+          let well_b : IsSoundMember setting epoch (failed_now (chronicle setting history)) plan.backup_root =
+          subst (λ z. IsSoundMember setting epoch (failed_now (chronicle setting history)) z) same c.well in
           weaker first to (suc m) (length (walk setting.net plan b)) (depth setting.net + 1)
           (short (length (walk setting.net plan b)) (depth setting.net) (walk_length setting.net plan b))
           (walk_down (goes_on trace hop) to_in to_late (walk setting.net plan b) refl
@@ -271,8 +271,8 @@ module _ (setting : Setting) (epoch : ℕ) (history : List Event) (e : Event) (c
       by late_ true put =
           let c : Came setting epoch (failed_now (chronicle setting history)) to x b = late_.came_ in
           let sc : Scene setting epoch (failed_now (chronicle setting history)) to = scene_in to to_in to_late in
-          let well_b : IsWell setting epoch (failed_now (chronicle setting history)) plan.backup_root =
-          subst (λ z. IsWell setting epoch (failed_now (chronicle setting history)) z) same c.well in
+          let well_b : IsSoundMember setting epoch (failed_now (chronicle setting history)) plan.backup_root =
+          subst (λ z. IsSoundMember setting epoch (failed_now (chronicle setting history)) z) same c.well in
           let backup : backup_of plan plan.backup_root ≡ Some c.hop =
           subst (λ z. backup_of plan z ≡ Some c.hop) same (subst (λ p. hop_on plan p b ≡ Some c.hop) put c.is) in
           longer first from to m (depth setting.net) (depth setting.net + 1) (next (depth setting.net)) late_.goes

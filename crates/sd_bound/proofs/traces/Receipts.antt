@@ -37,7 +37,7 @@ use Rattle.sd_safety.proofs.messages.Parents.{hop_in_plan, hop_parent}
 use Rattle.sd_safety.proofs.frame.Telling.{links_tell}
 use Rattle.sd_safety.proofs.waits.Standing.{clean, sound}
 use Rattle.sd_safety.proofs.moves.Ahead.{IsAhead, always_ahead}
-use Rattle.sd_bound.specs.timeouts.Settled.{the_plan, IsSettled, IsWell, Place, Scene, hop_on}
+use Rattle.sd_bound.specs.timeouts.Settled.{the_plan, IsSettled, IsSoundMember, Place, Scene, hop_on}
 use Rattle.sd_bound.proofs.timeouts.Settled.{era_is, all_chronicle, StageAt, stage_at}
 use Rattle.sd_bound.proofs.timeouts.Scenes.{scene_at}
 
@@ -92,7 +92,7 @@ two_numbers n k j one two three = omega (arith, one, two, three)
 
 -- the device of such a hop
 pub record Came (setting : Setting) (epoch : ℕ) (failed : List Thing) (to : Moment) (x d : ℕ) : Type 0 where
-  pub well : IsWell setting epoch failed d
+  pub well : IsSoundMember setting epoch failed d
   pub hop : declared.Hop
   pub is : hop_on (the_plan setting epoch) (moved to.earlier d) d ≡ Some hop
   pub parent : hop.parent ≡ x
@@ -141,7 +141,7 @@ module _ (setting : Setting) (epoch : ℕ) (history : List Event) (e : Event) (c
       let led : Leads (plan_numbered setting epoch) d x hop.flight.link = hop_in_plan setting stamp epoch from to x d chronicle_ hop in
       let known : d < length setting.net.devices = known_at from from_in late d hop.receiver_up in
       let member : is_member (plan_numbered setting epoch) d ≡ true = hop_member setting.net (plan_numbered setting epoch) fine.rules d known led.hop led.is in
-      let well : IsWell setting epoch (failed_now (chronicle setting history)) d =
+      let well : IsSoundMember setting epoch (failed_now (chronicle setting history)) d =
       record { known = known; member = member; self = then_.well d hop.receiver_up member } in
       let place : Place setting epoch to d = now_.place d well in
       let r = hop.receipt in

@@ -27,7 +27,7 @@ use Rattle.sd_safety.proofs.messages.Flowing.{tail_rest}
 use Rattle.sd_safety.proofs.messages.Latest.{trace_first}
 use Rattle.sd_safety.proofs.messages.Consecutive.{emission_acts, past_after_call}
 use Rattle.sd_safety.proofs.silences.Hearing.{heard_from}
-use Rattle.sd_bound.specs.timeouts.Settled.{IsSettled, IsWell, Place, IsOnward}
+use Rattle.sd_bound.specs.timeouts.Settled.{IsSettled, IsSoundMember, Place, IsOnward}
 use Rattle.sd_bound.proofs.timeouts.Settled.{all_chronicle}
 use Rattle.sd_bound.proofs.timeouts.Scenes.{scene_at}
 use Rattle.sd_bound.proofs.timeouts.Onward.{onward_at}
@@ -73,7 +73,7 @@ module _ (setting : Setting) (epoch : ℕ) (history : List Event) (e : Event) (c
 
   -- who emitted acts on
   module _ (first : Moment) (late : calm < when first) (source : ℕ) (message : Message) (emits : Emits first source message)
-      (well : IsWell setting epoch (failed_now (chronicle setting history)) source) where
+      (well : IsSoundMember setting epoch (failed_now (chronicle setting history)) source) where
     acts_by : (s : Step) (steps : List Step) → IsIn (record { step = s; earlier = steps }) (chronicle setting (e ∷ history)) → Tail (upto first) steps
         → acts_in steps source ≡ true
     acts_by s _ here whole =
@@ -110,7 +110,7 @@ module _ (setting : Setting) (epoch : ℕ) (history : List Event) (e : Event) (c
       (moved to.earlier d) c.hop c.well c.is c.parent c.link
       (λ q q_in q_late. stands.1 q q_in (earlier_is_before setting (upto top) to q (chronicle_at top here) (behind before) q_in (omega (arith, le, q_late))))
 
-  module _ (stamp : Stamp) (first : Moment) (source : ℕ) (late : calm < when first) (well : IsWell setting epoch (failed_now (chronicle setting history)) source)
+  module _ (stamp : Stamp) (first : Moment) (source : ℕ) (late : calm < when first) (well : IsSoundMember setting epoch (failed_now (chronicle setting history)) source)
       (acts : (top : Moment) → IsIn top (chronicle setting (e ∷ history)) → IsBefore first top → acts_in top.earlier source ≡ true) where
     -- while the way stands its last device heard lately
     heard_lately : {m : ℕ} {p : Moment} {d : ℕ} (trace : Trace setting stamp epoch first source (suc m) p d) → suc m ≤ 2 * (depth setting.net + 1) → (top : Moment)
@@ -139,7 +139,7 @@ module _ (setting : Setting) (epoch : ℕ) (history : List Event) (e : Event) (c
     module _ (m : ℕ) (from to : Moment) (x d : ℕ) (trace : Trace setting stamp epoch first source m from x) (hop : Hop setting stamp epoch from x to d)
         (short : suc m ≤ 2 * (depth setting.net + 1))
         (above : (r : Moment) → IsIn r (chronicle setting (e ∷ history)) → IsBefore from r
-        → Stands trace r) (well_d : IsWell setting epoch (failed_now (chronicle setting history)) d) (still : acts_in to.earlier d ≡ false) where
+        → Stands trace r) (well_d : IsSoundMember setting epoch (failed_now (chronicle setting history)) d) (still : acts_in to.earlier d ≡ false) where
       late_to : IsIn to (chronicle setting (e ∷ history)) → calm < when to
       late_to here =
           let started = trace_goes (goes_on trace hop) here in

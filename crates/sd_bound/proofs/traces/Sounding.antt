@@ -35,7 +35,7 @@ use Rattle.sd_safety.proofs.silences.States.{ready_of}
 use Rattle.sd_safety.proofs.silences.FallbackWay.{ready_back}
 use Rattle.sd_safety.proofs.silences.Hearing.{unfed}
 use Rattle.sd_safety.proofs.silences.SoundWays.{top_of}
-use Rattle.sd_bound.specs.timeouts.Settled.{the_plan, IsSettled, IsWell, Place, Scene, hop_on}
+use Rattle.sd_bound.specs.timeouts.Settled.{the_plan, IsSettled, IsSoundMember, Place, Scene, hop_on}
 use Rattle.sd_bound.proofs.timeouts.Settled.{era_is, StageAt, stage_at}
 use Rattle.sd_bound.proofs.timeouts.Scenes.{scene_at}
 use Rattle.sd_bound.specs.traces.Led.{Remains, ActsSince, Led, at_source, onward}
@@ -81,7 +81,7 @@ none_more : (n : ℕ) → n ≡ zero + n
 none_more n = omega arith
 
 module _ (setting : Setting) (epoch : ℕ) (x : Event) (h : List Event) (e : Event) (calm : ℕ) (settled : IsSettled setting epoch (x ∷ h) e calm) (source : ℕ)
-    (well : IsWell setting epoch (failed_now (chronicle setting (x ∷ h))) source) where
+    (well : IsSoundMember setting epoch (failed_now (chronicle setting (x ∷ h))) source) where
   abbrev steps : List Step
   steps = chronicle setting (x ∷ h)
 
@@ -96,7 +96,7 @@ module _ (setting : Setting) (epoch : ℕ) (x : Event) (h : List Event) (e : Eve
     scene_then : (q : Moment) → IsIn q (chronicle setting (e ∷ x ∷ h)) → s1 < when q → Scene setting epoch (failed_now (chronicle setting (x ∷ h))) q
     scene_then q here late = scene_at setting epoch (x ∷ h) e calm settled q here (omega (arith, from, late))
 
-    hop_sound : (y : ℕ) (put : Bool) (hop : Hop) → IsWell setting epoch (failed_now (chronicle setting (x ∷ h))) y → hop_on (the_plan setting epoch) put y ≡ Some hop
+    hop_sound : (y : ℕ) (put : Bool) (hop : Hop) → IsSoundMember setting epoch (failed_now (chronicle setting (x ∷ h))) y → hop_on (the_plan setting epoch) put y ≡ Some hop
         → is_among (failed_now (chronicle setting (x ∷ h))) (thing.Link hop.link) ≡ false → Remains (top_of setting (x ∷ h) e) s1 y put
         → IsSoundHop setting (top_of setting (x ∷ h) e) epoch s1 source hop.parent (record { link = hop.link; device = y })
     hop_sound y put hop well_y is link remains =
@@ -194,14 +194,14 @@ module _ (setting : Setting) (epoch : ℕ) (x : Event) (h : List Event) (e : Eve
 -- the same at any event later than the reference
 pub fed_at : (setting : Setting) (epoch : ℕ) (history : List Event) (e : Event) (calm : ℕ) → IsSettled setting epoch history e calm → (top : Moment)
     → IsIn top (chronicle setting (e ∷ history)) → calm < when top
-    → (source : ℕ) → IsWell setting epoch (failed_now (chronicle setting history)) source → (s0 : ℕ) → calm ≤ s0 → ActsSince top s0 source → (y n : ℕ)
+    → (source : ℕ) → IsSoundMember setting epoch (failed_now (chronicle setting history)) source → (s0 : ℕ) → calm ≤ s0 → ActsSince top s0 source → (y n : ℕ)
     → Led setting epoch (failed_now (chronicle setting history)) top s0 source y (suc n) → n + 1 ≤ 2 * (depth setting.net + 1)
     → when top ≤ max s0 (heard_at top.earlier y) + rounds_gap setting.net + (n + 1) * delay setting.net
 fed_at setting epoch history e calm settled top here late source well s0 from acts y n led short =
     let st : StageAt setting epoch calm (chronicle setting history) top = stage_at setting epoch history e calm settled top here late in
     let top_is : top ≡ top_of setting (st.x ∷ st.h) st.e = st.is in
     subst (λ (t : Moment). when t ≤ max s0 (heard_at t.earlier y) + rounds_gap setting.net + (n + 1) * delay setting.net) (sym top_is)
-    (fed_by setting epoch st.x st.h st.e calm st.settled source (subst (λ failed. IsWell setting epoch failed source) (sym st.failed) well) s0 from
+    (fed_by setting epoch st.x st.h st.e calm st.settled source (subst (λ failed. IsSoundMember setting epoch failed source) (sym st.failed) well) s0 from
     (subst (λ t. ActsSince t s0 source) top_is acts) y n
     (subst (λ t. Led setting epoch (failed_now (chronicle setting (st.x ∷ st.h))) t s0 source y (suc n)) top_is
     (subst (λ failed. Led setting epoch failed top s0 source y (suc n)) (sym st.failed) led)) short)

@@ -40,13 +40,13 @@ use Rattle.sd_safety.proofs.silences.SoundWays.{top_of}
 use Rattle.sd_safety.proofs.terms.Actors.{IsActor}
 use Rattle.sd_safety.proofs.terms.Terms.{IsTermed, termed}
 use Rattle.sd_safety.proofs.timers.Emissions.{timed_tail}
-use Rattle.sd_bound.specs.timeouts.Settled.{IsSettled, IsWell, Place, Scene}
+use Rattle.sd_bound.specs.timeouts.Settled.{IsSettled, IsSoundMember, Place, Scene}
 use Rattle.sd_bound.proofs.timeouts.Settled.{era_is, all_chronicle, StageAt, stage_at}
 use Rattle.sd_bound.proofs.timeouts.Scenes.{old_now, scene_at, by_silence}
 use Rattle.sd_bound.specs.traces.Led.{ActsSince}
 
 module _ (setting : Setting) (epoch : ℕ) (x : Event) (h : List Event) (e : Event) (calm : ℕ) (settled : IsSettled setting epoch (x ∷ h) e calm) (s0 : ℕ) (from : calm ≤ s0)
-    (y : ℕ) (well : IsWell setting epoch (failed_now (chronicle setting (x ∷ h))) y)
+    (y : ℕ) (well : IsSoundMember setting epoch (failed_now (chronicle setting (x ∷ h))) y)
     (acts : ActsSince (top_of setting (x ∷ h) e) s0 y) where
   abbrev steps : List Step
   steps = chronicle setting (x ∷ h)
@@ -60,7 +60,7 @@ module _ (setting : Setting) (epoch : ℕ) (x : Event) (h : List Event) (e : Eve
   soon_then : (q : Moment) → IsIn q (chronicle setting (e ∷ x ∷ h)) → s0 < when q → when q ≤ sent_at q.earlier y + round_gap setting.net
   soon_then q here late =
       let st : StageAt setting epoch calm (chronicle setting (x ∷ h)) q = stage_at setting epoch (x ∷ h) e calm settled q here (calm_before q late) in
-      let well_ : IsWell setting epoch (failed_now (chronicle setting (st.x ∷ st.h))) y = subst (λ failed. IsWell setting epoch failed y) (sym st.failed) well in
+      let well_ : IsSoundMember setting epoch (failed_now (chronicle setting (st.x ∷ st.h))) y = subst (λ failed. IsSoundMember setting epoch failed y) (sym st.failed) well in
       let acting : acts_in (chronicle setting (st.x ∷ st.h)) y ≡ true = subst (λ (p : Moment). acts_in p.earlier y ≡ true) st.is (acts q here late) in
       let member : is_member (plan_numbered setting (era (chronicle setting (st.x ∷ st.h)))) y ≡ true =
       subst (λ n. is_member (plan_numbered setting n) y ≡ true) (sym (era_is setting epoch (st.x ∷ st.h) st.e calm st.settled)) well.member in

@@ -6,13 +6,13 @@ use Rattle.sd_plan.specs.declared.Plan.{Plan}
 use Rattle.sd_history.specs.World.{Setting}
 use Rattle.sd_safety.specs.invariant.Bounds.{depth, delay, tick_gap, first_up, second_up, wait_up}
 use Rattle.sd_safety.specs.messages.Moments.{Moment}
-use Rattle.sd_bound.specs.timeouts.Settled.{IsWell}
+use Rattle.sd_bound.specs.timeouts.Settled.{IsSoundMember}
 use Rattle.sd_bound.specs.traces.Led.{ActsSince, Led}
 
 -- a chain of at most this many hops to a device, and where it begins
 pub record Chain (setting : Setting) (epoch : ℕ) (failed : List Thing) (top : Moment) (s0 y k : ℕ) : Type 0 where
   pub source : ℕ
-  pub well : IsWell setting epoch failed source
+  pub well : IsSoundMember setting epoch failed source
   pub acts : ActsSince top s0 source
   pub hops : ℕ
   pub led : Led setting epoch failed top s0 source y hops

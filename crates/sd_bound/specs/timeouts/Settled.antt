@@ -46,7 +46,7 @@ pub record IsSettled (setting : Setting) (epoch : ℕ) (history : List Event) (e
   pub unfailed : (q : Moment) → IsIn q (chronicle setting (e ∷ history)) → calm < when q → failure_of q.step.seen.event ≡ None
 
 -- a member of the plan that did not fail
-pub record IsWell (setting : Setting) (epoch : ℕ) (failed : List Thing) (y : ℕ) : Type 0 where
+pub record IsSoundMember (setting : Setting) (epoch : ℕ) (failed : List Thing) (y : ℕ) : Type 0 where
   pub known : y < length setting.net.devices
   pub member : is_member (the_plan setting epoch) y ≡ true
   pub self : is_among failed (thing.Device y) ≡ false
@@ -71,8 +71,8 @@ above setting epoch = map (λ (hop : Hop). hop.parent) (walk setting.net (the_pl
 -- What is taken of the invariant before an event, where these things failed by then. B is the backup root.
 pub record Scene (setting : Setting) (epoch : ℕ) (failed : List Thing) (q : Moment) : Type 0 where
   -- who did not fail is up and follows the plan, and is not made anew; and who is up did not fail
-  pub place : (y : ℕ) → IsWell setting epoch failed y → Place setting epoch q y
-  pub unmade : (y : ℕ) → IsWell setting epoch failed y → makes y q.step.seen.event ≡ false
+  pub place : (y : ℕ) → IsSoundMember setting epoch failed y → Place setting epoch q y
+  pub unmade : (y : ℕ) → IsSoundMember setting epoch failed y → makes y q.step.seen.event ≡ false
   pub well : (y : ℕ) → is_up (seen_of q.earlier) y ≡ true → is_member (the_plan setting epoch) y ≡ true → is_among failed (thing.Device y) ≡ false
   -- links of the plan too
   pub link : (l : ℕ) → is_present (the_plan setting epoch) l ≡ true → is_among failed (thing.Link l) ≡ false → link_has_failed (seen_of q.earlier) l ≡ false
@@ -80,25 +80,25 @@ pub record Scene (setting : Setting) (epoch : ℕ) (failed : List Thing) (q : Mo
   -- the root acts, B only where the root failed, others never
   pub root : is_among failed (thing.Device (the_plan setting epoch).root) ≡ false → acts_in q.earlier (the_plan setting epoch).root ≡ true
   pub takeover : acts_in q.earlier (the_plan setting epoch).backup_root ≡ true → is_among failed (thing.Device (the_plan setting epoch).root) ≡ true
-  pub ordinary : (y : ℕ) → IsWell setting epoch failed y → IsOrdinary setting epoch y → acts_in q.earlier y ≡ false
+  pub ordinary : (y : ℕ) → IsSoundMember setting epoch failed y → IsOrdinary setting epoch y → acts_in q.earlier y ≡ false
   -- who is on its backup is hit, and where B has moved its path is
-  pub hit : (y : ℕ) → IsWell setting epoch failed y → IsOrdinary setting epoch y → moved q.earlier y ≡ true → touches failed (epath setting.net (the_plan setting epoch) y) ≡ true
-  pub move : IsWell setting epoch failed (the_plan setting epoch).backup_root → moved q.earlier (the_plan setting epoch).backup_root ≡ true
+  pub hit : (y : ℕ) → IsSoundMember setting epoch failed y → IsOrdinary setting epoch y → moved q.earlier y ≡ true → touches failed (epath setting.net (the_plan setting epoch) y) ≡ true
+  pub move : IsSoundMember setting epoch failed (the_plan setting epoch).backup_root → moved q.earlier (the_plan setting epoch).backup_root ≡ true
       → touches failed (path setting.net (the_plan setting epoch) (the_plan setting epoch).backup_root) ≡ true
   -- while B is on its primary so are the devices above it; while it is on its backup those of the fallback are sound, and on their primaries
-  pub path : IsWell setting epoch failed (the_plan setting epoch).backup_root → moved q.earlier (the_plan setting epoch).backup_root ≡ false
+  pub path : IsSoundMember setting epoch failed (the_plan setting epoch).backup_root → moved q.earlier (the_plan setting epoch).backup_root ≡ false
       → acts_in q.earlier (the_plan setting epoch).backup_root ≡ false
-      → (x : ℕ) → has (above setting epoch) x ≡ true → is_root (the_plan setting epoch) x ≡ false → IsWell setting epoch failed x → moved q.earlier x ≡ false
-  pub fallback : IsWell setting epoch failed (the_plan setting epoch).backup_root → moved q.earlier (the_plan setting epoch).backup_root ≡ true
+      → (x : ℕ) → has (above setting epoch) x ≡ true → is_root (the_plan setting epoch) x ≡ false → IsSoundMember setting epoch failed x → moved q.earlier x ≡ false
+  pub fallback : IsSoundMember setting epoch failed (the_plan setting epoch).backup_root → moved q.earlier (the_plan setting epoch).backup_root ≡ true
       → ((x : ℕ) → has (fallback_devices setting.net (the_plan setting epoch)) x ≡ true → is_among failed (thing.Device x) ≡ false)
       × ((l : ℕ) → has (fallback_links setting.net (the_plan setting epoch)) l ≡ true → is_among failed (thing.Link l) ≡ false)
-  pub stays : IsWell setting epoch failed (the_plan setting epoch).backup_root → moved q.earlier (the_plan setting epoch).backup_root ≡ true
+  pub stays : IsSoundMember setting epoch failed (the_plan setting epoch).backup_root → moved q.earlier (the_plan setting epoch).backup_root ≡ true
       → acts_in q.earlier (the_plan setting epoch).backup_root ≡ false
-      → (x : ℕ) → has (fallback_devices setting.net (the_plan setting epoch)) x ≡ true → IsWell setting epoch failed x → moved q.earlier x ≡ false
+      → (x : ℕ) → has (fallback_devices setting.net (the_plan setting epoch)) x ≡ true → IsSoundMember setting epoch failed x → moved q.earlier x ≡ false
   -- who could move was not silent for longer than its wait
-  pub timeout : (y : ℕ) → IsWell setting epoch failed y → IsOrdinary setting epoch y → has_backup (the_plan setting epoch) y ≡ true → moved q.earlier y ≡ false
+  pub timeout : (y : ℕ) → IsSoundMember setting epoch failed y → IsOrdinary setting epoch y → has_backup (the_plan setting epoch) y ≡ true → moved q.earlier y ≡ false
       → when q ≤ heard_at q.earlier y + (wait_up setting.net (the_plan setting epoch) + tick_gap setting.net)
-  pub timeout_first : IsWell setting epoch failed (the_plan setting epoch).backup_root → moved q.earlier (the_plan setting epoch).backup_root ≡ false
+  pub timeout_first : IsSoundMember setting epoch failed (the_plan setting epoch).backup_root → moved q.earlier (the_plan setting epoch).backup_root ≡ false
       → acts_in q.earlier (the_plan setting epoch).backup_root ≡ false
       → when q ≤ heard_at q.earlier (the_plan setting epoch).backup_root + (first_up setting.net (the_plan setting epoch) + tick_gap setting.net)
 

@@ -11,7 +11,7 @@ use Rattle.sd_history.specs.Steps.{acts_in}
 use Rattle.sd_safety.specs.invariant.Eras.{is_among, moved}
 use Rattle.sd_safety.specs.messages.Moments.{Moment, upto, when, IsIn, IsBefore}
 use Rattle.sd_safety.specs.messages.Traces.{Trace, begins, goes_on}
-use Rattle.sd_bound.specs.timeouts.Settled.{the_plan, IsWell, hop_on}
+use Rattle.sd_bound.specs.timeouts.Settled.{the_plan, IsSoundMember, hop_on}
 
 -- the device has moved, or has not, and does not act
 abbrev pub Remains : Moment → ℕ → ℕ → Bool → Type 0
@@ -24,7 +24,7 @@ ActsSince top s0 x = (q : Moment) → IsIn q (upto top) → s0 < when q → acts
 -- this many hops from the source to the device: each device remains on the hop that leads to the one before it
 pub data Led (setting : Setting) (epoch : ℕ) (failed : List Thing) (top : Moment) (s0 source : ℕ) : ℕ → ℕ → Type 0 where
   at_source : Led setting epoch failed top s0 source source zero
-  onward : {x n : ℕ} → Led setting epoch failed top s0 source x n → (y : ℕ) (put : Bool) (hop : Hop) → IsWell setting epoch failed y
+  onward : {x n : ℕ} → Led setting epoch failed top s0 source x n → (y : ℕ) (put : Bool) (hop : Hop) → IsSoundMember setting epoch failed y
       → hop_on (the_plan setting epoch) put y ≡ Some hop → hop.parent ≡ x
       → is_among failed (thing.Link hop.link) ≡ false → Remains top s0 y put → Led setting epoch failed top s0 source y (suc n)
 

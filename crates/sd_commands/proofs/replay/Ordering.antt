@@ -22,12 +22,12 @@ use Rattle.sd_replay.specs.Standing.{HasRun}
 use Rattle.sd_replay.specs.wait.Printed.{bytes_at}
 use Rattle.sd_replay.specs.wait.Standing.{StandsFor}
 use Rattle.sd_commands.specs.replay.Telling.{latest_device, latest_name, latest_waits}
-use Rattle.sd_commands.specs.contracts.replay.told.ToldWaitsObserver.TheImpl.{ghosts}
-use Rattle.sd_commands.specs.declared.replay.told.ToldWaits.{ToldWaits}
+use Rattle.sd_commands.specs.contracts.replay.observer.WaitObserverObserver.TheImpl.{ghosts}
+use Rattle.sd_commands.specs.declared.replay.observer.WaitObserver.{WaitObserver}
 use Rattle.sd_commands.proofs.replay.Reporting.{latest_known}
 use Rattle.sd_commands.proofs.replay.Stepping.{chronicled}
 
-module _ (replay : Replay Registers ToldWaits device ghosts) (observer : ToldWaits) (same : observer ≡ replay.observer) (net : Network)
+module _ (replay : Replay Registers WaitObserver device ghosts) (observer : WaitObserver) (same : observer ≡ replay.observer) (net : Network)
     (net_is : (s : Setting) (run : List (NodeStep Registers)) → StandsForRun device ghosts replay s run → net ≡ s.net) where
   -- it is one of the topology's
   pub name_known : (d : ℕ) → observer.device ≡ Some d → ∥ HasRun device ghosts replay.fleet replay.monitors replay.event_output replay.observer ∥₁
@@ -36,7 +36,7 @@ module _ (replay : Replay Registers ToldWaits device ghosts) (observer : ToldWai
     where
       known : HasRun device ghosts replay.fleet replay.monitors replay.event_output replay.observer → d < length net.devices
       known has =
-          let latest : latest_device (reports (steps_of has.steps)) ≡ Some d = sym has.stands.told.device ∙ ap (λ (w : ToldWaits). w.device) (sym same) ∙ is in
+          let latest : latest_device (reports (steps_of has.steps)) ≡ Some d = sym has.stands.told.device ∙ ap (λ (w : WaitObserver). w.device) (sym same) ∙ is in
           subst (λ (n : Network). d < length n.devices) (sym (net_is has.setting has.steps has.stands))
           (latest_known has.setting (steps_of has.steps) d (run_is_accepted device has.setting has.steps has.stands.made.is_run) latest)
 
@@ -48,22 +48,22 @@ module _ (replay : Replay Registers ToldWaits device ghosts) (observer : ToldWai
       let steps : steps_of replayed.run ≡ chronicle setting events = chronicled ghosts setting events replay replayed in
       let latest : latest_device (reports (chronicle setting events)) ≡ Some d =
       subst (λ (ss : List Step). latest_device (reports ss) ≡ Some d) steps
-      (sym replayed.stands.told.device ∙ ap (λ (w : ToldWaits). w.device) (sym same) ∙ is) in
+      (sym replayed.stands.told.device ∙ ap (λ (w : WaitObserver). w.device) (sym same) ∙ is) in
       called ∙ ap (λ (n : Network). device_name n d) (net_is setting replayed.run replayed.stands)
       ∙ ap (λ (o : Option ℕ). map_or o [] (device_name setting.net)) (sym latest)
 
 -- no report, no name
-pub unnamed : (replay : Replay Registers ToldWaits device ghosts) (observer : ToldWaits) → observer ≡ replay.observer → (name : List ℕ) → observer.device ≡ None
+pub unnamed : (replay : Replay Registers WaitObserver device ghosts) (observer : WaitObserver) → observer ≡ replay.observer → (name : List ℕ) → observer.device ≡ None
     → name ≡ [] → (setting : Setting) (events : List Event) → HasReplayed ghosts replay setting events
     → name ≡ latest_name setting.net (reports (chronicle setting events))
 unnamed replay observer same name is called setting events replayed =
     let steps : steps_of replayed.run ≡ chronicle setting events = chronicled ghosts setting events replay replayed in
     let latest : latest_device (reports (chronicle setting events)) ≡ None =
-    subst (λ (ss : List Step). latest_device (reports ss) ≡ None) steps (sym replayed.stands.told.device ∙ ap (λ (w : ToldWaits). w.device) (sym same) ∙ is) in
+    subst (λ (ss : List Step). latest_device (reports ss) ≡ None) steps (sym replayed.stands.told.device ∙ ap (λ (w : WaitObserver). w.device) (sym same) ∙ is) in
     called ∙ ap (λ (o : Option ℕ). map_or o [] (device_name setting.net)) (sym latest)
 
 -- what is said of the lines that bear the name is said of those of the latest report
-pub waits_named : (Says : List ℕ → Type 0) (replay : Replay Registers ToldWaits device ghosts) (observer : ToldWaits)
+pub waits_named : (Says : List ℕ → Type 0) (replay : Replay Registers WaitObserver device ghosts) (observer : WaitObserver)
     → observer ≡ replay.observer → (name : List ℕ)
     → ((told : List ReportAt) → StandsFor observer.waits told → Says (bytes_at told (length told - 1) name))
     → (setting : Setting) (events : List Event) → HasReplayed ghosts replay setting events
@@ -72,7 +72,7 @@ pub waits_named : (Says : List ℕ → Type 0) (replay : Replay Registers ToldWa
 waits_named Says replay observer same name says setting events replayed called =
     let told : List ReportAt = reports (chronicle setting events) in
     let stands : StandsFor observer.waits told =
-    subst (λ (w : ToldWaits). StandsFor w.waits told) (sym same)
+    subst (λ (w : WaitObserver). StandsFor w.waits told) (sym same)
     (subst (λ (ss : List Step). StandsFor replay.observer.waits (reports ss))
     (chronicled ghosts setting events replay replayed) replayed.stands.told.waits) in
     subst (λ (n : List ℕ). Says (bytes_at told (length told - 1) n)) called (says told stands)

@@ -31,17 +31,17 @@ use Rattle.sd_files.specs.declared.work.Taken.TheVariants as taken
 use Rattle.sd_commands.specs.replay.Doing.{DoesOrder, DoesReplay}
 use Rattle.sd_commands.specs.replay.Replays.{order_work, replay_work, status_if}
 use Rattle.sd_commands.specs.replay.Telling.{latest_waits}
-use Rattle.sd_commands.specs.contracts.replay.told.ToldWaitsObserver.TheImpl.{ghosts}
-use Rattle.sd_commands.specs.declared.replay.ordered.Ordered.{Ordered}
-use Rattle.sd_commands.specs.declared.replay.replayed.Replayed.{Replayed}
-use Rattle.sd_commands.specs.declared.replay.told.ToldWaits.{ToldWaits}
+use Rattle.sd_commands.specs.contracts.replay.observer.WaitObserverObserver.TheImpl.{ghosts}
+use Rattle.sd_commands.specs.declared.replay.order_work.OrderWork.{OrderWork}
+use Rattle.sd_commands.specs.declared.replay.replay_work.ReplayWork.{ReplayWork}
+use Rattle.sd_commands.specs.declared.replay.observer.WaitObserver.{WaitObserver}
 use Rattle.sd_commands.proofs.replay.Reporting.{more_at, none_at}
 use Rattle.sd_commands.proofs.replay.Stepping.{chronicled}
 
 -- The work of `replay`
 
 module _ {V : Type 0} (o : observers.Ghosts V) where
-  as_replay : (new : Replayed V o) (line printed : List ℕ) (what : Taken) (work : Work Event) (xs : List Event) (setting : Setting) → work ≡ replay_work setting
+  as_replay : (new : ReplayWork V o) (line printed : List ℕ) (what : Taken) (work : Work Event) (xs : List Event) (setting : Setting) → work ≡ replay_work setting
       → Takes (replay_work setting) xs line (HasReplayed o new.replay setting) printed what → Takes work xs line (DoesReplay o new work) printed what
   as_replay new line printed taken.Accepted work xs setting is (e, says, prints, more) =
       subst (λ (w : Work Event). Takes w xs line (DoesReplay o new w) printed taken.Accepted) (sym is)
@@ -51,7 +51,7 @@ module _ {V : Type 0} (o : observers.Ghosts V) where
       (says, record { setting = setting; is = refl; replayed = stays })
 
   -- a line was taken
-  pub replay_takes : (old new : Replayed V o) (line printed : List ℕ) (result : Result Taken NoMemory)
+  pub replay_takes : (old new : ReplayWork V o) (line printed : List ℕ) (result : Result Taken NoMemory)
       → IfOk result (λ what. (setting : Setting) (events : List Event) → HasReplayed o old.replay setting events
       → Takes (replay_work setting) events line (HasReplayed o new.replay setting) printed what)
       → IfOk result (λ what. (work : Work Event) (xs : List Event) → DoesReplay o old work xs → Takes work xs line (DoesReplay o new work) printed what)
@@ -60,7 +60,7 @@ module _ {V : Type 0} (o : observers.Ghosts V) where
       λ work xs does. as_replay new line printed what work xs does.setting does.is (takes does.setting xs does.replayed)
 
   -- a line was taken at the front of a text, or none
-  pub replay_takes_front : (old new : Replayed V o) (text printed : List ℕ) (result : Result (Option ℕ) NoMemory)
+  pub replay_takes_front : (old new : ReplayWork V o) (text printed : List ℕ) (result : Result (Option ℕ) NoMemory)
       → IfOk result (λ found. (setting : Setting) (events : List Event) → HasReplayed o old.replay setting events
       → TakesFront (replay_work setting) events text (HasReplayed o new.replay setting) printed found)
       → IfOk result (λ found. (work : Work Event) (xs : List Event) → DoesReplay o old work xs → TakesFront work xs text (DoesReplay o new work) printed found)
@@ -70,20 +70,20 @@ module _ {V : Type 0} (o : observers.Ghosts V) where
   replay_takes_front old new text printed (Ok (Some len)) takes =
       λ work xs does. as_replay new (take len text) printed taken.Accepted work xs does.setting does.is (takes does.setting xs does.replayed)
 
-  pub replay_ends : (old : Replayed V o) (over : Bool)
+  pub replay_ends : (old : ReplayWork V o) (over : Bool)
       → ((setting : Setting) (events : List Event) → HasReplayed o old.replay setting events → over ≡ list_any is_end_event events)
       → (work : Work Event) (xs : List Event) → DoesReplay o old work xs
       → over ≡ list_any work.ends xs
   replay_ends old over says work xs does = subst (λ (w : Work Event). over ≡ list_any w.ends xs) (sym does.is) (says does.setting xs does.replayed)
 
-  pub replay_last : (old : Replayed V o) (bytes : List ℕ)
+  pub replay_last : (old : ReplayWork V o) (bytes : List ℕ)
       → ((setting : Setting) (events : List Event) → HasReplayed o old.replay setting events → bytes ≡ done_bytes (chronicle setting events))
       → (work : Work Event) (xs : List Event)
       → DoesReplay o old work xs → piece_of bytes ≡ work.last_pieces xs
   replay_last old bytes says work xs does =
       subst (λ (w : Work Event). piece_of bytes ≡ w.last_pieces xs) (sym does.is) (ap piece_of (says does.setting xs does.replayed))
 
-  pub replay_status : (old : Replayed V o) (trouble : Bool) (status : Status) → status ≡ status_if trouble
+  pub replay_status : (old : ReplayWork V o) (trouble : Bool) (status : Status) → status ≡ status_if trouble
       → ((setting : Setting) (events : List Event) → HasReplayed o old.replay setting events
       → trouble ≡ shows_trouble (tally_of setting (chronicle setting events))) → (work : Work Event) (xs : List Event) → DoesReplay o old work xs
       → status ≡ work.last_status xs
@@ -92,7 +92,7 @@ module _ {V : Type 0} (o : observers.Ghosts V) where
 
 -- The work of `order`
 
-module _ (setting : Setting) (xs : List Event) (line text printed : List ℕ) (middle new : Replay Registers ToldWaits device ghosts) (same : new ≡ middle) where
+module _ (setting : Setting) (xs : List Event) (line text printed : List ℕ) (middle new : Replay Registers WaitObserver device ghosts) (same : new ≡ middle) where
   -- a line was accepted, and its step has a report
   pub order_reports : (before after : ℕ) → before ≡ length (reports (chronicle setting xs))
       → ((events : List Event) → HasReplayed ghosts middle setting events → after ≡ length (reports (chronicle setting events))) → before < after
@@ -105,11 +105,11 @@ module _ (setting : Setting) (xs : List Event) (line text printed : List ℕ) (m
         says,
         adds (e ∷ xs) replayed ∙ ap (λ (b : List ℕ). b ++ latest_waits setting.net (reports (chronicle setting (e ∷ xs)))) prints
             ∙ sym (more_at setting (chronicle setting (e ∷ xs)) (chronicle setting xs) (next_step setting (chronicle setting xs) e) refl less),
-        subst (λ (r : Replay Registers ToldWaits device ghosts). HasReplayed ghosts r setting (e ∷ xs)) (sym same) replayed,
+        subst (λ (r : Replay Registers WaitObserver device ghosts). HasReplayed ghosts r setting (e ∷ xs)) (sym same) replayed,
       )
 
 -- and one without a report
-pub order_silent : (setting : Setting) (xs : List Event) (line printed : List ℕ) (new : Replay Registers ToldWaits device ghosts) (before after : ℕ)
+pub order_silent : (setting : Setting) (xs : List Event) (line printed : List ℕ) (new : Replay Registers WaitObserver device ghosts) (before after : ℕ)
     → before ≡ length (reports (chronicle setting xs))
     → ((events : List Event) → HasReplayed ghosts new setting events → after ≡ length (reports (chronicle setting events))) → (before < after → ⊥)
     → Takes (replay_work setting) xs line (HasReplayed ghosts new setting) printed taken.Accepted
@@ -124,7 +124,7 @@ order_silent setting xs line printed new before after was is none (e, says, prin
       replayed,
     )
 
-as_order : (new : Ordered) (line printed : List ℕ) (what : Taken) (work : Work Event) (xs : List Event) (setting : Setting) → work ≡ order_work setting
+as_order : (new : OrderWork) (line printed : List ℕ) (what : Taken) (work : Work Event) (xs : List Event) (setting : Setting) → work ≡ order_work setting
     → Takes (order_work setting) xs line (HasReplayed ghosts new.replayed.replay setting) printed what → Takes work xs line (DoesOrder new work) printed what
 as_order new line printed taken.Accepted work xs setting is (e, says, prints, more) =
     subst (λ (w : Work Event). Takes w xs line (DoesOrder new w) printed taken.Accepted) (sym is)
@@ -134,26 +134,26 @@ as_order new line printed taken.Refused work xs setting is (says, stays) =
     (says, record { setting = setting; is = refl; replayed = stays })
 
 -- a line was taken
-pub order_takes : (old new : Ordered) (line printed : List ℕ) (what : Taken)
+pub order_takes : (old new : OrderWork) (line printed : List ℕ) (what : Taken)
     → ((setting : Setting) (events : List Event) → HasReplayed ghosts old.replayed.replay setting events
     → Takes (order_work setting) events line (HasReplayed ghosts new.replayed.replay setting) printed what) → (work : Work Event) (xs : List Event)
     → DoesOrder old work xs → Takes work xs line (DoesOrder new work) printed what
 order_takes old new line printed what takes work xs does = as_order new line printed what work xs does.setting does.is (takes does.setting xs does.replayed)
 
 -- none was
-pub order_stays : (old new : Ordered)
+pub order_stays : (old new : OrderWork)
     → ((setting : Setting) (events : List Event) → HasReplayed ghosts old.replayed.replay setting events
     → HasReplayed ghosts new.replayed.replay setting events) → (work : Work Event) (xs : List Event) → DoesOrder old work xs → DoesOrder new work xs
 order_stays old new stays work xs does = record { setting = does.setting; is = does.is; replayed = stays does.setting xs does.replayed }
 
-pub order_ends : (old : Ordered) (over : Bool)
+pub order_ends : (old : OrderWork) (over : Bool)
     → ((setting : Setting) (events : List Event) → HasReplayed ghosts old.replayed.replay setting events → over ≡ list_any is_end_event events)
     → (work : Work Event) (xs : List Event) → DoesOrder old work xs
     → over ≡ list_any work.ends xs
 order_ends old over says work xs does = subst (λ (w : Work Event). over ≡ list_any w.ends xs) (sym does.is) (says does.setting xs does.replayed)
 
 -- what commit wait counts is of the reports of the history
-pub waits_as : (replay : Replay Registers ToldWaits device ghosts) (tally : WaitTally)
+pub waits_as : (replay : Replay Registers WaitObserver device ghosts) (tally : WaitTally)
     → ((told : List ReportAt) → StandsFor replay.observer.waits told → tally ≡ waits_of told) → (setting : Setting) (events : List Event)
     → HasReplayed ghosts replay setting events
     → tally ≡ waits_of (reports (chronicle setting events))
@@ -161,7 +161,7 @@ waits_as replay tally says setting events replayed =
     says (reports (steps_of replayed.run)) replayed.stands.told.waits
     ∙ ap (λ (steps : List Step). waits_of (reports steps)) (chronicled ghosts setting events replay replayed)
 
-pub order_last : (old : Ordered) (done waits : List ℕ) (tally : WaitTally) → waits ≡ waits_line tally
+pub order_last : (old : OrderWork) (done waits : List ℕ) (tally : WaitTally) → waits ≡ waits_line tally
     → ((setting : Setting) (events : List Event) → HasReplayed ghosts old.replayed.replay setting events → done ≡ done_bytes (chronicle setting events))
     → ((told : List ReportAt) → StandsFor old.replayed.replay.observer.waits told → tally ≡ waits_of told) → (work : Work Event) (xs : List Event)
     → DoesOrder old work xs → piece_of done ++ piece_of waits ≡ work.last_pieces xs
@@ -171,7 +171,7 @@ order_last old done waits tally is says tells work xs does =
     (ap (λ (b : List ℕ). piece_of b ++ piece_of waits) (says does.setting xs does.replayed)
     ∙ ap (λ (b : List ℕ). piece_of (done_bytes (chronicle does.setting xs)) ++ piece_of b) (is ∙ ap waits_line counted))
 
-pub order_status : (old : Ordered) (trouble : Bool) (status : Status) (tally : WaitTally) → status ≡ status_if (trouble || nat_lt 0 tally.disorders)
+pub order_status : (old : OrderWork) (trouble : Bool) (status : Status) (tally : WaitTally) → status ≡ status_if (trouble || nat_lt 0 tally.disorders)
     → ((setting : Setting) (events : List Event) → HasReplayed ghosts old.replayed.replay setting events
     → trouble ≡ shows_trouble (tally_of setting (chronicle setting events)))
     → ((told : List ReportAt) → StandsFor old.replayed.replay.observer.waits told → tally ≡ waits_of told) → (work : Work Event) (xs : List Event)

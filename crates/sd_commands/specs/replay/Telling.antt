@@ -6,7 +6,7 @@ use Rattle.sd_device.specs.msg.Observed.{ReportAt}
 use Rattle.sd_history.specs.Text.{device_name}
 use Rattle.sd_replay.specs.wait.Printed.{bytes_at}
 use Rattle.sd_replay.specs.wait.Standing.{StandsFor}
-use Rattle.sd_commands.specs.declared.replay.told.ToldWaits.{ToldWaits}
+use Rattle.sd_commands.specs.declared.replay.observer.WaitObserver.{WaitObserver}
 
 -- the device of the latest report, which is the last
 abbrev pub latest_device : List ReportAt → Option ℕ
@@ -15,7 +15,7 @@ latest_device (x ∷ []) = Some x.device
 latest_device (x ∷ y ∷ others) = latest_device (y ∷ others)
 
 -- commit wait stands for the reports, and the device of the latest one is kept
-pub record IsTold (kept : ToldWaits) (told : List ReportAt) : Type 0 where
+pub record IsTold (kept : WaitObserver) (told : List ReportAt) : Type 0 where
   pub waits : StandsFor kept.waits told
   pub device : kept.device ≡ latest_device told
 

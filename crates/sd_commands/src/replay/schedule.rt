@@ -14,9 +14,9 @@ ghost use Rattle.sd_commands.specs.replay.Replays.{order_work, replay_work};
 
 use crate::replay::Files;
 use crate::replay::files::{end_early, start};
-use crate::replay::ordered::Ordered;
-use crate::replay::replayed::Replayed;
-use crate::replay::told::ToldWaits;
+use crate::replay::order_work::OrderWork;
+use crate::replay::replay_work::ReplayWork;
+use crate::replay::observer::WaitObserver;
 use sd_device::msg::NoObserver;
 use sd_files::work::{LineWork, work_through};
 use sd_files::{IoError, Status};
@@ -43,7 +43,7 @@ pub fn replay<S: Shelf, O: Sink>(
     let line = LineBuffer::new(alloc)?;
     match start(alloc, shelf, files, NoObserver) {
         Ok(replay) => {
-            let work = Replayed::new(alloc, replay, line);
+            let work = ReplayWork::new(alloc, replay, line);
             go_through(alloc, shelf, files.schedule, work, out)
         }
         Err(early) => end_early(alloc, early, out),
@@ -68,10 +68,10 @@ pub fn order<S: Shelf, O: Sink>(
         result }
 {
     let line = LineBuffer::new(alloc)?;
-    match start(alloc, shelf, files, ToldWaits::new(alloc)) {
+    match start(alloc, shelf, files, WaitObserver::new(alloc)) {
         Ok(replay) => {
-            let replayed = Replayed::new(alloc, replay, line);
-            go_through(alloc, shelf, files.schedule, Ordered { replayed }, out)
+            let replayed = ReplayWork::new(alloc, replay, line);
+            go_through(alloc, shelf, files.schedule, OrderWork { replayed }, out)
         }
         Err(early) => end_early(alloc, early, out),
     }

@@ -21,17 +21,17 @@ use Rattle.sd_replay.specs.Devices.{QuietReplay}
 use Rattle.sd_replay.specs.Replaying as replays
 use Rattle.sd_replay.specs.Standing.{HasRun}
 use Rattle.sd_replay.specs.Tallies.{tally_of}
-use Rattle.sd_gen.specs.command.Replayed.{StandsFor}
-use Rattle.sd_gen.specs.declared.command.replayed.Replayed.{Replayed}
+use Rattle.sd_gen.specs.command.CaseRuns.{StandsFor}
+use Rattle.sd_gen.specs.declared.command.case_run.CaseRun.{CaseRun}
 
 -- an event that the replay accepted
-pub accepted : (new : Replayed) (setting : Setting) (run : Run) (e : Event) (outcome : Outcome)
+pub accepted : (new : CaseRun) (setting : Setting) (run : Run) (e : Event) (outcome : Outcome)
     → replays.IsSteppedTo device nobody new.replay setting run e outcome → IsAccepted StandsFor new setting run e outcome
 accepted new setting run e outcome to =
     record { next = to.stepped.next; happens = to.stepped.happens; comes = to.comes; is_run = to.stepped.stands.made.is_run; stands = to.stepped.stands }
 
 -- and one that it refused for a cause of the history
-pub refused : (new : Replayed) (setting : Setting) (run : Run) (e : Event) (what : ReplayFault) (why : ApplyFault) → what ≡ fault.Apply why
+pub refused : (new : CaseRun) (setting : Setting) (run : Run) (e : Event) (what : ReplayFault) (why : ApplyFault) → what ≡ fault.Apply why
     → replays.StandsFor device nobody new.replay setting run × replays.IsFault what setting (steps_of run) e → IsRefused StandsFor new setting run e
 refused new setting run e what why is (stands, said) =
     record { why = why; refused = subst (λ (f : ReplayFault). replays.IsFault f setting (steps_of run) e) is said; stands = stands }
@@ -46,7 +46,7 @@ never_line old new e what why is there refused =
     (λ has. subst (λ (f : ReplayFault). replays.IsFault f has.setting (steps_of has.steps) e) is (refused has.setting has.steps has.stands).1)
 
 -- its tally is that of the chronicle of its events
-pub tally_as : (replayed : Replayed) (tally : Tally)
+pub tally_as : (replayed : CaseRun) (tally : Tally)
     → ((s : Setting) (run : List (NodeStep Registers)) → replays.StandsFor device nobody replayed.replay s run → tally ≡ tally_of s (steps_of run))
     → (setting : Setting) (events : List Event) → HasHappened StandsFor replayed setting events → tally ≡ tally_of setting (chronicle setting events)
 tally_as replayed tally says setting events happened =

@@ -8,9 +8,9 @@ use Rattle.sd_plan.proofs.Numbered.{length-numbered}
 use Rattle.sd_gen.specs.fabric.Fabrics.{device_named, fabric, leaf_name, spine_name}
 use Rattle.sd_gen.proofs.fabric.Reading.{fabric_is_network as is_network}
 use Rattle.sd_gen.specs.command.Sizes.{IsWithin}
-use Rattle.sd_gen.specs.declared.command.Fabric.{Fabric}
+use Rattle.sd_gen.specs.declared.command.FabricSize.{FabricSize}
 
-pub fabric_is_network : (sizes : Fabric) → IsWithin sizes → IsNetwork (fabric sizes.leaves sizes.spines)
+pub fabric_is_network : (sizes : FabricSize) → IsWithin sizes → IsNetwork (fabric sizes.leaves sizes.spines)
 fabric_is_network sizes within =
     let some = within.some_spines in is_network sizes.leaves sizes.spines (omega (arith, some)) within.few_leaves within.few_spines
 

@@ -12,7 +12,7 @@ use Rattle.sd_plan.specs.declared.Duty.{Duty}
 use Rattle.sd_plan.specs.declared.Role.TheVariants as role
 use Rattle.sd_plan.specs.Plans.{is_member, is_root, is_backup_root}
 use Rattle.sd_plan.specs.Duties.{duty_of}
-use Rattle.sd_device.specs.Calls.{Making, Started, Joined, Call, Transition, Entered, Committed, Recommitted, Accepted, Moved, TookOver, Emitted, Nothing, Past, Did}
+use Rattle.sd_device.specs.Calls.{Making, Started, Joined, Call, Transition, Entered, Committed, Recommitted, Accepted, Moved, TookOver, Emitted, Nothing, Past, CallDone}
 use Rattle.sd_device.specs.Words.{after, transition_of, duty_now, given_now, taken_up, has_moved, is_acting, is_takeover as is_takeover_transition}
 use Rattle.sd_sched.specs.declared.Event.{Event}
 use Rattle.sd_sched.specs.Events.{reference_of}
@@ -51,7 +51,7 @@ use Rattle.sd_safety.proofs.waits.LookingBack.{both_two}
 
 -- References
 
-such_when : (test : Did → Bool) (s : Step) (steps : List Step) (d : ℕ) → latest_such test steps d ≤ reference_of s.seen.event
+such_when : (test : CallDone → Bool) (s : Step) (steps : List Step) (d : ℕ) → latest_such test steps d ≤ reference_of s.seen.event
     → latest_such test (s ∷ steps) d ≤ reference_of s.seen.event
 such_when test s steps d le = go (makes d s.seen.event || does test steps s d) le
   where
@@ -60,7 +60,7 @@ such_when test s steps d le = go (makes d s.seen.event || does test steps s d) l
     go true le' = omega arith
     go false le' = le'
 
-such_within : (test : Did → Bool) (setting : Setting) (steps : List Step) (d : ℕ) → AreTimed setting steps
+such_within : (test : CallDone → Bool) (setting : Setting) (steps : List Step) (d : ℕ) → AreTimed setting steps
     → latest_such test steps d ≤ latest_reference (seen_of steps)
 such_within test setting [] d timed = omega arith
 such_within test setting (s ∷ steps) d timed =

@@ -13,7 +13,7 @@ use Rattle.sd_plan.specs.Walks.{hops}
 use Rattle.sd_device.specs.declared.msg.Stamp.{Stamp}
 use Rattle.sd_device.specs.declared.msg.Flight.{Flight}
 use Rattle.sd_device.specs.Calls as calls
-use Rattle.sd_device.specs.Calls.{Call, Did, Past}
+use Rattle.sd_device.specs.Calls.{Call, CallDone, Past}
 use Rattle.sd_device.specs.Words.{transition_of, accepted_over}
 use Rattle.sd_sched.specs.declared.Event.{Event}
 use Rattle.sd_sched.specs.declared.Event.TheVariants as event
@@ -157,7 +157,7 @@ heard_by_receipt at x f receipt =
     ∙ ap (λ (o : Option Edge). is_some o) receipt.over in
     ap (λ b. if b then when at else heard_at at.earlier x) (or_right (makes x at.step.seen.event) (does hears at.earlier at.step x) does_it)
 
-pub rises_on : (test : Did → Bool) (setting : Setting) (history : List Event) → IsAdmitted setting history → (d : ℕ) (older : List Step)
+pub rises_on : (test : CallDone → Bool) (setting : Setting) (history : List Event) → IsAdmitted setting history → (d : ℕ) (older : List Step)
     → Tail older (chronicle setting history) → latest_such test older d ≤ latest_such test (chronicle setting history) d
 rises_on test setting [] is d older whole = omega arith
 rises_on test setting (e ∷ history) is d older whole = omega arith

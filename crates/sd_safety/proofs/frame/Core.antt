@@ -13,7 +13,7 @@ use Rattle.sd_history.proofs.Among.{all_pass}
 use Rattle.sd_safety.specs.invariant.Bounds.{depth, delay, rounds_gap}
 use Rattle.sd_safety.specs.invariant.Eras.{era, plan_now, is_old, is_new, is_blank, is_ordinary, hit, root_failed, on_primary, belongs, will_belong, heard_at, sent_at}
 use Rattle.sd_safety.specs.invariant.Clauses.{just_closed, member_is_up, shadow_is_short, none_sent_ahead, commit_at, staged_root, leads_to_root, left_out_is_hit, begins_with}
-use Rattle.sd_safety.specs.invariant.Invariant.{Of, Core, BeganQuietly, IsClosed, IsCommitted}
+use Rattle.sd_safety.specs.invariant.Invariant.{ForEach, Core, BeganQuietly, IsClosed, IsCommitted}
 use Rattle.sd_safety.specs.frame.Frames.{IsAlike, IsAlikeAt}
 use Rattle.sd_safety.proofs.frame.Alike.{member_follows_same, returned_same, outsider_same, current_same, blank_is_same, link_on, root_acts_same, failed_root_same, ordinary_same, backup_same, move_same, takeover_same, path_same, none_new_same}
 
@@ -33,8 +33,8 @@ closed_of setting steps none =
 -- what being alike does not give
 pub record IsTimely (setting : Setting) (steps : List Step) : Type 0 where
   pub calm : BeganQuietly setting steps
-  pub members_up : Of (member_is_up setting steps)
-  pub shadow : Of (shadow_is_short setting steps)
+  pub members_up : ForEach (member_is_up setting steps)
+  pub shadow : ForEach (shadow_is_short setting steps)
   pub messages : IsTrue (none_sent_ahead steps)
   pub committed : IsCommitted setting steps
   pub unclosed : just_closed steps ≡ false

@@ -4,7 +4,7 @@ use Rattle.std.specs.Prelude.{◌≡◌, ℕ, Bool, true, false, ◌&&◌, ◌||
 use Rattle.std.proofs.Common.{◌∙◌, ap}
 use Rattle.sd_num.specs.Lists.{map_or, same_number}
 use Rattle.sd_plan.specs.declared.topo.Thing.TheVariants as thing
-use Rattle.sd_device.specs.Calls.{Did, Past}
+use Rattle.sd_device.specs.Calls.{CallDone, Past}
 use Rattle.sd_device.specs.Words.{after, transition_of, has_moved}
 use Rattle.sd_sched.specs.Events.{reference_of}
 use Rattle.sd_history.specs.World.{fails, is_up}
@@ -69,10 +69,10 @@ module _ (earlier : List Step) (s : Step) (d : ℕ) (alone : IsElsewhere s d) wh
   pub on_backup_alone : on_backup (s ∷ earlier) d ≡ on_backup earlier d
   on_backup_alone = ap (λ b. b && not (acts_in (s ∷ earlier) d)) moved_alone ∙ ap (λ b. moved earlier d && not b) acts_alone
 
-  pub does_nothing : (test : Did → Bool) → does test earlier s d ≡ false
-  does_nothing test = ap (λ (o : Option Did). map_or o false test) (did_elsewhere earlier s.act d alone.changes)
+  pub does_nothing : (test : CallDone → Bool) → does test earlier s d ≡ false
+  does_nothing test = ap (λ (o : Option CallDone). map_or o false test) (did_elsewhere earlier s.act d alone.changes)
 
-  pub such_alone : (test : Did → Bool) → latest_such test (s ∷ earlier) d ≡ latest_such test earlier d
+  pub such_alone : (test : CallDone → Bool) → latest_such test (s ∷ earlier) d ≡ latest_such test earlier d
   such_alone test =
       ap (λ b. if b || does test earlier s d then reference_of s.seen.event else latest_such test earlier d) alone.unmade
       ∙ ap (λ b. if b then reference_of s.seen.event else latest_such test earlier d) (does_nothing test)

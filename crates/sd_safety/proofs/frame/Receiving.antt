@@ -8,7 +8,7 @@ use Rattle.sd_plan.specs.declared.Edge.{Edge}
 use Rattle.sd_plan.specs.Plans.{is_root}
 use Rattle.sd_device.specs.declared.msg.Flight.{Flight}
 use Rattle.sd_device.specs.Calls as calls
-use Rattle.sd_device.specs.Calls.{Transition, Did, Past}
+use Rattle.sd_device.specs.Calls.{Transition, CallDone, Past}
 use Rattle.sd_device.specs.Words.{transition_of, accepted_over, accepted_by, over_link, parent_edge, given_now, epoch_now, stamp_now}
 use Rattle.sd_device.specs.declared.msg.Message.{Message}
 use Rattle.sd_device.specs.msg.Stamps.{is_newer}
@@ -41,7 +41,7 @@ use Rattle.sd_safety.proofs.frame.Idles.{step_at, passing, calling, alike_now, e
 use Rattle.sd_safety.proofs.invariant.Opening.{gives}
 
 -- no such thing came later than the latest event
-pub such_within : (test : Did → Bool) (setting : Setting) (history : List Event) → IsAdmitted setting history → (d : ℕ)
+pub such_within : (test : CallDone → Bool) (setting : Setting) (history : List Event) → IsAdmitted setting history → (d : ℕ)
     → latest_such test (chronicle setting history) d ≤ latest_reference (seen_of (chronicle setting history))
 such_within test setting [] is d = omega arith
 such_within test setting (e ∷ history) is d =
@@ -61,7 +61,7 @@ such_within test setting (e ∷ history) is d =
     go false before = before
 
 -- and none earlier than before
-pub such_rises : (test : Did → Bool) (setting : Setting) (e : Event) (history : List Event) → IsAdmitted setting (e ∷ history) → (d : ℕ)
+pub such_rises : (test : CallDone → Bool) (setting : Setting) (e : Event) (history : List Event) → IsAdmitted setting (e ∷ history) → (d : ℕ)
     → latest_such test (chronicle setting history) d ≤ latest_such test (chronicle setting (e ∷ history)) d
 such_rises test setting e history is d =
     go (makes d e || does test (chronicle setting history) (step_at setting history e) d)

@@ -15,7 +15,7 @@ use Rattle.sd_history.specs.Chronicle.{chronicle}
 use Rattle.sd_safety.specs.invariant.Bounds.{depth, delay, tick_gap}
 use Rattle.sd_safety.specs.invariant.Eras.{era, plan_now, failed_now, device_failed_now, is_old, is_new, is_blank, is_past, moved, on_primary, is_ordinary, hit, hit_otherwise, path_hit, root_failed, root_lives, heard_at}
 use Rattle.sd_safety.specs.invariant.Clauses.{just_closed, member_is_up, member_follows, returned_is_joined, outsider_is_past, counted_is_current, blank_is_idle, link_is_sound, root_acts, failed_root_is_not_old, ordinary_follows, backup_root_acts, backup_is_caused, move_is_caused, takeover_is_caused, above_backup_root, backup_root_stays, path_stays, shadow_is_short}
-use Rattle.sd_safety.specs.invariant.Invariant.{Of, Core, BeganQuietly, IsCommitted}
+use Rattle.sd_safety.specs.invariant.Invariant.{ForEach, Core, BeganQuietly, IsCommitted}
 use Rattle.sd_safety.specs.invariant.Guarded.{AreGuarded, IsSteady}
 use Rattle.sd_safety.proofs.invariant.Empty.{asks_nothing}
 use Rattle.sd_safety.proofs.waits.Beginning.{quiet, still}
@@ -267,7 +267,7 @@ module _ (setting : Setting) (one two : List Step) (core : Core setting one) (er
       by_both (inl s) (inr u) = none_asked x (near (heard_at two (plan_now setting two).backup_root) (heard_at two x)) u.old
       by_both (inl s) (inl u) = rw (stays_same s, above, plan, old x u, u.heard_is, s.heard_is) (core.causes.shadow x)
 
-  pub turned_core : BeganQuietly setting two → Of (member_is_up setting two) → IsCommitted setting two → just_closed two ≡ false → Core setting two
+  pub turned_core : BeganQuietly setting two → ForEach (member_is_up setting two) → IsCommitted setting two → just_closed two ≡ false → Core setting two
   turned_core calm members_up entering unclosed =
       record {
         calm = calm;

@@ -9,7 +9,7 @@ use Rattle.sd_plan.specs.declared.Duty.{Duty}
 use Rattle.sd_plan.specs.declared.Edge.{Edge}
 use Rattle.sd_device.specs.declared.msg.Message.{Message}
 use Rattle.sd_device.specs.Calls as calls
-use Rattle.sd_device.specs.Calls.{Call, Transition, Did, Past}
+use Rattle.sd_device.specs.Calls.{Call, Transition, CallDone, Past}
 use Rattle.sd_device.specs.Words.{after, transition_of, taken_up, accepted_over, duty_now, epoch_now, is_acting}
 use Rattle.sd_sched.specs.declared.Event.{Event}
 use Rattle.sd_sched.specs.declared.Event.TheVariants as event
@@ -179,12 +179,12 @@ module _ (setting : Setting) (e : Event) (history : List Event) (d n : ℕ) wher
               time =
                   ap (λ b. if b then reference_of e else heard_at (chronicle setting history) d)
                   (or_right (makes d e) (does hears (chronicle setting history) (next_step setting (chronicle setting history) e) d)
-                  (ap (λ (o : Option Did). map_or o false hears) did_is ∙ ap (λ (o : Option Edge). is_some o) over));
+                  (ap (λ (o : Option CallDone). map_or o false hears) did_is ∙ ap (λ (o : Option Edge). is_some o) over));
             }
 
     deaf_here : accepted_over (transition_of past call) ≡ None
         → does hears (chronicle setting history) (next_step setting (chronicle setting history) e) d ≡ false
-    deaf_here none = ap (λ (o : Option Did). map_or o false hears) did_is ∙ ap (λ (o : Option Edge). is_some o) none
+    deaf_here none = ap (λ (o : Option CallDone). map_or o false hears) did_is ∙ ap (λ (o : Option Edge). is_some o) none
 
 pub last_heard : (setting : Setting) (history : List Event) → IsAdmitted setting history → (d : ℕ) (past : Past)
     → past_in (chronicle setting history) d ≡ Some past → (n : ℕ) → epoch_now past ≡ n → 1 ≤ n → is_acting past ≡ false
@@ -219,7 +219,7 @@ last_heard setting (e ∷ history) is d past there n number one idle =
     by_went none (called p call acted there' now) rest =
         by_call none p call acted there' (some_is (sym there ∙ now)) (accepted_over (transition_of p call)) refl rest
     by_went none (alone same did) rest =
-        later_on setting e history d n (heard_same setting e history d n none (ap (λ (o : Option Did). map_or o false hears) did))
+        later_on setting e history d n (heard_same setting e history d n none (ap (λ (o : Option CallDone). map_or o false hears) did))
         (rest past (sym same ∙ there) n number one idle)
 
     by_made : (b : Bool) → makes d e ≡ b

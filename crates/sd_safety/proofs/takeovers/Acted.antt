@@ -3,7 +3,7 @@ use Rattle.std.specs.Prelude.{◌≡◌, ℕ, Bool, true, false, ◌&&◌, List,
 use Rattle.std.proofs.Common.{◌∙◌, ap, sym}
 use Rattle.std.proofs.lemmas.Bool.{eq-eqb, both_ways}
 use Rattle.sd_num.specs.Lists.{map_or}
-use Rattle.sd_device.specs.Calls.{Call, Transition, Entered, Committed, Recommitted, Accepted, Moved, TookOver, Emitted, Nothing, Did, Past}
+use Rattle.sd_device.specs.Calls.{Call, Transition, Entered, Committed, Recommitted, Accepted, Moved, TookOver, Emitted, Nothing, CallDone, Past}
 use Rattle.sd_device.specs.Words.{after, transition_of, has_moved, is_acting, is_takeover}
 use Rattle.sd_sched.specs.declared.Event.{Event}
 use Rattle.sd_history.specs.World.{Setting, makes}
@@ -22,7 +22,7 @@ use Rattle.sd_safety.proofs.receipts.Alive.{Went, made, called, alone, went}
 use Rattle.sd_safety.specs.behind.Feeding.{takes_over}
 
 -- what a step made a device do that was called
-pub does_is : (test : Did → Bool) (older : List Step) (s : Step) (d : ℕ) (past : Past) (call : Call) → past_in older d ≡ Some past → s.act ≡ Calls d call
+pub does_is : (test : CallDone → Bool) (older : List Step) (s : Step) (d : ℕ) (past : Past) (call : Call) → past_in older d ≡ Some past → s.act ≡ Calls d call
     → does test older s d ≡ test (record { call = call; transition = transition_of past call })
 does_is test older s d past call there act =
     ap (λ a. map_or (eras.did_by older a d) false test) act

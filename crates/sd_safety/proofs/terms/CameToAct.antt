@@ -6,7 +6,7 @@ use Rattle.sd_num.specs.Lists.{map_or, same_number}
 use Rattle.sd_plan.specs.declared.topo.Thing.TheVariants as thing
 use Rattle.sd_plan.specs.declared.Duty.{Duty}
 use Rattle.sd_device.specs.Calls as calls
-use Rattle.sd_device.specs.Calls.{Call, Transition, Committed, Did, Past}
+use Rattle.sd_device.specs.Calls.{Call, Transition, Committed, CallDone, Past}
 use Rattle.sd_device.specs.Words.{after, transition_of, taken_up, duty_now, epoch_now, is_acting, stamp_now}
 use Rattle.sd_sched.specs.declared.Event.{Event}
 use Rattle.sd_history.specs.World.{Setting, makes, fails, is_up, has_commit}
@@ -138,7 +138,7 @@ module _ (setting : Setting) (e : Event) (history : List Event) (fair : AreGuard
             (eq-eqb a a refl)
             ∙ ap (option_map (λ z. record { call = call; transition = transition_of z call })) there
 
-        some_none : {x : Did} → Some x ≡ None → ⊥
+        some_none : {x : CallDone} → Some x ≡ None → ⊥
         some_none h = cc
 
     epoch_on : (p : Past) (call : Call) → is_up (seen_of (chronicle setting history)) a ≡ true → past_in (chronicle setting history) a ≡ Some p

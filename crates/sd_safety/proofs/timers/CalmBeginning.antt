@@ -6,7 +6,7 @@ use Rattle.sd_num.specs.Lists.{map_or}
 use Rattle.sd_num.specs.Numbers.{low}
 use Rattle.sd_plan.specs.topo.Network.{rates_of}
 use Rattle.sd_plan.specs.declared.Duty.{Duty}
-use Rattle.sd_device.specs.Calls.{Did, Past}
+use Rattle.sd_device.specs.Calls.{CallDone, Past}
 use Rattle.sd_device.specs.Words.{after, duty_now, emits, emits_at, takes_over_at}
 use Rattle.sd_sched.specs.Events.{reference_of}
 use Rattle.sd_history.specs.World.{Setting}
@@ -29,7 +29,7 @@ told_since : (o : Option ℕ) (a before r : ℕ) → a ≤ before → a ≤ r �
 told_since None a before r x y = x
 told_since (Some c) a before r x y = y
 
-since_act : (f : Did → Option ℕ) (act : Act) (d a r before : ℕ) (p : Option Past) → ((x : Past) → p ≡ Some x → a ≤ before) → a ≤ r → (past : Past)
+since_act : (f : CallDone → Option ℕ) (act : Act) (d a r before : ℕ) (p : Option Past) → ((x : Past) → p ≡ Some x → a ≤ before) → a ≤ r → (past : Past)
     → past_after act d p ≡ Some past → a ≤ reference_after f r act d p before
 since_act f (Makes m making) d a r before p each le past same = go (nat_eq m d) same
   where
@@ -47,7 +47,7 @@ since_act f (Asks m counter) d a r before p each le past same = each past same
 since_act f Passes d a r before p each le past same = each past same
 
 -- whatever a device counts from is no earlier than the first event
-pub counts_from_first : (f : Did → Option ℕ) (setting : Setting) (s : Step) (earlier : List Step) → AreTimed setting (s ∷ earlier) → (d : ℕ) (past : Past)
+pub counts_from_first : (f : CallDone → Option ℕ) (setting : Setting) (s : Step) (earlier : List Step) → AreTimed setting (s ∷ earlier) → (d : ℕ) (past : Past)
     → past_in (s ∷ earlier) d ≡ Some past
     → first_reference (seen_of earlier) s.seen ≤ reference_by f (s ∷ earlier) d
 counts_from_first f setting s [] timed d past is =

@@ -7,7 +7,7 @@ use Rattle.sd_num.specs.Lists.{map_or}
 use Rattle.sd_num.specs.Numbers.{low}
 use Rattle.sd_plan.specs.topo.Network.{rates_of}
 use Rattle.sd_plan.specs.declared.Duty.{Duty}
-use Rattle.sd_device.specs.Calls.{Commit, Committed, Recommitted, Nothing, Did, Past}
+use Rattle.sd_device.specs.Calls.{Commit, Committed, Recommitted, Nothing, CallDone, Past}
 use Rattle.sd_device.specs.Words.{duty_now, emits, emits_at, given_now, is_acting}
 use Rattle.sd_sched.specs.Events.{reference_of}
 use Rattle.sd_history.specs.World.{Setting, latest_reference}
@@ -23,7 +23,7 @@ told_rises : (o : Option ℕ) (r before : ℕ) → before ≤ r → before ≤ m
 told_rises None r before le = omega arith
 told_rises (Some c) r before le = le
 
-after_rises : (f : Did → Option ℕ) (act : Act) (d r before : ℕ) (p : Option Past) → before ≤ r → before ≤ reference_after f r act d p before
+after_rises : (f : CallDone → Option ℕ) (act : Act) (d r before : ℕ) (p : Option Past) → before ≤ r → before ≤ reference_after f r act d p before
 after_rises f (Makes m making) d r before p le = go (nat_eq m d)
   where
     go : (x : Bool) → before ≤ (if x then r else before)
@@ -43,7 +43,7 @@ timed_tail setting older _ whole timed = timed
 timed_tail setting older _ (behind tail) timed = timed_tail setting older _ tail timed.0
 
 -- the references never fall along the steps
-pub reference_rises : (f : Did → Option ℕ) (setting : Setting) (older steps : List Step) (d : ℕ) → Tail older steps → AreTimed setting steps
+pub reference_rises : (f : CallDone → Option ℕ) (setting : Setting) (older steps : List Step) (d : ℕ) → Tail older steps → AreTimed setting steps
     → reference_by f older d ≤ reference_by f steps d
 reference_rises f setting older _ d whole timed = omega arith
 reference_rises f setting older _ d (behind {x = s} {xs = earlier} tail) timed =
@@ -57,7 +57,7 @@ reference_rises f setting older _ d (behind {x = s} {xs = earlier} tail) timed =
     later p q = omega (arith, p, q)
 
 -- at a mark the reference is that of the step
-pub reference_at_mark : (f : Did → Option ℕ) (s : Step) (earlier : List Step) (d : ℕ) → IsMarked f s earlier d
+pub reference_at_mark : (f : CallDone → Option ℕ) (s : Step) (earlier : List Step) (d : ℕ) → IsMarked f s earlier d
     → reference_by f (s ∷ earlier) d ≡ reference_of s.seen.event
 reference_at_mark f s earlier d m =
     ap (λ act. reference_after f (reference_of s.seen.event) act d (past_in earlier d) (reference_by f earlier d)) m.act
@@ -67,7 +67,7 @@ reference_at_mark f s earlier d m =
     ∙ ap (λ o. map_or o (reference_by f earlier d) (λ c. reference_of s.seen.event)) m.told
 
 -- and at a making too
-pub reference_at_making : (f : Did → Option ℕ) (s : Step) (earlier : List Step) (d : ℕ) → makes_device s.act d ≡ true
+pub reference_at_making : (f : CallDone → Option ℕ) (s : Step) (earlier : List Step) (d : ℕ) → makes_device s.act d ≡ true
     → reference_by f (s ∷ earlier) d ≡ reference_of s.seen.event
 reference_at_making f s earlier d made = go s.act made
   where
@@ -81,7 +81,7 @@ reference_at_making f s earlier d made = go s.act made
     go _ h = cc
 
 -- no mark so far is later
-pub mark_before : (f : Did → Option ℕ) (setting : Setting) (s : Step) (older steps : List Step) (d : ℕ) → Tail (s ∷ older) steps → AreTimed setting steps
+pub mark_before : (f : CallDone → Option ℕ) (setting : Setting) (s : Step) (older steps : List Step) (d : ℕ) → Tail (s ∷ older) steps → AreTimed setting steps
     → IsMarked f s older d
     → reference_of s.seen.event ≤ reference_by f steps d
 mark_before f setting s older steps d tail timed m =

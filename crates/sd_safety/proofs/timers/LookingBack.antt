@@ -3,7 +3,7 @@
 use Rattle.std.specs.Prelude.{◌≡◌, ℕ, ◌<◌, ◌≤◌, Bool, true, false, ◌&&◌, List, ◌∷◌, length, nat_eq, Option, Some, None, is_some, option_map, refl, ◌⊎◌, if◌then◌else◌}
 use Rattle.std.proofs.Common.{arith, sym, ◌∙◌, ap, subst, inl, inr}
 use Rattle.sd_num.specs.Lists.{map_or}
-use Rattle.sd_device.specs.Calls.{Call, Did, Past}
+use Rattle.sd_device.specs.Calls.{Call, CallDone, Past}
 use Rattle.sd_device.specs.Words.{transition_of, after, taken_up, has_moved, is_acting}
 use Rattle.sd_device.proofs.Reached.{added}
 use Rattle.sd_sched.specs.Events.{reference_of}
@@ -21,7 +21,7 @@ pub tail_is_short : {A : Type 0} (xs ys : List A) → Tail xs ys → length xs �
 tail_is_short xs _ whole = omega arith
 tail_is_short xs _ (behind {x = y} {xs = ys} tail) = let rest : length xs ≤ length ys = tail_is_short xs ys tail in omega (arith, rest)
 
-uncons : (f : Did → Option ℕ) (d : ℕ) (older : List Step) (s : Step) (earlier : List Step) → Unmarked f d older (s ∷ earlier)
+uncons : (f : CallDone → Option ℕ) (d : ℕ) (older : List Step) (s : Step) (earlier : List Step) → Unmarked f d older (s ∷ earlier)
     → (length (s ∷ earlier) ≤ length older) ⊎ ((marks_by f s.act d (past_in earlier d) ≡ false) × Unmarked f d older earlier)
 uncons f d older s earlier no_step = inl (omega arith)
 uncons f d older s earlier (one_step none rest) = inr (none, rest)

@@ -5,7 +5,7 @@ use Rattle.std.proofs.Common.{◌∙◌, ap, subst}
 use Rattle.std.proofs.lemmas.Bool.{eqb-true}
 use Rattle.sd_num.specs.Lists.{map_or, same_number, find_map_or}
 use Rattle.sd_plan.specs.topo.Network.{rates_of}
-use Rattle.sd_device.specs.Calls.{Making, Call, Did, Past}
+use Rattle.sd_device.specs.Calls.{Making, Call, CallDone, Past}
 use Rattle.sd_device.specs.Words.{after, making_counter, counter_of as counter_of_call}
 use Rattle.sd_sched.specs.Events.{reference_of, device_of}
 use Rattle.sd_history.specs.World.{Setting}
@@ -18,17 +18,17 @@ use Rattle.sd_safety.specs.timers.Times.{Fits, IsTimed, AreTimed, did_by, refere
 use Rattle.sd_safety.proofs.timers.Readings.{Keeps, honest_reading}
 
 -- f tells the counters of calls alone
-abbrev pub TellsCounters : (Did → Option ℕ) → Type 0
-TellsCounters f = (x : Did) (c : ℕ) → f x ≡ Some c → counter_of_call x.call ≡ Some c
+abbrev pub TellsCounters : (CallDone → Option ℕ) → Type 0
+TellsCounters f = (x : CallDone) (c : ℕ) → f x ≡ Some c → counter_of_call x.call ≡ Some c
 
 -- the counter of the latest making or call of which f tells something
-abbrev pub counter_by : (Did → Option ℕ) → Past → ℕ
+abbrev pub counter_by : (CallDone → Option ℕ) → Past → ℕ
 counter_by f past = find_map_or f past.did (making_counter past.making)
 
 abbrev IsReading : Step → List Step → ℕ → ℕ → ℕ → Type 0
 IsReading s earlier d r c = Among {A = ℕ × ℕ} (r, c) (readings (s.seen ∷ seen_of earlier) d)
 
-module _ (f : Did → Option ℕ) (tells : TellsCounters f) (s : Step) (earlier : List Step) (d before : ℕ) (fits : Fits s.seen.event s.act) where
+module _ (f : CallDone → Option ℕ) (tells : TellsCounters f) (s : Step) (earlier : List Step) (d before : ℕ) (fits : Fits s.seen.event s.act) where
   abbrev Before : Option Past → Type 0
   Before p = (old : Past) → p ≡ Some old → Among {A = ℕ × ℕ} (before, counter_by f old) (readings (seen_of earlier) d)
 
@@ -74,7 +74,7 @@ module _ (f : Did → Option ℕ) (tells : TellsCounters f) (s : Step) (earlier 
   by_act Passes is p old past same = kept (counter_by f past) (ap (λ a. makes_device a d) is) (old past same)
 
 -- the pair is a reading of the present life
-pub mark_is_reading : (f : Did → Option ℕ) → TellsCounters f → (setting : Setting) (steps : List Step) → AreTimed setting steps → (d : ℕ) (past : Past)
+pub mark_is_reading : (f : CallDone → Option ℕ) → TellsCounters f → (setting : Setting) (steps : List Step) → AreTimed setting steps → (d : ℕ) (past : Past)
     → past_in steps d ≡ Some past
     → Among {A = ℕ × ℕ} (reference_by f steps d, counter_by f past) (readings (seen_of steps) d)
 mark_is_reading f tells setting [] timed d past is = cc

@@ -7,7 +7,7 @@ use Rattle.std.proofs.lemmas.Bool.{and_parts, not-true, both_ways}
 use Rattle.sd_num.specs.Lists.{map_or, find_map_or, leading}
 use Rattle.sd_plan.specs.declared.Duty.{Duty}
 use Rattle.sd_plan.specs.declared.Role.TheVariants as role
-use Rattle.sd_device.specs.Calls.{Making, Started, Joined, Call, Transition, Entered, Committed, Recommitted, Moved, TookOver, Did, Past}
+use Rattle.sd_device.specs.Calls.{Making, Started, Joined, Call, Transition, Entered, Committed, Recommitted, Moved, TookOver, CallDone, Past}
 use Rattle.sd_device.specs.Living.{Life}
 use Rattle.sd_device.specs.Words.{transition_of, after, taken_up, takes_up, later_entry, duty_now, is_sealed, has_moved, is_acting, is_move, is_commit, moved_at, may_move, wait_to_move, first_duty, starts_as_root, heard, takes_over_at, moves_at, is_backup_root_now, making_counter, counter_of}
 use Rattle.sd_device.specs.Lives.{past_by, past_of}
@@ -110,7 +110,7 @@ entry_waits_not : (past : Past) → map_or (later_entry past) (starts_as_root pa
     → option_and_then wait_to_move (duty_now past) ≡ None
 entry_waits_not past acts lets = go (later_entry past) refl acts lets
   where
-    go : (entry : Option Did) → later_entry past ≡ entry → map_or entry (starts_as_root past.making) (λ x. is_commit x.transition) ≡ true
+    go : (entry : Option CallDone) → later_entry past ≡ entry → map_or entry (starts_as_root past.making) (λ x. is_commit x.transition) ≡ true
         → map_or entry (is_some (first_duty past.making)) (λ x. not (is_commit x.transition)) ≡ true
         → option_and_then wait_to_move (duty_now past) ≡ None
     go None is acts' lets' = ap (λ d. option_and_then wait_to_move d) (same_duty past.did (first_duty past.making) is) ∙ no_wait_as_root past.making acts'
@@ -150,7 +150,7 @@ others_may_move past duty has acts = go (later_entry past) refl acts
     commit_or true took a = cc
     commit_or false took a = refl
 
-    go : (entry : Option Did) → later_entry past ≡ entry
+    go : (entry : Option CallDone) → later_entry past ≡ entry
         → (map_or entry (starts_as_root past.making) (λ x. is_commit x.transition) || has_taken_over past) ≡ false
         → map_or entry (is_some (first_duty past.making)) (λ x. not (is_commit x.transition)) ≡ true
     go None is acts' = ap is_some (sym (same_duty past.did (first_duty past.making) is) ∙ has)
@@ -208,7 +208,7 @@ is_reached steps d past is = of_life Reached reached steps d past is
 
 -- Each move has a counter.
 
-counted : Did → Bool
+counted : CallDone → Bool
 counted x = not (is_move x.transition) || is_some (counter_of x.call)
 
 HasCounters : Past → Type 0
@@ -236,7 +236,7 @@ counters making (call ∷ earlier) =
     by_case (past_by making earlier) (λ c transition. HasCounters (added (past_by making earlier) c transition))
     (after_counts (past_by making earlier) (counters making earlier)) call
 
-latest_move : (did : List Did) (a b : ℕ) → list_all counted did ≡ true → list_any (λ x. is_move x.transition) (leading (λ x. not (takes_up x)) did) ≡ true
+latest_move : (did : List CallDone) (a b : ℕ) → list_all counted did ≡ true → list_any (λ x. is_move x.transition) (leading (λ x. not (takes_up x)) did) ≡ true
     → find_map_or moves did a ≡ find_map_or moves did b
 unfolding counted
 latest_move [] a b all any = cc

@@ -4,7 +4,7 @@ use Rattle.std.specs.Prelude.{◌≡◌, ℕ, ◌≤◌, Bool, true, false, ◌|
 use Rattle.std.proofs.Common.{arith, ◌∙◌, subst}
 use Rattle.sd_num.specs.Lists.{map_or, same_number}
 use Rattle.sd_plan.specs.declared.Duty.{Duty}
-use Rattle.sd_device.specs.Calls.{Making, Call, Give, Did, Past}
+use Rattle.sd_device.specs.Calls.{Making, Call, Give, CallDone, Past}
 use Rattle.sd_device.specs.Words.{after, first_duty, duty_given}
 use Rattle.sd_sched.specs.Events.{reference_of, ticked}
 use Rattle.sd_history.specs.World.{Setting, makes, latest_reference}
@@ -66,7 +66,7 @@ told_within : (o : Option ℕ) (r before l : ℕ) → before ≤ l → l ≤ r �
 told_within None r before l a b = omega (arith, a, b)
 told_within (Some c) r before l a b = omega arith
 
-after_within : (f : Did → Option ℕ) (act : Act) (d r before l : ℕ) (p : Option Past) → before ≤ l → l ≤ r → reference_after f r act d p before ≤ r
+after_within : (f : CallDone → Option ℕ) (act : Act) (d r before l : ℕ) (p : Option Past) → before ≤ l → l ≤ r → reference_after f r act d p before ≤ r
 after_within f (Makes m making) d r before l p a b = go (nat_eq m d)
   where
     go : (x : Bool) → (if x then r else before) ≤ r
@@ -81,7 +81,7 @@ after_within f (Calls m call) d r before l p a b = go (nat_eq m d) p
 after_within f (Asks m counter) d r before l p a b = omega (arith, a, b)
 after_within f Passes d r before l p a b = omega (arith, a, b)
 
-pub reference_within : (f : Did → Option ℕ) (setting : Setting) (steps : List Step) → AreTimed setting steps → (d : ℕ)
+pub reference_within : (f : CallDone → Option ℕ) (setting : Setting) (steps : List Step) → AreTimed setting steps → (d : ℕ)
     → reference_by f steps d ≤ latest_reference (seen_of steps)
 reference_within f setting [] timed d = omega arith
 reference_within f setting (s ∷ earlier) timed d =

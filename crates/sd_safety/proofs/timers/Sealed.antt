@@ -4,7 +4,7 @@ use Rattle.std.specs.Prelude.{◌≡◌, ℕ, ◌≤◌, Bool, true, false, ◌&
 use Rattle.std.proofs.Common.{arith, sym, ◌∙◌, ap, subst}
 use Rattle.std.proofs.lemmas.Bool.{eq-eqb}
 use Rattle.sd_num.specs.Lists.{map_or}
-use Rattle.sd_device.specs.Calls.{Making, Call, Seal, Did, Past}
+use Rattle.sd_device.specs.Calls.{Making, Call, Seal, CallDone, Past}
 use Rattle.sd_device.specs.Words.{transition_of, after, taken_up, takes_up, later_entry, is_seal, is_sealed}
 use Rattle.sd_sched.specs.Events.{reference_of}
 use Rattle.sd_history.specs.World.{Setting, latest_reference}
@@ -71,7 +71,7 @@ seal_stays d q older _ (goes_on {s = s} {steps = steps} none since) same =
     by_act s.act d (reference_of s.seen.event) q (past_in steps d) (sealed_in steps d) none (seal_stays d q older steps since same)
 
 -- a device whose entry is its making is sealed since then, so no later than it heard
-no_entry : (t : Bool) (x : Did) (o : Option Did) → (if t then Some x else o) ≡ None → (t ≡ false) × (o ≡ None)
+no_entry : (t : Bool) (x : CallDone) (o : Option CallDone) → (if t then Some x else o) ≡ None → (t ≡ false) × (o ≡ None)
 no_entry true x o same = cc
 no_entry false x o same = (refl, same)
 

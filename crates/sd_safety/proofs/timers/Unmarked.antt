@@ -4,7 +4,7 @@ use Rattle.std.specs.Prelude.{◌≡◌, ℕ, ◌<◌, ◌≤◌, Bool, true, fa
 use Rattle.std.proofs.Common.{arith, sym, ◌∙◌, ap, subst}
 use Rattle.std.proofs.lemmas.Bool.{both_ways, false_from_ne_true}
 use Rattle.sd_num.specs.Lists.{map_or}
-use Rattle.sd_device.specs.Calls.{Call, Did, Past}
+use Rattle.sd_device.specs.Calls.{Call, CallDone, Past}
 use Rattle.sd_device.specs.Words.{transition_of, after, taken_up, has_moved, is_acting, duty_now}
 use Rattle.sd_device.proofs.Reached.{added}
 use Rattle.sd_sched.specs.Events.{reference_of}
@@ -26,7 +26,7 @@ told_at : (o : Option ℕ) (r before : ℕ) → is_some o ≡ true → map_or o 
 told_at None r before h = cc
 told_at (Some c) r before h = refl
 
-marked_now : (f : Did → Option ℕ) (act : Act) (d r before : ℕ) (p : Option Past) → marks_by f act d p ≡ true → reference_after f r act d p before ≡ r
+marked_now : (f : CallDone → Option ℕ) (act : Act) (d r before : ℕ) (p : Option Past) → marks_by f act d p ≡ true → reference_after f r act d p before ≡ r
 marked_now f (Makes m making) d r before p h = ap (λ b. if b then r else before) h
 marked_now f (Calls m call) d r before p h = go (nat_eq m d) p h
   where
@@ -40,7 +40,7 @@ marked_now f Passes d r before p h = cc
 
 -- The latest mark
 
-had_past : (f : Did → Option ℕ) (act : Act) (d : ℕ) (p : Option Past) (past : Past) → marks_by f act d p ≡ false → past_after act d p ≡ Some past
+had_past : (f : CallDone → Option ℕ) (act : Act) (d : ℕ) (p : Option Past) (past : Past) → marks_by f act d p ≡ false → past_after act d p ≡ Some past
     → (old : Past) × (p ≡ Some old)
 had_past f (Makes m making) d p past none same = (past, sym (ap (λ b. if b then Some (new_past making) else p) none) ∙ same)
 had_past f (Calls m call) d p past none same = go (nat_eq m d) p same
@@ -63,7 +63,7 @@ head_reference setting t older _ (behind {x = s} {xs = earlier} tail) timed =
     omega (arith, rest, on)
 
 -- since a step that is later than the mark, the device was not marked
-pub unmarked_since : (f : Did → Option ℕ) (setting : Setting) (t : Step) (older steps : List Step) (d : ℕ) → Tail (t ∷ older) steps → AreTimed setting steps
+pub unmarked_since : (f : CallDone → Option ℕ) (setting : Setting) (t : Step) (older steps : List Step) (d : ℕ) → Tail (t ∷ older) steps → AreTimed setting steps
     → reference_by f steps d < reference_of t.seen.event → Unmarked f d older steps
 unmarked_since f setting t older _ d whole timed lt = one_step (false_from_ne_true (marks_by f t.act d (past_in older d)) never) no_step
   where

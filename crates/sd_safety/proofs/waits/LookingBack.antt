@@ -4,7 +4,7 @@ use Rattle.std.specs.Prelude.{◌≡◌, ℕ, ◌<◌, Bool, true, false, ◌&&�
 use Rattle.std.proofs.Common.{sym, ◌∙◌, ap, subst}
 use Rattle.sd_num.specs.Lists.{map_or}
 use Rattle.sd_plan.specs.declared.topo.Thing.TheVariants as thing
-use Rattle.sd_device.specs.Calls.{Did, Past}
+use Rattle.sd_device.specs.Calls.{CallDone, Past}
 use Rattle.sd_device.specs.Words.{has_moved, is_acting, epoch_now, duty_now}
 use Rattle.sd_sched.specs.declared.Event.{Event}
 use Rattle.sd_sched.specs.Events.{reference_of}
@@ -33,11 +33,11 @@ tail_is_chronicle setting (e ∷ earlier) older whole = record { history = e ∷
 tail_is_chronicle setting (e ∷ earlier) older (behind rest) = tail_is_chronicle setting earlier older rest
 
 -- a device that is up, and was not made since, was up then
-not_makes : (f : Did → Option ℕ) (act : Act) (d : ℕ) (p : Option Past) → marks_by f act d p ≡ false → makes_device act d ≡ false
+not_makes : (f : CallDone → Option ℕ) (act : Act) (d : ℕ) (p : Option Past) → marks_by f act d p ≡ false → makes_device act d ≡ false
 not_makes f (Makes m making) d p none = none
 not_makes f _ d p none = refl
 
-was_up : (f : Did → Option ℕ) (setting : Setting) (d : ℕ) (older steps : List Step) → Unmarked f d older steps → AreTimed setting steps
+was_up : (f : CallDone → Option ℕ) (setting : Setting) (d : ℕ) (older steps : List Step) → Unmarked f d older steps → AreTimed setting steps
     → is_up (seen_of steps) d ≡ true → is_up (seen_of older) d ≡ true
 was_up f setting d older _ no_step timed up = up
 was_up f setting d older _ (one_step {s = s} {steps = steps} none rest) timed up =

@@ -2,7 +2,7 @@
 use Rattle.std.specs.Prelude.{◌≡◌, ℕ, Bool, true, false, ◌||◌, List, [], ◌∷◌, nat_eq, Option, Some, None, is_some, option_map, refl, if◌then◌else◌}
 use Rattle.std.proofs.Common.{◌∙◌, ap}
 use Rattle.sd_num.specs.Lists.{map_or}
-use Rattle.sd_device.specs.Calls.{Call, Did, Past}
+use Rattle.sd_device.specs.Calls.{Call, CallDone, Past}
 use Rattle.sd_device.specs.Words.{emits}
 use Rattle.sd_sched.specs.Events.{reference_of}
 use Rattle.sd_history.specs.World.{Setting, makes}
@@ -19,7 +19,7 @@ told_or None false r before is = refl
 told_or (Some c) true r before is = refl
 told_or (Some c) false r before is = cc
 
-module _ (test : Did → Bool) (f : Did → Option ℕ) (same : (past : Past) (call : Call) → is_some (f (did_by past call)) ≡ test (did_by past call)) where
+module _ (test : CallDone → Bool) (f : CallDone → Option ℕ) (same : (past : Past) (call : Call) → is_some (f (did_by past call)) ≡ test (did_by past call)) where
   by_act : (earlier : List Step) (act : Act) (d r before : ℕ)
       → (if makes_device act d || map_or (eras.did_by earlier act d) false test then r else before) ≡ reference_after f r act d (past_in earlier d) before
   by_act earlier (Makes m making) d r before = go (nat_eq m d)

@@ -6,7 +6,7 @@ use Rattle.std.proofs.Common.{◌∙◌, ap}
 use Rattle.std.proofs.lemmas.Bool.{or_from}
 use Rattle.sd_num.specs.Lists.{map_or, same_number, leading}
 use Rattle.sd_plan.specs.declared.topo.Thing.TheVariants as thing
-use Rattle.sd_device.specs.Calls.{Did, Past}
+use Rattle.sd_device.specs.Calls.{CallDone, Past}
 use Rattle.sd_device.specs.Words.{after, transition_of, has_moved}
 use Rattle.sd_sched.specs.Events.{reference_of, is_stage}
 use Rattle.sd_history.specs.Things.{failure_of}
@@ -113,13 +113,13 @@ module _ (s : Step) (steps : List Step) (x : ℕ) (left : IsLeft s x) where
   not_made true f none = cc
   not_made false f none = refl
 
-  did_none : (act : Act) → same_number (changed act) x ≡ false → (test : Did → Bool) → map_or (did_by steps act x) false test ≡ false
+  did_none : (act : Act) → same_number (changed act) x ≡ false → (test : CallDone → Bool) → map_or (did_by steps act x) false test ≡ false
   did_none (Calls e call) other test =
       ap (λ b. map_or (if b then option_map (λ past. record { call = call; transition = transition_of past call }) (past_in steps x) else None) false test)
       other
   did_none _ other test = refl
 
-  pub latest_on : (test : Did → Bool) → latest_such test (s ∷ steps) x ≡ latest_such test steps x
+  pub latest_on : (test : CallDone → Bool) → latest_such test (s ∷ steps) x ≡ latest_such test steps x
   latest_on test =
       ap (λ b. if b then reference_of s.seen.event else latest_such test steps x)
       (or_from (makes x s.seen.event) (does test steps s x) (not_made (makes x s.seen.event) (fails (thing.Device x) s.seen.event) left.stands)

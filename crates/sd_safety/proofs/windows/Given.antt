@@ -11,7 +11,7 @@ use Rattle.sd_plan.specs.declared.Plan.{Plan}
 use Rattle.sd_plan.specs.Duties.{duty_of}
 use Rattle.sd_device.specs.declared.msg.Flight.{Flight}
 use Rattle.sd_device.specs.Calls as calls
-use Rattle.sd_device.specs.Calls.{Making, Call, Did, Past}
+use Rattle.sd_device.specs.Calls.{Making, Call, CallDone, Past}
 use Rattle.sd_device.specs.Words.{after, transition_of, taken_up, takes_up, duty_now, given_now, duty_given, epoch_now}
 use Rattle.sd_sched.specs.declared.Event.{Event}
 use Rattle.sd_sched.specs.declared.Event.TheVariants as event
@@ -139,7 +139,7 @@ remakes_none setting steps e a none = by (act_by setting steps e) refl
     by (Asks m counter) is = refl
     by Passes is = refl
 
-pub kept_given : (y : Did) (did : List Did) (t : Bool) → takes_up y ≡ t → t ≡ false → duty_given y.call ≡ None
+pub kept_given : (y : CallDone) (did : List CallDone) (t : Bool) → takes_up y ≡ t → t ≡ false → duty_given y.call ≡ None
     → find_map_or (λ z. option_map Some (duty_given z.call)) (cond (not t) (y ∷ leading (λ z. not (takes_up z)) did) []) None
     ≡ find_map_or (λ z. option_map Some (duty_given z.call)) (leading (λ z. not (takes_up z)) did) None
 kept_given y did true is none gives = cc

@@ -10,7 +10,7 @@ use Rattle.sd_plan.specs.Plans.{members}
 use Rattle.sd_num.proofs.Shared.{all_imply}
 use Rattle.sd_device.specs.declared.msg.Flight.{Flight}
 use Rattle.sd_device.specs.Calls as calls
-use Rattle.sd_device.specs.Calls.{Call, Did, Past}
+use Rattle.sd_device.specs.Calls.{Call, CallDone, Past}
 use Rattle.sd_device.specs.Words.{after, transition_of, taken_up, takes_up, duty_now, epoch_now, is_seal as is_seal_call, is_sealed}
 use Rattle.sd_sched.specs.declared.Event.{Event}
 use Rattle.sd_sched.specs.declared.Event.TheVariants as event
@@ -30,7 +30,7 @@ use Rattle.sd_safety.proofs.windows.NoneBeforeCommit.{uncommitted}
 
 -- Who is sealed after a call other than a seal was sealed before it, and took up nothing.
 
-sealed_by : (x : Did) (did : List Did) (b : Bool) → is_seal_call x.call ≡ false
+sealed_by : (x : CallDone) (did : List CallDone) (b : Bool) → is_seal_call x.call ≡ false
     → (not (is_some (cond b (Some x) (find takes_up did))) || list_any (λ y. is_seal_call y.call) (cond (not b) (x ∷ leading (λ y. not (takes_up y)) did) []))
     ≡ true
     → (b ≡ false) × ((not (is_some (find takes_up did)) || list_any (λ y. is_seal_call y.call) (leading (λ y. not (takes_up y)) did)) ≡ true)
@@ -46,7 +46,7 @@ unsettled : (past : Past) (call : Call) (n : ℕ) → is_seal_call call ≡ fals
     → (nat_eq (epoch_now past) n && is_sealed past) ≡ true
 unsettled past call n unsealed is =
     let both = and_parts (nat_eq (epoch_now (after past call)) n) (is_sealed (after past call)) is in
-    let x : Did = record { call = call; transition = transition_of past call } in
+    let x : CallDone = record { call = call; transition = transition_of past call } in
     let back = sealed_by x past.did (takes_up x) unsealed both.1 in
     and_from (nat_eq (epoch_now past) n) (is_sealed past)
     (sym (ap (λ o. nat_eq (map_or o 0 (λ u. u.epoch)) n) (keeps (taken_up (transition_of past call)) back.0)) ∙ both.0) back.1

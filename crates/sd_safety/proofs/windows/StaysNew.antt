@@ -9,7 +9,7 @@ use Rattle.sd_plan.specs.declared.Plan.{Plan}
 use Rattle.sd_plan.specs.Duties.{duty_of}
 use Rattle.sd_device.specs.declared.msg.Flight.{Flight}
 use Rattle.sd_device.specs.Calls as calls
-use Rattle.sd_device.specs.Calls.{Making, Call, Did, Past}
+use Rattle.sd_device.specs.Calls.{Making, Call, CallDone, Past}
 use Rattle.sd_device.specs.Words.{after, transition_of, taken_up, takes_up, duty_now, given_now, duty_given, epoch_now}
 use Rattle.sd_sched.specs.declared.Event.{Event}
 use Rattle.sd_sched.specs.declared.Event.TheVariants as event
@@ -125,7 +125,7 @@ pub reached : (c : Bool) (n : ℕ) → n + 1 ≤ reach_of c n → c ≡ true
 reached true n le = refl
 reached false n le = absurd (omega (arith, le))
 
-taken_leaves_none : (x : Did) (did : List Did) (t : Bool) → takes_up x ≡ t → t ≡ true
+taken_leaves_none : (x : CallDone) (did : List CallDone) (t : Bool) → takes_up x ≡ t → t ≡ true
     → find_map_or (λ y. option_map Some (duty_given y.call)) (cond (not t) (x ∷ leading (λ y. not (takes_up y)) did) []) None ≡ None
 taken_leaves_none x did true is takes = refl
 taken_leaves_none x did false is takes = cc
@@ -135,7 +135,7 @@ given_after : (past : Past) (call : Call) (n : ℕ) → duty_given call ≡ None
     → given_now (after past call) ≡ None
 given_after past call n gives_none before is = go (taken_up (transition_of past call)) refl
   where
-    x : Did
+    x : CallDone
     x = record { call = call; transition = transition_of past call }
 
     kept : given_now past ≡ None → (given_now (after past call) ≡ given_now past) ⊎ (given_now (after past call) ≡ None) → given_now (after past call) ≡ None

@@ -5,7 +5,7 @@ use Rattle.std.specs.List.{list_any}
 use Rattle.sd_num.specs.Lists.{map_or, leading}
 use Rattle.sd_plan.specs.Walks.{path}
 use Rattle.sd_checker.specs.check_root.Timing.{round_gap}
-use Rattle.sd_device.specs.Calls.{Did}
+use Rattle.sd_device.specs.Calls.{CallDone}
 use Rattle.sd_device.specs.Words.{is_takeover}
 use Rattle.sd_history.specs.Things.{mended}
 use Rattle.sd_history.specs.World.{Setting}
@@ -25,7 +25,7 @@ path_failed_at setting steps =
     (map_or (first_failure (path setting.net (plan_now setting steps) (plan_now setting steps).backup_root) (seen_of steps)) 0 (λ reference. reference))
 
 -- the call was a takeover
-abbrev pub takes_over : Did → Bool
+abbrev pub takes_over : CallDone → Bool
 takes_over x = is_takeover x.transition
 
 -- the reference of the latest takeover, or of the making where none came since

@@ -11,7 +11,7 @@ use Rattle.sd_plan.specs.domain.Things.{same_thing}
 use Rattle.sd_plan.specs.declared.Plan.{Plan}
 use Rattle.sd_plan.specs.Plans.{is_member, is_root, is_backup_root}
 use Rattle.sd_plan.specs.Walks.{path, epath, on_walk}
-use Rattle.sd_device.specs.Calls.{Did, Past, Emitted, TookOver}
+use Rattle.sd_device.specs.Calls.{CallDone, Past, Emitted, TookOver}
 use Rattle.sd_device.specs.Words.{transition_of, accepted_over, is_move, has_moved, emits}
 use Rattle.sd_sched.specs.Events.{reference_of}
 use Rattle.sd_history.specs.World.{Setting, Seen, makes, fails, is_up, window, epoch_in_force, staged_epoch, in_force, is_staged_member}
@@ -149,7 +149,7 @@ root_lives setting steps = is_up (seen_of steps) (plan_now setting steps).root &
 -- When a device did what
 
 -- what an act made the device do
-abbrev pub did_by : List Step → Act → ℕ → Option Did
+abbrev pub did_by : List Step → Act → ℕ → Option CallDone
 did_by earlier (Calls e call) d =
     if nat_eq e d then option_map (λ past. record { call = call; transition = transition_of past call }) (past_in earlier d) else None
 did_by earlier (Makes e making) d = None
@@ -157,28 +157,28 @@ did_by earlier (Asks e counter) d = None
 did_by earlier Passes d = None
 
 -- the step made the device do what the test asks for
-abbrev pub does : (Did → Bool) → List Step → Step → ℕ → Bool
+abbrev pub does : (CallDone → Bool) → List Step → Step → ℕ → Bool
 does test earlier s d = map_or (did_by earlier s.act d) false test
 
 -- the reference of the latest step that made the device or made it do such a thing, and 0 before it was made
-abbrev pub latest_such : (Did → Bool) → List Step → ℕ → ℕ
+abbrev pub latest_such : (CallDone → Bool) → List Step → ℕ → ℕ
 latest_such test [] d = 0
 latest_such test (s ∷ earlier) d = if makes d s.seen.event || does test earlier s d then reference_of s.seen.event else latest_such test earlier d
 
 -- the call accepted a message
-abbrev pub hears : Did → Bool
+abbrev pub hears : CallDone → Bool
 hears x = is_some (accepted_over x.transition)
 
 -- the call was a move
-abbrev pub moves : Did → Bool
+abbrev pub moves : CallDone → Bool
 moves x = is_move x.transition
 
 -- it sends or begins to act
-abbrev pub sends : Did → Bool
+abbrev pub sends : CallDone → Bool
 sends x = is_some (emits x)
 
 -- it sends a round of its own
-abbrev pub begins_round : Did → Bool
+abbrev pub begins_round : CallDone → Bool
 begins_round x = elim x.transition [ Emitted ↦ true | TookOver ↦ true | _ ↦ false ]
 
 -- the reference at which the device was made or last heard (h)

@@ -8,34 +8,34 @@ use Rattle.sd_history.specs.Steps.{Step}
 use Rattle.sd_safety.specs.invariant.Clauses.{nothing_emitted, stays, was_touched, member_is_up, member_follows, returned_is_joined, outsider_is_past, counted_is_current, blank_is_idle, link_is_sound, root_acts, failed_root_is_not_old, ordinary_follows, backup_is_caused, move_is_caused, takeover_is_caused, path_stays, shadow_is_short, fallback_device_is_sound, fallback_link_is_sound, fallback_stays, none_is_new, none_sent_ahead, none_sealed_early, none_started_late, none_fails_after_mend, rests_after_commit, member_enters, member_entered, committer_is_root, committer_acts, new_is_linked, left_out_is_hit, begins_with, member_begins, root_begins, link_begins}
 
 -- the test holds of every number
-abbrev pub Of : (ℕ → Bool) → Type 0
-Of test = (d : ℕ) → IsTrue (test d)
+abbrev pub ForEach : (ℕ → Bool) → Type 0
+ForEach test = (d : ℕ) → IsTrue (test d)
 
 -- C0
 pub record BeganQuietly (setting : Setting) (steps : List Step) : Type 0 where
   -- while members of the first plan may start, nothing is emitted
   pub quiet : IsTrue (nothing_emitted setting steps)
   -- and nobody moves
-  pub still : Of (stays setting steps)
+  pub still : ForEach (stays setting steps)
   -- later each member of the plan was started, or has failed
-  pub touched : Of (was_touched setting steps)
+  pub touched : ForEach (was_touched setting steps)
 
 -- C1
 pub record IsCounted (setting : Setting) (steps : List Step) : Type 0 where
   -- once all have started, a member that did not fail in the era is up
-  pub members_up : Of (member_is_up setting steps)
+  pub members_up : ForEach (member_is_up setting steps)
   -- and old, or new after it entered
-  pub members_follow : Of (member_follows setting steps)
+  pub members_follow : ForEach (member_follows setting steps)
   -- a member that is up after it failed in the era joined in the open window, and is blank or new
-  pub returned : Of (returned_is_joined setting steps)
+  pub returned : ForEach (returned_is_joined setting steps)
   -- a device that is up and no member is past, or joined in the open window and is blank or new
-  pub outsiders : Of (outsider_is_past setting steps)
+  pub outsiders : ForEach (outsider_is_past setting steps)
   -- a device that counts as live is not past
-  pub current : Of (counted_is_current setting steps)
+  pub current : ForEach (counted_is_current setting steps)
   -- a blank device has no parent and does not act
-  pub blanks : Of (blank_is_idle steps)
+  pub blanks : ForEach (blank_is_idle steps)
   -- a link of the plan that did not fail in the era is not failed
-  pub links : Of (link_is_sound setting steps)
+  pub links : ForEach (link_is_sound setting steps)
 
 -- C2
 pub record HasRoles (setting : Setting) (steps : List Step) : Type 0 where
@@ -44,33 +44,33 @@ pub record HasRoles (setting : Setting) (steps : List Step) : Type 0 where
   -- a root that failed in the era is not old
   pub failed_root : IsTrue (failed_root_is_not_old setting steps)
   -- an old device other than root and backup root does not act
-  pub ordinary : Of (ordinary_follows setting steps)
+  pub ordinary : ForEach (ordinary_follows setting steps)
 
 -- C3 to C6
 pub record HasCauses (setting : Setting) (steps : List Step) : Type 0 where
   -- C3: an old ordinary device on its backup is hit, and it is hit otherwise than by the root, or the backup root acts
-  pub backups : Of (backup_is_caused setting steps)
+  pub backups : ForEach (backup_is_caused setting steps)
   -- C4: where an old backup root has moved or taken over, its path is hit
   pub move : IsTrue (move_is_caused setting steps)
   -- and it acts only where the root failed
   pub takeover : IsTrue (takeover_is_caused setting steps)
   -- C5: while an old backup root is on its primary, so is each old device above it
-  pub path : Of (path_stays setting steps)
+  pub path : ForEach (path_stays setting steps)
   -- C6: and those heard at most H * D, or Q, earlier than it
-  pub shadow : Of (shadow_is_short setting steps)
+  pub shadow : ForEach (shadow_is_short setting steps)
 
 -- C7
 pub record HasFallback (setting : Setting) (steps : List Step) : Type 0 where
   -- where an old backup root has moved, nothing of its fallback failed in the era but perhaps the root
-  pub devices : Of (fallback_device_is_sound setting steps)
-  pub links : Of (fallback_link_is_sound setting steps)
+  pub devices : ForEach (fallback_device_is_sound setting steps)
+  pub links : ForEach (fallback_link_is_sound setting steps)
   -- and up to its takeover each old device of the fallback is on its primary
-  pub stay : Of (fallback_stays setting steps)
+  pub stay : ForEach (fallback_stays setting steps)
 
 -- C8
 pub record IsUncommitted (setting : Setting) (steps : List Step) : Type 0 where
   -- before a commit no device is new
-  pub devices : Of (none_is_new steps)
+  pub devices : ForEach (none_is_new steps)
   -- and nothing was sent in the staged epoch
   pub messages : IsTrue (none_sent_ahead steps)
 
@@ -93,26 +93,26 @@ leaves_out_rightly setting steps =
 -- C9
 pub record IsCommitted (setting : Setting) (steps : List Step) : Type 0 where
   -- b: each member of the staged plan is new, or old or blank with its duty given
-  pub entering : Of (member_enters setting steps)
+  pub entering : ForEach (member_enters setting steps)
   -- and new once A + H * D have passed since the commit
-  pub entered : Of (member_entered setting steps)
+  pub entered : ForEach (member_entered setting steps)
   -- c: the staged root is the root, or where that failed the backup root, and is new
   pub committer : IsTrue (committer_is_root setting steps)
   -- it acts, and no other counted device does
-  pub acting : Of (committer_acts setting steps)
+  pub acting : ForEach (committer_acts setting steps)
   -- d: a new device other than it is on its primary, its parent is new, and parents lead to the staged root in at most H steps
-  pub linked : Of (new_is_linked setting steps)
+  pub linked : ForEach (new_is_linked setting steps)
   -- g: the members that the staged plan leaves out are hit, and neither root nor backup root
   pub left_out : IsTrue (leaves_out_rightly setting steps)
 
 -- C10
 pub record IsClosed (setting : Setting) (steps : List Step) : Type 0 where
   -- right after a closing each member is up, of the plan and sealed, and heard at most W ago on its primary, or acts as root
-  pub members : Of (member_begins setting steps)
+  pub members : ForEach (member_begins setting steps)
   -- the root sent at most P ago
   pub root : IsTrue (root_begins setting steps)
   -- and no link of the plan is failed
-  pub links : Of (link_begins setting steps)
+  pub links : ForEach (link_begins setting steps)
 
 -- what has to be shown at each event
 pub record Core (setting : Setting) (steps : List Step) : Type 0 where

@@ -4,7 +4,7 @@ use Rattle.sd_plan.specs.declared.Duty.{Duty}
 use Rattle.sd_device.specs.declared.msg.Stamp.{Stamp}
 use Rattle.sd_device.specs.declared.msg.Message.{Message}
 use Rattle.sd_device.specs.msg.Stamps.{stamp}
-use Rattle.sd_device.specs.Calls.{Call, Commit, Transition, Entered, Committed, Did, Past}
+use Rattle.sd_device.specs.Calls.{Call, Commit, Transition, Entered, Committed, CallDone, Past}
 use Rattle.sd_device.specs.Words.{transition_of, after, stamp_now, epoch_now, is_acting}
 use Rattle.sd_history.specs.Steps.{Act, Makes, Step, Calls}
 use Rattle.sd_history.specs.Chronicle.{past_in}
@@ -38,7 +38,7 @@ abbrev pub EntersNot : Past → Call → Type 0
 EntersNot past call = enters (transition_of past call) ≡ false
 
 -- how many of these calls emitted
-abbrev pub emissions : List Did → ℕ
+abbrev pub emissions : List CallDone → ℕ
 emissions [] = 0
 emissions (x ∷ earlier) = if is_emission x.transition then emissions earlier + 1 else emissions earlier
 

@@ -4,7 +4,7 @@ use Rattle.sd_num.specs.Lists.{map_or}
 use Rattle.sd_num.specs.Numbers.{up}
 use Rattle.sd_num.specs.declared.Rates.{Rates}
 use Rattle.sd_plan.specs.declared.Duty.{Duty}
-use Rattle.sd_device.specs.Calls.{Did, Past}
+use Rattle.sd_device.specs.Calls.{CallDone, Past}
 use Rattle.sd_device.specs.Words.{duty_now, is_sealed, has_moved, is_acting, is_backup_root_now, wait_to_move, emits}
 use Rattle.sd_history.specs.World.{Setting, Seen, is_up}
 use Rattle.sd_history.specs.Steps.{Step, seen_of}
@@ -30,7 +30,7 @@ pub record Due (rates : Rates) (period : ℕ) (past : Past) (t : Times) : Type 0
   pub sealed : is_some t.seal ≡ is_sealed past
 
 -- the times after a call at this reference
-abbrev pub times_with : ℕ → Did → Times → Times
+abbrev pub times_with : ℕ → CallDone → Times → Times
 times_with r x t =
     record {
       tick = if is_tick x.call then r else t.tick;

@@ -1,7 +1,7 @@
 -- Earlier states in a list of steps: its tails, the tails since a device's entry, and a tick in a span of references.
 use Rattle.std.specs.Prelude.{◌≡◌, ℕ, ◌<◌, ◌≤◌, Bool, true, false, ◌&&◌, List, ◌∷◌, nat_eq, Option, Some, is_some}
 use Rattle.sd_num.specs.Lists.{map_or, same_number}
-use Rattle.sd_device.specs.Calls.{Call, Did, Past}
+use Rattle.sd_device.specs.Calls.{Call, CallDone, Past}
 use Rattle.sd_device.specs.Words.{transition_of, taken_up}
 use Rattle.sd_sched.specs.Events.{reference_of, ticked}
 use Rattle.sd_history.specs.Steps.{Act, Makes, Calls, Asks, Passes, Step}
@@ -31,7 +31,7 @@ pub record TicksWithin (steps : List Step) (d x y : ℕ) : Type 0 where
   pub by : reference_of tick.seen.event ≤ y
 
 -- at this step the device was called, and f tells something of it
-pub record IsMarked (f : Did → Option ℕ) (s : Step) (earlier : List Step) (d : ℕ) : Type 0 where
+pub record IsMarked (f : CallDone → Option ℕ) (s : Step) (earlier : List Step) (d : ℕ) : Type 0 where
   pub call : Call
   pub past : Past
   pub counter : ℕ
@@ -40,19 +40,19 @@ pub record IsMarked (f : Did → Option ℕ) (s : Step) (earlier : List Step) (d
   pub told : f (did_by past call) ≡ Some counter
 
 -- the act makes the device, or f tells something of its call
-abbrev pub marks_by : (Did → Option ℕ) → Act → ℕ → Option Past → Bool
+abbrev pub marks_by : (CallDone → Option ℕ) → Act → ℕ → Option Past → Bool
 marks_by f (Makes m making) d past = nat_eq m d
 marks_by f (Calls m call) d past = nat_eq m d && map_or past false (λ p. is_some (f (did_by p call)))
 marks_by f (Asks m counter) d past = false
 marks_by f Passes d past = false
 
 -- older is a tail since which the device was not made, and f told nothing of its calls
-pub data Unmarked (f : Did → Option ℕ) (d : ℕ) (older : List Step) : List Step → Type 0 where
+pub data Unmarked (f : CallDone → Option ℕ) (d : ℕ) (older : List Step) : List Step → Type 0 where
   no_step : Unmarked f d older older
   one_step : {s : Step} {steps : List Step} → marks_by f s.act d (past_in steps d) ≡ false → Unmarked f d older steps → Unmarked f d older (s ∷ steps)
 
 -- the step that made the device, or at which f told something of its call, the latest
-pub record LatestMark (f : Did → Option ℕ) (steps : List Step) (d reference : ℕ) : Type 0 where
+pub record LatestMark (f : CallDone → Option ℕ) (steps : List Step) (d reference : ℕ) : Type 0 where
   pub step : Step
   pub older : List Step
   pub since : Unmarked f d (step ∷ older) steps

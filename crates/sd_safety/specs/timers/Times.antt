@@ -3,7 +3,7 @@
 use Rattle.std.specs.Prelude.{◌≡◌, ℕ, ◌≤◌, Bool, true, false, ◌&&◌, ◌||◌, not, List, [], ◌∷◌, nat_eq, nat_le, Option, Some, None, is_some, option_and_then, if◌then◌else◌}
 use Rattle.sd_num.specs.Lists.{map_or, same_number}
 use Rattle.sd_plan.specs.declared.Duty.{Duty}
-use Rattle.sd_device.specs.Calls.{Call, Tick, Did, Past}
+use Rattle.sd_device.specs.Calls.{Call, Tick, CallDone, Past}
 use Rattle.sd_device.specs.Words.{transition_of, accepted_over, is_move, emits, takes_up, is_seal, making_counter, first_duty, duty_given, counter_of as counter_of_call}
 use Rattle.sd_sched.specs.declared.Event.{Event}
 use Rattle.sd_sched.specs.Events.{reference_of, device_of, counter_of, ticked}
@@ -13,19 +13,19 @@ use Rattle.sd_history.specs.Chronicle.{past_in}
 use Rattle.sd_history.specs.Premises.{reads_honestly, at_each, is_current_member}
 
 -- a call with what it did
-abbrev pub did_by : Past → Call → Did
+abbrev pub did_by : Past → Call → CallDone
 did_by past call = record { call = call; transition = transition_of past call }
 
 -- the counter of an accepted receipt, of a move
-abbrev pub hears : Did → Option ℕ
+abbrev pub hears : CallDone → Option ℕ
 hears x = option_and_then (λ edge. counter_of_call x.call) (accepted_over x.transition)
 
 -- the counter of a move
-abbrev pub moves : Did → Option ℕ
+abbrev pub moves : CallDone → Option ℕ
 moves x = if is_move x.transition then counter_of_call x.call else None
 
 -- the reference where the act makes the device, or its call is one of which f tells something; else the one before
-abbrev pub reference_after : (Did → Option ℕ) → ℕ → Act → ℕ → Option Past → ℕ → ℕ
+abbrev pub reference_after : (CallDone → Option ℕ) → ℕ → Act → ℕ → Option Past → ℕ → ℕ
 reference_after f r (Makes m making) d past before = if nat_eq m d then r else before
 reference_after f r (Calls m call) d past before =
     if nat_eq m d then map_or past before (λ p. map_or (f (did_by p call)) before (λ c. r)) else before
@@ -33,7 +33,7 @@ reference_after f r (Asks m counter) d past before = before
 reference_after f r Passes d past before = before
 
 -- the reference of the latest making or call of which f tells something
-abbrev pub reference_by : (Did → Option ℕ) → List Step → ℕ → ℕ
+abbrev pub reference_by : (CallDone → Option ℕ) → List Step → ℕ → ℕ
 reference_by f [] d = 0
 reference_by f (s ∷ earlier) d = reference_after f (reference_of s.seen.event) s.act d (past_in earlier d) (reference_by f earlier d)
 
@@ -50,7 +50,7 @@ abbrev pub sent_in : List Step → ℕ → ℕ
 sent_in steps d = reference_by emits steps d
 
 -- the first seal since the entry; an entry that is a making is sealed at once
-abbrev pub seal_with : ℕ → Did → Option ℕ → Option ℕ
+abbrev pub seal_with : ℕ → CallDone → Option ℕ → Option ℕ
 seal_with r x before = if takes_up x then None else if is_some before then before else if is_seal x.call then Some r else None
 
 -- the first seal since the entry of a device, after an act

@@ -43,7 +43,7 @@ pub(super) enum Transition {
 }
 
 #[derive(Clone, Copy, Debug)]
-pub(super) struct Did {
+pub(super) struct CallDone {
     pub(super) call: Call,
     pub(super) transition: Transition,
 }
@@ -61,7 +61,7 @@ pub(super) struct Making {
 #[derive(Drop)]
 pub(super) struct Plain {
     making: Making,
-    did: Vec<Did>,
+    did: Vec<CallDone>,
 }
 
 impl Transition {
@@ -92,7 +92,7 @@ impl Call {
     }
 }
 
-impl Did {
+impl CallDone {
     fn taken_up(&self) -> Option<Duty> {
         match self.transition {
             Transition::Entered(duty, _)
@@ -198,7 +198,7 @@ impl Plain {
     /// A call, and what it sends.
     pub(super) fn call(&mut self, call: Call) -> Result<Effect, AllocError> {
         let transition = self.transition(&call);
-        self.did.push(Did { call, transition })?;
+        self.did.push(CallDone { call, transition })?;
         Ok(match (transition, call.counter()) {
             (Transition::Entered(..) | Transition::Accepted(_), _) => {
                 let (clock, eps, _) = self.estimate();
@@ -225,7 +225,7 @@ impl Plain {
         }
     }
 
-    fn entry(&self) -> Option<Did> {
+    fn entry(&self) -> Option<CallDone> {
         self.did
             .iter()
             .rev()

@@ -2,8 +2,8 @@ use Rattle.std.proofs.Common.{[], refl, rules, sym, subst, map}
 use Rattle.std.specs.Prelude.{string_bytes}
 use Rattle.sd_device.specs.declared.registers.Registers.{Registers}
 use Rattle.sd_device.specs.contracts.device.DeviceNode.TheImpl.{ghosts as device}
-use Rattle.sd_commands.specs.declared.replay.told.ToldWaits.{ToldWaits}
-use Rattle.sd_commands.specs.contracts.replay.told.ToldWaitsObserver.TheImpl.{ghosts}
+use Rattle.sd_commands.specs.declared.replay.observer.WaitObserver.{WaitObserver}
+use Rattle.sd_commands.specs.contracts.replay.observer.WaitObserverObserver.TheImpl.{ghosts}
 use Rattle.sd_replay.specs.declared.replay.Replay.{Replay}
 use Rattle.sd_replay.specs.Devices.{HasReplayed}
 use Rattle.sd_files.proofs.Keeping.{keeps_both}
@@ -24,7 +24,7 @@ returns-in-Ok g c =
           (record {
             setting = setting;
             is = refl;
-            replayed = subst (λ (r : Replay Registers ToldWaits device ghosts). HasReplayed ghosts r setting []) (sym c.new-replayed.ensures) replayed;
+            replayed = subst (λ (r : Replay Registers WaitObserver device ghosts). HasReplayed ghosts r setting []) (sym c.new-replayed.ensures) replayed;
           })
           (order_whole setting));
       gives = search rules;
@@ -37,7 +37,7 @@ returns-in-Ok g c =
           (record {
             setting = setting;
             is = refl;
-            replayed = subst (λ (r : Replay Registers ToldWaits device ghosts). HasReplayed ghosts r setting []) (sym c.new-replayed.ensures) replayed;
+            replayed = subst (λ (r : Replay Registers WaitObserver device ghosts). HasReplayed ghosts r setting []) (sym c.new-replayed.ensures) replayed;
           }) refused);
       shelf = keeps_both g.S.Shelf _ _ _ _ _ (λ e. cc) c.in-Ok.ensures.shelf c.go_through.ensures.shelf;
       sink = search rules;

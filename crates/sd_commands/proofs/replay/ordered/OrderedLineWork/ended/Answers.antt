@@ -1,5 +1,0 @@
-use Rattle.sd_commands.proofs.replay.Working.{order_ends}
-use Rattle.sd_commands.proofs.replay.ordered.OrderedLineWork.ended.Goals as goal
-
-pub returns : goal.returns
-returns c = order_ends c.args.self.now c.is_over.result c.is_over.ensures

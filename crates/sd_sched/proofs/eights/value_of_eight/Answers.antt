@@ -1,5 +1,0 @@
-use Rattle.core.proofs.dec2flt.Eight.{eight_is}
-use Rattle.sd_sched.proofs.eights.value_of_eight.Goals as goal
-
-pub returns : goal.returns
-returns c digits eight is = eight_is digits c.args.word eight is
