@@ -19,7 +19,7 @@ use Rattle.sd_history.specs.Chronicle.{answers_by, past_in, past_after, next_ste
 use Rattle.sd_history.specs.Refusals.{window_order, window_order_seen, window_order_within}
 use Rattle.sd_history.specs.Admitted.{IsAdmitted}
 use Rattle.sd_history.proofs.Among.{Among, first, later, all_pass}
-use Rattle.sd_history.proofs.Admitted.{rule_holds}
+use Rattle.sd_history.proofs.Clear.{clear}
 use Rattle.sd_history.proofs.Filters.{kept_among, filter_in}
 use Rattle.sd_history.proofs.Given.{takes_given}
 use Rattle.sd_history.proofs.Shared.{among_below}
@@ -73,8 +73,7 @@ sealing : (setting : Setting) (r d : ℕ) (history : List Event) → IsAdmitted 
 sealing setting r d history is =
     let steps : List Step = chronicle setting history in
     let order : window_order setting steps (event.Seal r d) ≡ false =
-    rule_holds setting steps (event.Seal r d) _ is.1
-    (later (later (later (later (later (later (later (later (later (later (later (later first)))))))))))) refl in
+    (clear setting steps (event.Seal r d) is.1).in_window in
     let parts = or_parts (window_order_seen setting (seen_of steps) (event.Seal r d)) (window_order_within steps (event.Seal r d)) order in
     let outside = or_parts (not (window_is_open (seen_of steps))) (not (has_commit (seen_of steps))) parts.0 in
     record {

@@ -28,8 +28,7 @@ use Rattle.sd_history.specs.Premises.{has_seal}
 use Rattle.sd_history.specs.Admitted.{IsAdmitted, IsAdmittedRun}
 use Rattle.sd_history.specs.Nodes.{NodeStep, steps_of, TellsByWords}
 use Rattle.sd_device.specs.declared.node.Node.{Ghosts}
-use Rattle.sd_history.proofs.Among.{first, later}
-use Rattle.sd_history.proofs.Admitted.{rule_holds}
+use Rattle.sd_history.proofs.Clear.{clear}
 use Rattle.sd_history.proofs.Given.{some_is, takes_given}
 use Rattle.sd_history.proofs.Known.{up_case}
 use Rattle.sd_history.proofs.Shared.{epoch_kept}
@@ -277,7 +276,7 @@ stages_shut : (setting : Setting) (e : Event) (history : List Event) → IsAdmit
 stages_shut setting e history is stages =
     let steps = chronicle setting history in
     let order : window_order setting steps e ≡ false =
-    rule_holds setting steps e _ is.1 (later (later (later (later (later (later (later (later (later (later (later (later first)))))))))))) refl in
+    (clear setting steps e is.1).in_window in
     let outside : window_order_seen setting (seen_of steps) e ≡ false = (or_parts (window_order_seen setting (seen_of steps) e) _ order).0 in
     let front = or_parts _ _ (or_parts _ (is_seal e && (not (window_is_open (seen_of steps)) || not (has_commit (seen_of steps)))) outside).0 in
     let second = or_parts (is_stage e && window_is_open (seen_of steps))

@@ -11,11 +11,10 @@ use Rattle.sd_sched.specs.Events.{reference_of, device_of, message_of, is_stage}
 use Rattle.sd_history.specs.Things.{failure_of}
 use Rattle.sd_history.specs.World.{Setting, window_is_open, epoch_in_force}
 use Rattle.sd_history.specs.Steps.{Answers, Told, Step, seen_of, changed, act_by, flight_count, first_step, can_close, step_of}
-use Rattle.sd_history.specs.Refusals.{causes, no_plan_left, window_order}
+use Rattle.sd_history.specs.Refusals.{no_plan_left, window_order}
 use Rattle.sd_history.specs.Open.{unspent}
 use Rattle.sd_history.specs.Accepted.{AreSteps}
-use Rattle.sd_history.proofs.Among.{first, later}
-use Rattle.sd_history.proofs.Contained.{none_holds}
+use Rattle.sd_history.proofs.Clear.{accepted_is_clear}
 use Rattle.sd_history.specs.flights.Flights.{without_taken, without_swept}
 use Rattle.sd_history.proofs.flights.Sending.{counted}
 use Rattle.sd_history.proofs.flights.Booking.{booked}
@@ -123,11 +122,9 @@ module _ (setting : Setting) (old : Registers) (steps : List Step) (stands : Sta
   plan_left : is_stage e ≡ true → old.membership.world.epoch < length old.membership.plans
   plan_left stage =
       let some : no_plan_left setting (seen_of steps) e ≡ false =
-      none_holds (causes setting steps e) _ (accepts setting old steps stands e accepted)
-      (later (later (later (later (later (later (later (later (later (later (later first))))))))))) in
+      (accepted_is_clear setting steps e (accepts setting old steps stands e accepted)).plan_left in
       let ordered : window_order setting steps e ≡ false =
-      none_holds (causes setting steps e) _ (accepts setting old steps stands e accepted)
-      (later (later (later (later (later (later (later (later (later (later (later (later first)))))))))))) in
+      (accepted_is_clear setting steps e (accepts setting old steps stands e accepted)).in_window in
       let shut : (is_stage e && window_is_open (seen_of steps)) ≡ false = (or_parts _ _ (or_parts _ _ (or_parts _ _ (or_parts _ _ ordered).0).0).0).0 in
       let count : length old.membership.plans ≡ length setting.plans = plan_count old.membership setting steps stands.membership in
       let less : epoch_in_force (seen_of steps) < length setting.plans =

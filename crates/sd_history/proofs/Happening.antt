@@ -21,9 +21,9 @@ use Rattle.sd_history.specs.Lives.{life_in, life_after}
 use Rattle.sd_history.specs.Refusals.{refusal}
 use Rattle.sd_history.specs.Chronicle.{answers_by, new_past, past_in, past_after, told_by, next_step, chronicle, IsHistory}
 use Rattle.sd_history.specs.Nodes.{NodeStep, steps_of, node_in, node_before, IsMade, IsCalled, IsAsked, Allows, IsRun}
-use Rattle.sd_history.proofs.Among.{first, later}
 use Rattle.sd_history.specs.Admitted.{Admits, IsAdmitted, IsAdmittedRun}
-use Rattle.sd_history.proofs.Admitted.{rule_holds, history_is_admitted}
+use Rattle.sd_history.proofs.Admitted.{history_is_admitted}
+use Rattle.sd_history.proofs.Clear.{clear}
 use Rattle.sd_history.proofs.Known.{up_has_past}
 use Rattle.sd_history.proofs.Given.{some_is}
 use Rattle.sd_history.proofs.Bridges.{past_of_life}
@@ -91,7 +91,7 @@ is_there : (setting : Setting) (history : List Event) (e : Event) (d : ℕ) → 
 is_there setting history e d none calls_ named =
     up_has_past setting history d
     (started_by (addresses e) (device_of e) (is_up (seen_of (chronicle setting history))) d
-    (rule_holds setting (chronicle setting history) e _ none (later (later (later (later (later (later (later (later (later first))))))))) refl) calls_
+    (clear setting (chronicle setting history) e none).device_up calls_
     named)
 
 -- What the kind allows

@@ -18,13 +18,13 @@ use Rattle.sd_history.specs.Steps.{Act, Makes, Calls, Asks, Passes, Step, seen_o
 use Rattle.sd_history.specs.Refusals.{refusal}
 use Rattle.sd_history.specs.Chronicle.{new_past, past_in, past_after, chronicle, IsHistory}
 use Rattle.sd_history.specs.Admitted.{Admits, IsAdmitted}
-use Rattle.sd_history.proofs.Among.{first}
-use Rattle.sd_history.proofs.Admitted.{rule_holds, accepted_is_admitted, history_is_admitted}
+use Rattle.sd_history.proofs.Admitted.{accepted_is_admitted, history_is_admitted}
+use Rattle.sd_history.proofs.Clear.{clear}
 
 -- an event that the rules admit names a device of the network
 pub admitted_named_is_known : (setting : Setting) (steps : List Step) (e : Event) (d : ℕ) → Admits setting steps e → device_of e ≡ Some d
     → d < length setting.net.devices
-admitted_named_is_known setting steps e d admits named = go (device_of e) named (rule_holds setting steps e _ admits first refl)
+admitted_named_is_known setting steps e d admits named = go (device_of e) named (clear setting steps e admits).device_known
   where
     go : (o : Option ℕ) → o ≡ Some d → map_or o false (λ x. nat_le (length setting.net.devices) x) ≡ false → d < length setting.net.devices
     go None same h = cc

@@ -11,6 +11,7 @@ pub mod Tellings
 pub mod Accepting
 pub mod Among
 pub mod Admitted
+pub mod Clear
 pub mod Filters
 pub mod Given
 pub mod Owned

@@ -24,8 +24,7 @@ use Rattle.sd_history.specs.Refusals.{counter_falls, makes_some}
 use Rattle.sd_history.specs.Nodes.{NodeStep, steps_of}
 use Rattle.sd_history.specs.Chronicle.{next_step, chronicle}
 use Rattle.sd_history.specs.Admitted.{Admits, IsAdmitted, IsAdmittedRun}
-use Rattle.sd_history.proofs.Admitted.{rule_holds}
-use Rattle.sd_history.proofs.Among.{first, later}
+use Rattle.sd_history.proofs.Clear.{clear}
 use Rattle.sd_history.proofs.Given.{some_is}
 
 -- Readings do not fall
@@ -48,7 +47,7 @@ not_falling false (Some d) (Some e) f falls none x c named reads =
 
 pub admitted_goes_forward : (setting : Setting) (steps : List Step) (e : Event) → Admits setting steps e → counter_falls (seen_of steps) e ≡ false
 admitted_goes_forward setting steps e admits =
-    rule_holds setting steps e _ admits (later (later (later (later (later (later (later (later first)))))))) refl
+    (clear setting steps e admits).counter_rises
 
 -- What an event does
 

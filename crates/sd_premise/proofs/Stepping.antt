@@ -14,12 +14,12 @@ use Rattle.sd_sched.specs.declared.Event.TheVariants as event
 use Rattle.sd_sched.specs.Events.{reference_of, device_of, message_of, received, is_stage, is_commit}
 use Rattle.sd_history.specs.World.{Setting, Seen, window, has_commit, latest_reference}
 use Rattle.sd_history.specs.Steps.{Step, seen_of, flights, flight_numbered, flight_count, first_step, taken_by, has_turned}
-use Rattle.sd_history.specs.Refusals.{refusal, causes, unknown_device, unknown_link, dead_device, dead_link, time_falls, counter_falls, not_started, started_twice, no_plan_left, window_order_seen, window_order_within, after_end, not_failed, not_member, too_many, was_used, was_swept, is_spent}
+use Rattle.sd_history.specs.Refusals.{refusal, unknown_device, unknown_link, dead_device, dead_link, time_falls, counter_falls, not_started, started_twice, no_plan_left, window_order_seen, window_order_within, after_end, not_failed, not_member, too_many, was_used, was_swept, is_spent}
 use Rattle.sd_history.specs.Open.{may_be_seen}
 use Rattle.sd_history.specs.Accepted.{AreSteps}
 use Rattle.sd_history.specs.Premises as premises
 use Rattle.sd_history.proofs.Among.{Among, first, later, found, either_side}
-use Rattle.sd_history.proofs.Contained.{none_holds}
+use Rattle.sd_history.proofs.Clear.{accepted_is_clear, few_events}
 use Rattle.sd_history.proofs.Known.{named_is_known}
 use Rattle.sd_history.specs.flights.Flights.{AreNumberedOn}
 use Rattle.sd_history.proofs.flights.Sending.{step_numbered, counted, WasSent, was_sent}
@@ -87,28 +87,26 @@ fourteen a b c d e f g h i j k l m n pa pb pc pd pe pf pg ph pi pj pk pl pm pn =
 
 pub allowed : (setting : Setting) (steps : List Step) (e : Event) → refusal setting steps e ≡ None → may_be_seen setting (seen_of steps) e ≡ true
 allowed setting steps e none =
+    let clear = accepted_is_clear setting steps e none in
     fourteen (unknown_device setting e) (unknown_link setting e) (dead_device (seen_of steps) e) (dead_link (seen_of steps) e) (time_falls (seen_of steps) e)
     (counter_falls (seen_of steps) e) (not_started (seen_of steps) e)
     (started_twice setting (seen_of steps) e) (no_plan_left setting (seen_of steps) e) (window_order_seen setting (seen_of steps) e) (after_end (seen_of steps))
     (not_failed (seen_of steps) e) (not_member setting (seen_of steps) e) (too_many (seen_of steps))
-    (none_holds (causes setting steps e) _ none first)
-    (none_holds (causes setting steps e) _ none (later first))
-    (none_holds (causes setting steps e) _ none (later (later first)))
-    (none_holds (causes setting steps e) _ none (later (later (later first))))
-    (none_holds (causes setting steps e) _ none (later (later (later (later (later (later (later first))))))))
-    (none_holds (causes setting steps e) _ none (later (later (later (later (later (later (later (later first)))))))))
-    (none_holds (causes setting steps e) _ none (later (later (later (later (later (later (later (later (later first))))))))))
-    (none_holds (causes setting steps e) _ none (later (later (later (later (later (later (later (later (later (later first)))))))))))
-    (none_holds (causes setting steps e) _ none (later (later (later (later (later (later (later (later (later (later (later first))))))))))))
+    clear.device_known
+    clear.link_known
+    clear.device_works
+    clear.link_works
+    clear.time_rises
+    clear.counter_rises
+    clear.device_up
+    clear.started_once
+    clear.plan_left
     (or_parts (window_order_seen setting (seen_of steps) e) (window_order_within steps e)
-    (none_holds (causes setting steps e) _ none (later (later (later (later (later (later (later (later (later (later (later (later first)))))))))))))).0
-    (none_holds (causes setting steps e) _ none (later (later (later (later (later (later (later (later (later (later (later (later (later first))))))))))))))
-    (none_holds (causes setting steps e) _ none
-    (later (later (later (later (later (later (later (later (later (later (later (later (later (later first)))))))))))))))
-    (none_holds (causes setting steps e) _ none
-    (later (later (later (later (later (later (later (later (later (later (later (later (later (later (later first))))))))))))))))
-    (none_holds (causes setting steps e) _ none
-    (later (later (later (later (later (later (later (later (later (later (later (later (later (later (later (later first)))))))))))))))))
+    clear.in_window).0
+    clear.before_end
+    clear.has_failed
+    clear.is_member
+    (few_events setting steps e none)
 
 -- A window closes at its commit or later
 
@@ -266,7 +264,7 @@ on_the_way setting s earlier is f takes = record {
         sym (ap (λ (o : Option ℕ). map_or o false (λ n. map_or (flight_numbered earlier n) false (is_spent earlier (reference_of s.seen.event))))
         taken.message
         ∙ ap (λ (o : Option Flight). map_or o false (is_spent earlier (reference_of s.seen.event))) taken.there)
-        ∙ none_holds (causes setting earlier s.seen.event) _ is.1 (later (later (later (later (later first)))))
+        ∙ (accepted_is_clear setting earlier s.seen.event is.1).message_open
 
     open_ : ((was_used earlier f.number || was_swept earlier f || nat_lt f.last (max (reference_of s.seen.event) (latest_reference (seen_of earlier)))) ≡ false)
         × (not f.reaches ≡ false)

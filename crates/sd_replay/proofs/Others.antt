@@ -10,10 +10,9 @@ use Rattle.sd_sched.specs.declared.Event.TheVariants as event
 use Rattle.sd_sched.specs.Events.{device_of, joined, is_stage}
 use Rattle.sd_history.specs.World.{Setting, Seen, up_after, is_up, is_counted, window, window_is_open, joined_in_window}
 use Rattle.sd_history.specs.Steps.{Step, seen_of, changed, live_answers}
-use Rattle.sd_history.specs.Refusals.{causes, window_order_within, window_order}
+use Rattle.sd_history.specs.Refusals.{window_order_within, window_order}
 use Rattle.sd_history.specs.Accepted.{AreSteps}
-use Rattle.sd_history.proofs.Among.{first, later}
-use Rattle.sd_history.proofs.Contained.{none_holds}
+use Rattle.sd_history.proofs.Clear.{accepted_is_clear}
 use Rattle.sd_history.proofs.Known.{named_is_known}
 use Rattle.sd_replay.proofs.Loops.{UpIsKnown}
 use Rattle.sd_history.proofs.flights.Places.{changed_named}
@@ -43,8 +42,7 @@ module _ (setting : Setting) (s : Step) (earlier : List Step) (is : AreSteps set
   stage_first : is_stage s.seen.event ≡ true → window_is_open (seen_of earlier) ≡ false
   stage_first stages =
       let order : window_order setting earlier s.seen.event ≡ false =
-      none_holds (causes setting earlier s.seen.event) _ is.1
-      (later (later (later (later (later (later (later (later (later (later (later (later first)))))))))))) in
+      (accepted_is_clear setting earlier s.seen.event is.1).in_window in
       by (window_is_open (seen_of earlier)) (ap (λ b. b && window_is_open (seen_of earlier)) (sym stages)
       ∙ (or_parts _ _ (or_parts _ _ (or_parts _ _ (or_parts _ (window_order_within earlier s.seen.event) order).0).0).0).0)
     where

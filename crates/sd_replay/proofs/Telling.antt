@@ -15,14 +15,13 @@ use Rattle.sd_sched.specs.Events.{reference_of, is_end_event}
 use Rattle.sd_history.specs.declared.BrokenSet.{BrokenSet}
 use Rattle.sd_history.specs.World.{Setting}
 use Rattle.sd_history.specs.Steps.{Step, seen_of}
-use Rattle.sd_history.specs.Refusals.{causes, after_end}
+use Rattle.sd_history.specs.Refusals.{after_end}
 use Rattle.sd_history.specs.Accepted.{AreSteps}
 use Rattle.sd_history.specs.Premises.{breaks}
 use Rattle.sd_history.specs.Lines.{Line, Broken, RootsAlarm, Reported, IntervalAlarm, broken_lines, loop_lines, root_lines, report_lines, asked_report, first_on_loop, roots, lines_of, reports}
 use Rattle.sd_history.specs.Lines as line
 use Rattle.sd_history.specs.Text.{bytes_of}
-use Rattle.sd_history.proofs.Among.{first, later}
-use Rattle.sd_history.proofs.Contained.{none_holds}
+use Rattle.sd_history.proofs.Clear.{accepted_is_clear}
 use Rattle.sd_history.proofs.flights.Counts.{steps_few}
 use Rattle.sd_replay.specs.declared.lines.findings.Findings.{Findings}
 use Rattle.sd_replay.specs.lines.Findings.{found_lines, found_bytes, line_bytes}
@@ -167,8 +166,7 @@ module _ (setting : Setting) (s : Step) (earlier : List Step) (is : AreSteps set
   ended_next : is_end_event s.seen.event ≡ after_end (seen_of (s ∷ earlier))
   ended_next =
       sym (ap (λ b. is_end_event s.seen.event || b)
-      (none_holds (causes setting earlier s.seen.event) _ is.1
-      (later (later (later (later (later (later (later (later (later (later (later (later (later first)))))))))))))) ∙ or_nothing (is_end_event s.seen.event))
+      (accepted_is_clear setting earlier s.seen.event is.1).before_end ∙ or_nothing (is_end_event s.seen.event))
     where
       or_nothing : (b : Bool) → (b || false) ≡ b
       or_nothing true = refl

@@ -14,8 +14,8 @@ use Rattle.sd_history.specs.World.{Setting, makes, fails, is_thing, has_failed}
 use Rattle.sd_history.specs.Steps.{Step, seen_of}
 use Rattle.sd_history.specs.Refusals.{refusal, unknown_device, unknown_link}
 use Rattle.sd_history.specs.Accepted.{AreSteps}
-use Rattle.sd_history.proofs.Among.{first, later}
-use Rattle.sd_history.proofs.Admitted.{rule_holds, accepted_is_admitted}
+use Rattle.sd_history.proofs.Admitted.{accepted_is_admitted}
+use Rattle.sd_history.proofs.Clear.{clear}
 use Rattle.sd_history.proofs.Known.{up_case}
 
 -- the network has the thing
@@ -56,7 +56,7 @@ failing_is_known setting _ x known is = cc
 accepted_names_known : (setting : Setting) (steps : List Step) (e : Event) → refusal setting steps e ≡ None → NamesKnown setting e
 accepted_names_known setting steps e none =
     let admits = accepted_is_admitted setting steps e none in
-    record { device = rule_holds setting steps e _ admits first refl; link = rule_holds setting steps e _ admits (later first) refl }
+    record { device = (clear setting steps e admits).device_known; link = (clear setting steps e admits).link_known }
 
 -- what is failed in accepted steps is known
 pub failed_is_known : (setting : Setting) (steps : List Step) (x : Thing) → AreSteps setting steps → has_failed (seen_of steps) x ≡ true → IsKnown setting x

@@ -32,8 +32,8 @@ use Rattle.sd_history.specs.Steps.{Act, Calls, Passes, tells_nothing, tells_call
 use Rattle.sd_history.specs.Chronicle.{answers_by, past_in, past_after, told_by, new_past, next_step, chronicle}
 use Rattle.sd_history.specs.Admitted.{Admits, IsAdmitted}
 use Rattle.sd_history.specs.Premises.{is_in_time}
-use Rattle.sd_history.proofs.Admitted.{rule_holds}
-use Rattle.sd_history.proofs.Among.{Among, first, later, found, carried_by}
+use Rattle.sd_history.proofs.Clear.{clear}
+use Rattle.sd_history.proofs.Among.{Among, found, carried_by}
 use Rattle.sd_history.proofs.Contained.{send_same, admitted_time_goes_on}
 use Rattle.sd_history.proofs.Given.{some_is}
 use Rattle.sd_history.proofs.Owned.{OwnPast, rates_are_own, accepts_own}
@@ -522,7 +522,7 @@ module _ (setting : Setting) (steps : List Step) (inv : AreTraced setting steps)
       (lineage_sent (descent_after steps (lineages steps) (event.Tick r d c)) (event.Tick r d c)) (past_in steps d) (ticking r d c le) f a)
   event_step (event.Recv r d c n) admits own =
       let le = time (event.Recv r d c n) admits in
-      let right = rule_holds setting steps (event.Recv r d c n) _ admits (later (later (later (later (later (later first)))))) refl in
+      let right = (clear setting steps (event.Recv r d c n) admits).right_device in
       traced_on setting steps (next_step setting steps (event.Recv r d c n)) inv le own
       (receiving_devices setting steps inv r d c n le (flight_numbered steps n) refl right)
       (receiving_sends setting steps inv r d c n le (flight_numbered steps n) refl right)

@@ -27,10 +27,10 @@ use Rattle.sd_history.specs.World.{Setting, Seen, is_up, was_made, has_failed, l
 use Rattle.sd_history.specs.Steps.{Act, changed, Calls, Passes, Step, seen_of, flights, flights_of, flight_numbered, act_by, tells_nothing, tells_called}
 use Rattle.sd_history.specs.Chronicle.{next_step, chronicle, past_in, past_after, answers_by, told_by, IsHistory}
 use Rattle.sd_history.specs.Accepted.{AreSteps}
-use Rattle.sd_history.specs.Refusals.{causes, refusal, is_spent, not_started, window_order, not_member}
-use Rattle.sd_history.proofs.Among.{Among, first, later, either_side, found}
+use Rattle.sd_history.specs.Refusals.{refusal, is_spent, not_started, window_order, not_member}
+use Rattle.sd_history.proofs.Among.{Among, either_side, found}
 use Rattle.sd_history.proofs.Given.{some_is}
-use Rattle.sd_history.proofs.Contained.{none_holds}
+use Rattle.sd_history.proofs.Clear.{accepted_is_clear}
 use Rattle.sd_history.proofs.Known.{named_is_known}
 use Rattle.sd_history.proofs.Accepting.{history_is_accepted}
 use Rattle.sd_history.proofs.flights.Sending.{WasSent, was_sent}
@@ -78,28 +78,25 @@ module _ (net : Network) (plan : Plan) (f : DomainId) (steps : List Step) (frame
       member : is_member plan d ≡ true
       member =
           let not_left : not_member setting (seen_of steps) (event.Start r d c k x) ≡ false =
-          none_holds (causes setting steps (event.Start r d c k x)) _ none
-          (later (later (later (later (later (later (later (later (later (later (later (later (later (later (later first))))))))))))))) in
+          (accepted_is_clear setting steps (event.Start r d c k x) none).is_member in
           let here = (or_parts (not (is_member (in_force setting (seen_of steps)) d)) false (or_parts _ false not_left).0).0 in
           subst (λ (j : ℕ). is_member (plan_numbered setting (j + 1)) d ≡ true) frame.closings (not-false (is_member (in_force setting (seen_of steps)) d) here)
 
       by : (b : Bool) → holds_device net f d ≡ b → ⊥
       by true held =
           both_ways (has_failed (seen_of steps) (thing.Device d))
-          (none_holds (causes setting steps (event.Start r d c k x)) _ none (later (later first))) (frame.fallen d held)
+          (accepted_is_clear setting steps (event.Start r d c k x) none).device_works (frame.fallen d held)
       by false spared =
           both_ways (was_made (seen_of steps) d)
           (or_parts (was_made (seen_of steps) d) false
-          (none_holds (causes setting steps (event.Start r d c k x)) _ none
-          (later (later (later (later (later (later (later (later (later (later first)))))))))))).0
+          (accepted_is_clear setting steps (event.Start r d c k x) none).started_once).0
           (frame.made d (rw (lt-ltb d (length net.devices) within, member, spared) refl))
 
   -- so is what the order of windows forbids
   in_order : (e : Event) → refusal setting steps e ≡ None → window_order setting steps e ≡ true → ⊥
   in_order e none out =
       both_ways (window_order setting steps e)
-      (none_holds (causes setting steps e) _ none
-      (later (later (later (later (later (later (later (later (later (later (later (later first))))))))))))) out
+      (accepted_is_clear setting steps e none).in_window out
 
   -- what may come
   pub comes : (e : Event) → refusal setting steps e ≡ None → (is_stage e || is_some (failure_of e)) ≡ false → Comes steps e
@@ -252,7 +249,7 @@ module _ (net : Network) (plan : Plan) (fits : Fits net plan) (structured : stru
       → is_up (seen_of steps) d ≡ true
   called_up e d none same =
       not-false (is_up (seen_of steps) d)
-      (sym same ∙ none_holds (causes (alone net plan) steps e) _ none (later (later (later (later (later (later (later (later (later first))))))))))
+      (sym same ∙ (accepted_is_clear (alone net plan) steps e none).device_up)
 
   pub later_on : (e : Event) → Comes steps e → refusal (alone net plan) steps e ≡ None → AreSteps (alone net plan) (next_step (alone net plan) steps e ∷ steps)
       → Later net plan f (next_step (alone net plan) steps e ∷ steps)
@@ -269,11 +266,11 @@ module _ (net : Network) (plan : Plan) (fits : Fits net plan) (structured : stru
       taken g found_ =
           let right : not (nat_eq d g.receiver) ≡ false =
           subst (λ (o : Option Flight). map_or o false (λ h. not (nat_eq d h.receiver)) ≡ false) found_
-          (none_holds (causes (alone net plan) steps (event.Recv r d c n)) _ none (later (later (later (later (later (later first))))))) in
+          (accepted_is_clear (alone net plan) steps (event.Recv r d c n) none).right_device in
           let same : d ≡ g.receiver = eqb-true d g.receiver (not-false (nat_eq d g.receiver) right) in
           let unspent : is_spent steps r g ≡ false =
           subst (λ (o : Option Flight). map_or o false (is_spent steps r) ≡ false) found_
-          (none_holds (causes (alone net plan) steps (event.Recv r d c n)) _ none (later (later (later (later (later first)))))) in
+          (accepted_is_clear (alone net plan) steps (event.Recv r d c n) none).message_open in
           let reaches : g.reaches ≡ true = not-false g.reaches (or_parts _ (not g.reaches) unspent).1 in
           let among : Among g (flights steps) = found (λ (h : Flight). nat_eq h.number n) g (flights steps) found_ in
           later_call (event.Recv r d c n) d (Receive g.link g.message c) receives

@@ -15,8 +15,7 @@ use Rattle.sd_history.specs.World.{Setting, Seen, makes, is_up, is_thing, has_fa
 use Rattle.sd_history.specs.Steps.{Step, seen_of, flight_numbered}
 use Rattle.sd_history.specs.Refusals.{since_sending, was_used, was_swept, is_spent, unknown_device, unknown_link, dead_device, dead_link, unknown_message, spent_message, wrong_device, time_falls, counter_falls, not_started, started_twice, no_plan_left, window_order, after_end, not_failed, not_member, too_many, causes, refusal}
 use Rattle.sd_history.specs.Admitted.{is_count, Admits}
-use Rattle.sd_history.proofs.Among.{first, later}
-use Rattle.sd_history.proofs.Shared.{none_passes}
+use Rattle.sd_history.proofs.Clear.{few_events}
 use Rattle.sd_history.proofs.Admitted.{accepted_is_admitted, admitted_is_accepted}
 use Rattle.sd_beside.specs.translation.Moves.{moved_event, moved_flight, moved_step}
 use Rattle.sd_beside.proofs.translation.Lists.{any_mapped, leading_mapped, MovedOrNone}
@@ -227,16 +226,6 @@ counts_not a b c d e f g h true false true k l m n o p q same = refl
 counts_not a b c d e f g h false true true k l m n o p q same = refl
 counts_not a b c d e f g h false false true k l m n o p q same = refl
 
--- where an event is accepted there may be one more
-few : (setting : Setting) (steps : List Step) (e : Event) → refusal setting steps e ≡ None → too_many (seen_of steps) ≡ false
-few setting steps e none =
-    none_passes (λ cause. cause.1) (causes setting steps e) (fault.TooManyEvents, too_many (seen_of steps)) (unfound (find (λ cause. cause.1) (causes setting steps e)) none)
-    (later (later (later (later (later (later (later (later (later (later (later (later (later (later (later (later first))))))))))))))))
-  where
-    unfound : (o : Option (ApplyFault × Bool)) → option_map (λ (cause : ApplyFault × Bool). cause.0) o ≡ None → o ≡ None
-    unfound None none' = refl
-    unfound (Some cause) none' = cc
-
 module _ (time : ℕ) (lives : ℕ → ℕ → ℕ) (setting : Setting) (xs : List Marked) (of_lives : AreOfLives lives xs) (by : ℕ) (e : Event)
     (number : (d : ℕ) → same_number (device_of e) d ≡ true → makes d e ≡ false → by ≡ lives d (life_in xs d)) where
   falls_same : not_started (seen_of (plain xs)) e ≡ false
@@ -265,9 +254,9 @@ module _ (time : ℕ) (lives : ℕ → ℕ → ℕ) (setting : Setting) (xs : Li
   pub accepts_moved : refusal setting (plain xs) e ≡ None → refusal setting (moved time xs) (moved_event time by e) ≡ None
   accepts_moved none =
       admitted_is_accepted setting (moved time xs) (moved_event time by e) (admits_moved (accepted_is_admitted setting (plain xs) e none))
-      (too_many_same time xs setting by e ∙ few setting (plain xs) e none)
+      (too_many_same time xs setting by e ∙ few_events setting (plain xs) e none)
 
   pub accepts_unmoved : refusal setting (moved time xs) (moved_event time by e) ≡ None → refusal setting (plain xs) e ≡ None
   accepts_unmoved none =
       admitted_is_accepted setting (plain xs) e (admits_unmoved (accepted_is_admitted setting (moved time xs) (moved_event time by e) none))
-      (sym (too_many_same time xs setting by e) ∙ few setting (moved time xs) (moved_event time by e) none)
+      (sym (too_many_same time xs setting by e) ∙ few_events setting (moved time xs) (moved_event time by e) none)

@@ -20,8 +20,7 @@ use Rattle.sd_history.specs.World.{Setting, Seen, makes, fails, is_up, was_made,
 use Rattle.sd_history.specs.Steps.{Act, Makes, Calls, Asks, Passes, Step, seen_of, flight_numbered, act_by}
 use Rattle.sd_history.specs.Refusals.{not_started, started_twice}
 use Rattle.sd_history.specs.Chronicle.{new_past, past_after, past_in, chronicle}
-use Rattle.sd_history.proofs.Among.{first, later}
-use Rattle.sd_history.proofs.Admitted.{rule_holds}
+use Rattle.sd_history.proofs.Clear.{clear}
 use Rattle.sd_history.proofs.Given.{some_is, takes_given, given_stays_or_goes}
 use Rattle.sd_history.proofs.Known.{has_some, kept_past}
 use Rattle.sd_safety.proofs.timers.Pasts.{Inside, itself, onward}
@@ -128,7 +127,7 @@ up_when : (seen : List Seen) (d : ℕ) → not (is_up seen d) ≡ false → is_u
 up_when seen d is = not-false (is_up seen d) is
 
 is_started : (setting : Setting) (steps : List Step) (e : Event) → Admits setting steps e → not_started (seen_of steps) e ≡ false
-is_started setting steps e none = rule_holds setting steps e _ none (later (later (later (later (later (later (later (later (later first))))))))) refl
+is_started setting steps e none = (clear setting steps e none).device_up
 
 pub called_is_up : (setting : Setting) (steps : List Step) (e : Event) (d : ℕ) (call : Call) → Admits setting steps e → Called e d call
     → is_up (seen_of steps) d ≡ true
@@ -196,7 +195,7 @@ made_once setting e history plain d making old act was =
     let steps = chronicle setting history in
     let by = made_by setting steps e d making (plain_event setting e history plain) act in
     let twice : started_twice setting (seen_of steps) e ≡ false =
-    rule_holds setting steps e _ plain.is.1 (later (later (later (later (later (later (later (later (later (later first)))))))))) refl in
+    (clear setting steps e plain.is.1).started_once in
     let unmade : was_made (seen_of steps) d ≡ false =
     ap (λ x. map_or (started x) false (was_made (seen_of steps))) (sym by.event_is)
     ∙ (or_parts (map_or (started e) false (was_made (seen_of steps))) _ twice).0 in

@@ -17,11 +17,10 @@ use Rattle.sd_sched.specs.Events.{reference_of, device_of, message_of, received}
 use Rattle.sd_history.specs.Things.{failure_of}
 use Rattle.sd_history.specs.World.{Setting}
 use Rattle.sd_history.specs.Steps.{Passes, Told, Step, flight_count, flight_numbered, flights_of, act_by}
-use Rattle.sd_history.specs.Refusals.{causes, refusal, is_spent, unknown_message, spent_message}
+use Rattle.sd_history.specs.Refusals.{refusal, is_spent, unknown_message, spent_message}
 use Rattle.sd_history.specs.Open.{unspent}
 use Rattle.sd_history.specs.Accepted.{AreSteps}
-use Rattle.sd_history.proofs.Among.{first, later}
-use Rattle.sd_history.proofs.Contained.{none_holds}
+use Rattle.sd_history.proofs.Clear.{accepted_is_clear}
 use Rattle.sd_history.specs.flights.Flights.{without_taken, without_swept}
 use Rattle.sd_history.proofs.flights.Finds.{find_passing}
 use Rattle.sd_history.proofs.flights.Sending.{sent_is}
@@ -57,7 +56,7 @@ pub record Takes (steps : List Step) (e : Event) (n : ℕ) : Type 0 where
 known_message : (setting : Setting) (steps : List Step) (e : Event) (n : ℕ) → refusal setting steps e ≡ None → message_of e ≡ Some n
     → is_given (flight_count steps) n ≡ true
 known_message setting steps e n none names =
-    let known : unknown_message steps e ≡ false = none_holds (causes setting steps e) _ none (later (later (later (later first)))) in
+    let known : unknown_message steps e ≡ false = (accepted_is_clear setting steps e none).message_known in
     not-false (is_given (flight_count steps) n)
     (sym (unknown_test (flight_count steps) n) ∙ sym (ap (λ o. map_or o false (λ m. nat_eq m 0 || nat_lt (flight_count steps) m)) names) ∙ known)
 
@@ -65,7 +64,7 @@ module _ (setting : Setting) (steps : List Step) (e : Event) (n : ℕ) (is : Are
     (names : message_of e ≡ Some n) where
   takes_flight : (f : Flight) → flight_numbered steps n ≡ Some f → Takes steps e n
   takes_flight f there =
-      let fresh : spent_message steps e ≡ false = none_holds (causes setting steps e) _ none (later (later (later (later (later first))))) in
+      let fresh : spent_message steps e ≡ false = (accepted_is_clear setting steps e none).message_open in
       let unspent_ : is_spent steps (reference_of e) f ≡ false =
       sym (ap (λ o. map_or o false (is_spent steps (reference_of e))) there)
       ∙ sym (ap (λ o. map_or o false (λ m. map_or (flight_numbered steps m) false (is_spent steps (reference_of e)))) names) ∙ fresh in
@@ -85,7 +84,7 @@ module _ (setting : Setting) (steps : List Step) (e : Event) (n : ℕ) (is : Are
         receiver = λ receives. receiver_by (device_of e)
             (sym (ap (λ o. map_or o false (λ g. not (same_number (device_of e) g.receiver))) there)
             ∙ sym (ap (λ o. map_or o false (λ m. map_or (flight_numbered steps m) false (λ g. not (same_number (device_of e) g.receiver)))) receives)
-            ∙ none_holds (causes setting steps e) _ none (later (later (later (later (later (later first)))))));
+            ∙ (accepted_is_clear setting steps e none).right_device);
       }
     where
       receiver_by : (o : Option ℕ) → not (same_number o f.receiver) ≡ false → o ≡ Some f.receiver

@@ -18,10 +18,8 @@ use Rattle.sd_sched.specs.Events.{reference_of}
 use Rattle.sd_history.specs.World.{Setting, Seen}
 use Rattle.sd_history.specs.Steps.{Answers, Step, seen_of, changed, act_by, flight_count, flights_to, flights_by, ends_at}
 use Rattle.sd_history.specs.World as world
-use Rattle.sd_history.specs.Refusals.{causes}
 use Rattle.sd_history.specs.Accepted.{AreSteps}
-use Rattle.sd_history.proofs.Among.{first, later}
-use Rattle.sd_history.proofs.Contained.{none_holds}
+use Rattle.sd_history.proofs.Clear.{few_events}
 use Rattle.sd_history.proofs.flights.Sending.{sent_is, counted}
 
 -- as many flights as ends
@@ -89,8 +87,7 @@ steps_few setting [] is = omega arith
 steps_few setting (s ∷ earlier) is =
     let room : length (seen_of earlier) < 2 ^ 26 =
     leb-false (2 ^ 26) (length (seen_of earlier))
-    (none_holds (causes setting earlier s.seen.event) _ is.1
-    (later (later (later (later (later (later (later (later (later (later (later (later (later (later (later (later first))))))))))))))))) in
+    (few_events setting earlier s.seen.event is.1) in
     let count : length (seen_of earlier) ≡ length earlier = length-map earlier (λ (x : Step). x.seen) in
     omega (arith, room, count)
 

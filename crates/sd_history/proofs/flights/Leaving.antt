@@ -16,12 +16,13 @@ use Rattle.sd_num.proofs.Shared.{equal_swap}
 use Rattle.sd_history.specs.Things.{failure_of}
 use Rattle.sd_history.specs.World.{Setting, is_thing, fails, latest_reference}
 use Rattle.sd_history.specs.Steps.{Step, seen_of, flight_count}
-use Rattle.sd_history.specs.Refusals.{causes, refusal, since_sending, was_used, was_swept, is_spent}
+use Rattle.sd_history.specs.Refusals.{refusal, since_sending, was_used, was_swept, is_spent}
 use Rattle.sd_history.specs.Open.{unspent}
 use Rattle.sd_history.specs.Accepted.{AreSteps}
-use Rattle.sd_history.proofs.Among.{Among, first, later}
+use Rattle.sd_history.proofs.Among.{Among}
 use Rattle.sd_history.proofs.Filters.{kept_alike, both_tests, all_pass_kept}
-use Rattle.sd_history.proofs.Contained.{none_holds, time_goes_on}
+use Rattle.sd_history.proofs.Contained.{time_goes_on}
+use Rattle.sd_history.proofs.Clear.{accepted_is_clear}
 use Rattle.sd_history.specs.flights.Flights.{sent_in_order, without_taken, without_swept, left_by}
 use Rattle.sd_history.proofs.flights.Finds.{within, finds, none_has, some_has}
 use Rattle.sd_history.proofs.flights.Sending.{step_numbered, counted, ends_later}
@@ -66,7 +67,7 @@ left_tests e p fs =
 -- an accepted event names a message that was sent
 named_message : (setting : Setting) (steps : List Step) (e : Event) (n : ℕ) → refusal setting steps e ≡ None → flight_count steps < n
     → same_number (message_of e) n ≡ false
-named_message setting steps e n none past = go (message_of e) (none_holds (causes setting steps e) _ none (later (later (later (later first)))))
+named_message setting steps e n none past = go (message_of e) (accepted_is_clear setting steps e none).message_known
   where
     go : (o : Option ℕ) → map_or o false (λ m. nat_eq m 0 || nat_lt (flight_count steps) m) ≡ false → same_number o n ≡ false
     go None known = refl

@@ -23,7 +23,7 @@ use Rattle.sd_device.specs.declared.Effect.TheVariants.{Quiet, Send}
 use Rattle.sd_history.proofs.Among.{Among, first as first_, later as later_}
 use Rattle.sd_history.proofs.Filters.{kept_among}
 use Rattle.sd_history.proofs.Contained.{admitted_time_goes_on}
-use Rattle.sd_history.proofs.Admitted.{rule_holds}
+use Rattle.sd_history.proofs.Clear.{clear}
 use Rattle.sd_history.proofs.Given.{some_is}
 use Rattle.sd_device.specs.contracts.device.DeviceNode.TheImpl.{ghosts as device}
 use Rattle.sd_history.proofs.Devices.{admitted_devices_run, admitted_devices_have_history}
@@ -240,7 +240,7 @@ module _ (shift : Shift) (net : Network) (front plans : List Plan) where
       subst (λ s. LooksAlike shift (seen_of s) (seen_of steps_other)) first_is
       (subst (λ s. LooksAlike shift (seen_of (steps_of on.agree.first)) (seen_of s)) second_is on.agree.agree.steps.seen) in
       let rule : not_started (seen_of steps_other) e ≡ false =
-      rule_holds (setting_over net plans) steps_other e _ is.1 (later_ (later_ (later_ (later_ (later_ (later_ (later_ (later_ (later_ first_))))))))) refl in
+      (clear (setting_over net plans) steps_other e is.1).device_up in
       subst (λ s. PremisesAgree (whole net front plans) (setting_over net plans) (s ∷ seen_of steps_one)
       ((next_step (setting_over net plans) steps_other e).seen ∷ seen_of steps_other)) (sym now.seen)
       (premises_agree_after shift net front plans on.agree.behind (seen_of steps_one) (seen_of steps_other) looks before

@@ -33,8 +33,8 @@ use Rattle.sd_history.specs.Refusals.{makes_some}
 use Rattle.sd_history.specs.Chronicle.{past_in}
 use Rattle.sd_history.specs.Nodes.{answers_of, NodeStep, steps_of, node_in, node_before, Allows, Follows}
 use Rattle.sd_history.specs.Admitted.{Admits, IsAdmittedRun}
-use Rattle.sd_history.proofs.Among.{first, later}
-use Rattle.sd_history.proofs.Admitted.{rule_holds}
+use Rattle.sd_history.proofs.Among.{first}
+use Rattle.sd_history.proofs.Clear.{clear}
 use Rattle.sd_history.proofs.Given.{some_is}
 use Rattle.sd_history.proofs.Known.{up_case}
 use Rattle.sd_history.proofs.Owned.{OwnPast, rates_are_own}
@@ -244,7 +244,7 @@ module _ (shift : Shift) (net : Network) (front plans : List Plan) (behind : shi
       → (m : ℕ) → device_of e ≡ Some m → is_up seen m ≡ true
   is_there admits addresses m named =
       go (makes_some e || is_some (failure_of e) || is_some (mended e)) (device_of e)
-      (rule_holds (setting_over net plans) (steps_of other) e _ admits (later (later (later (later (later (later (later (later (later first))))))))) refl)
+      (clear (setting_over net plans) (steps_of other) e admits).device_up
       addresses named
     where
       up : (b : Bool) → not b ≡ false → b ≡ true
@@ -385,7 +385,7 @@ committable setting run is m r here acting =
 
 pub names_some : (setting : Setting) (steps : List Step) (e : Event) → Admits setting steps e → NamesSome e
 names_some setting steps e admits n names =
-    go (message_of e) (rule_holds setting steps e _ admits (later (later (later (later first)))) refl) names
+    go (message_of e) (clear setting steps e admits).message_known names
   where
     by : (n : ℕ) (b : Bool) → (nat_eq n 0 || b) ≡ false → 1 ≤ n
     by zero b known = cc

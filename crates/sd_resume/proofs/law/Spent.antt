@@ -18,8 +18,8 @@ use Rattle.sd_history.specs.Accepted.{AreSteps}
 use Rattle.sd_device.specs.msg.Books.{is_given}
 use Rattle.sd_history.proofs.flights.Looks.{spent_at}
 use Rattle.sd_history.specs.Admitted.{Admits}
-use Rattle.sd_history.proofs.Among.{Among, first, later, found}
-use Rattle.sd_history.proofs.Admitted.{rule_holds}
+use Rattle.sd_history.proofs.Among.{Among, found}
+use Rattle.sd_history.proofs.Clear.{clear}
 use Rattle.sd_history.proofs.Contained.{time_goes_on}
 use Rattle.sd_history.proofs.flights.Numbers.{numbered_there}
 use Rattle.sd_history.proofs.flights.Sending.{step_numbered}
@@ -142,11 +142,11 @@ names_later setting steps last spent are sent e admits n names = elim (cases_lt 
     by upto =
         let some : 1 ≤ n =
         unknown n (flight_count steps) (at (message_of e) (λ m. nat_eq m 0 || nat_lt (flight_count steps) m)
-        (rule_holds setting steps e _ admits (later (later (later (later first)))) refl) names) in
+        (clear setting steps e admits).message_known names) in
         let it = numbered_there setting steps n are (given upto some) in
         let rule : map_or (flight_numbered steps n) false (is_spent steps (reference_of e)) ≡ false =
         at (message_of e) (λ m. map_or (flight_numbered steps m) false (is_spent steps (reference_of e)))
-        (rule_holds setting steps e _ admits (later (later (later (later (later first))))) refl) names in
+        (clear setting steps e admits).message_open names in
         let yes_ : is_spent steps (reference_of e) it.0 ≡ true = spent_now it.0 (spent n it.0 upto it.1) in
         let no_ : is_spent steps (reference_of e) it.0 ≡ false = sym (ap (λ o. map_or o false (is_spent steps (reference_of e))) it.1) ∙ rule in
         differ (is_spent steps (reference_of e) it.0) yes_ no_

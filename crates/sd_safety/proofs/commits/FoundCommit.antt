@@ -1,4 +1,4 @@
--- The commit of the open window: the event, what came before it in the era, and that each other moment has it behind it in the era, or came no later.
+-- The commit of the open window: the event, what came before it in the era, and that each other moment is later in its era, or came no later.
 use Rattle.std.specs.Prelude.{◌≡◌, ℕ, ◌≤◌, Bool, true, false, List, [], ◌∷◌, refl, ◌⊎◌}
 use Rattle.std.proofs.Common.{arith, ◌∙◌, sym, inl, inr}
 use Rattle.sd_sched.specs.declared.Event.{Event}
@@ -27,7 +27,7 @@ pub record CommitOf (setting : Setting) (history : List Event) : Type 0 where
   pub at : commit_at (chronicle setting history) ≤ reference
   pub era_is : era (chronicle setting earlier) ≡ era (chronicle setting history)
   pub asks : AtCommit setting (chronicle setting earlier) device
-  -- a moment that came no later than the commit, or has it behind it in the era
+  -- a moment that came no later than the commit, or is later in its era
   pub place : (q : Moment) → IsIn q (chronicle setting history)
       → IsIn q (chronicle setting (event.Commit reference device counter ∷ earlier)) ⊎ (has_commit (seen_of q.earlier) ≡ true)
       × (era q.earlier ≡ era (chronicle setting history))

@@ -1,4 +1,4 @@
--- Moments later than the commit of the open window lie behind it in its window, and the commit came when it came.
+-- Moments later than the commit of the open window lie in its window after it, and the commit came when it came.
 use Rattle.std.specs.Prelude.{◌≡◌, ℕ, ◌<◌, ◌≤◌, Bool, true, false, List, [], ◌∷◌, Option, Some, None, option_map, refl, if◌then◌else◌}
 use Rattle.std.specs.List.{list_any}
 use Rattle.std.proofs.Common.{arith, sym, ◌∙◌, ap, subst}
@@ -36,7 +36,7 @@ commit_here : (s : Seen) (w : Option (List Seen)) → map_or (option_map (λ v. 
 commit_here s None has is = cc
 commit_here s (Some v) has is = ap (λ b. map_or (if b then Some (reference_of s.event) else None) (commit_time v) (λ told. told)) is
 
--- the moment has the commit behind it, in the same era
+-- the moment is later than the commit, in the same era
 pub record IsSince (steps : List Step) (q : Moment) : Type 0 where
   pub commit : has_commit (seen_of q.earlier) ≡ true
   pub same : era q.earlier ≡ era steps

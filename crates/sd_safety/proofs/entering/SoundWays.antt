@@ -33,7 +33,7 @@ pub nothing_touches : (things : List Thing) → touches [] things ≡ false
 nothing_touches [] = refl
 nothing_touches (x ∷ things) = nothing_touches things
 
--- at a moment with the commit behind it
+-- at a moment later than the commit
 module _ (setting : Setting) (history : List Event) (q : Moment) (k : Known setting (chronicle setting history) q) where
   pub fails_at : (x : Thing) → fails x q.step.seen.event ≡ false
   fails_at x = subst (λ (p : Moment). fails x p.step.seen.event ≡ false) (sym k.is) (states.fails_not setting k.h k.e k.comes k.commit x)

@@ -1,4 +1,4 @@
--- Each moment of a history that comes with the invariant comes so itself; and after a commit it has that commit behind it.
+-- Each moment of a history that comes with the invariant comes so itself; and after a commit it is later than that commit.
 use Rattle.std.specs.Prelude.{◌≡◌, ℕ, ◌<◌, true, List, [], ◌∷◌, refl}
 use Rattle.std.proofs.Common.{arith, subst}
 use Rattle.sd_sched.specs.declared.Event.{Event}

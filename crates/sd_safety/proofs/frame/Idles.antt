@@ -24,8 +24,7 @@ use Rattle.sd_history.specs.World.{Setting, makes, fails, is_up, has_commit, sta
 use Rattle.sd_history.specs.Steps.{Calls, Answers, tells_nothing, tells_called, Step, seen_of, act_by, flights_of, flights_by, flights_to, flight_count, flights}
 use Rattle.sd_history.specs.Chronicle.{answers_by, past_in, told_by, chronicle, next_step}
 use Rattle.sd_history.specs.Refusals.{not_started}
-use Rattle.sd_history.proofs.Among.{first, later}
-use Rattle.sd_history.proofs.Admitted.{rule_holds}
+use Rattle.sd_history.proofs.Clear.{clear}
 use Rattle.sd_safety.specs.invariant.Eras.{era, is_new, did_by, does, hears, heard_at}
 use Rattle.sd_safety.specs.invariant.Clauses.{none_sent_ahead, shadow_is_short}
 use Rattle.sd_safety.specs.invariant.Invariant.{Core}
@@ -181,7 +180,7 @@ pub caller_is_up : (setting : Setting) (history : List Event) (e : Event) (d : �
 caller_is_up setting history e d none plain named =
     let steps = chronicle setting history in
     let started_ : not_started (seen_of steps) e ≡ false =
-    rule_holds setting steps e _ none (later (later (later (later (later (later (later (later (later first))))))))) refl in
+    (clear setting steps e none).device_up in
     from_not (is_up (seen_of steps) d)
     (sym (ap (λ (o : Option ℕ). map_or o false (λ x. not (is_up (seen_of steps) x))) named)
     ∙ sym (ap (λ b. not b && map_or (device_of e) false (λ x. not (is_up (seen_of steps) x))) plain) ∙ started_)

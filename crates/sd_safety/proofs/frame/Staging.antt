@@ -11,8 +11,7 @@ use Rattle.sd_history.specs.World.{Setting, Seen, window, window_is_open, has_co
 use Rattle.sd_history.specs.Steps.{Step, seen_of}
 use Rattle.sd_history.specs.Chronicle.{chronicle, next_step}
 use Rattle.sd_history.specs.Refusals.{window_order, window_order_seen}
-use Rattle.sd_history.proofs.Among.{first, later}
-use Rattle.sd_history.proofs.Admitted.{rule_holds}
+use Rattle.sd_history.proofs.Clear.{clear}
 use Rattle.sd_safety.specs.invariant.Eras.{is_new}
 use Rattle.sd_safety.specs.invariant.Invariant.{Core}
 use Rattle.sd_safety.specs.invariant.Coming.{IsNextEvent}
@@ -51,8 +50,7 @@ module _ {setting : Setting} (r : ℕ) (history : List Event) (comes : IsNextEve
   shut : window (seen_of (chronicle setting history)) ≡ None
   shut =
       let order : window_order setting one e ≡ false =
-      rule_holds setting one e _ comes.clean.is.1
-      (later (later (later (later (later (later (later (later (later (later (later (later first)))))))))))) refl in
+      (clear setting one e comes.clean.is.1).in_window in
       no_window (window (seen_of one)) (by (window_is_open (seen_of one)) (or_parts (window_order_seen setting (seen_of one) e) _ order).0)
     where
       by : (b : Bool) → (((b || false) || false) || false) ≡ false → b ≡ false

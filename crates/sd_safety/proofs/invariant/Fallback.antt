@@ -27,8 +27,8 @@ use Rattle.sd_history.specs.Chronicle.{next_step, chronicle}
 use Rattle.sd_history.specs.Admitted.{IsAdmitted}
 use Rattle.sd_history.specs.Refusals.{unknown_device, unknown_link}
 use Rattle.sd_history.specs.Premises.{failures_since_closing}
-use Rattle.sd_history.proofs.Among.{first, later, passes}
-use Rattle.sd_history.proofs.Admitted.{rule_holds}
+use Rattle.sd_history.proofs.Among.{passes}
+use Rattle.sd_history.proofs.Clear.{clear}
 use Rattle.sd_history.proofs.Shared.{each_among}
 use Rattle.sd_safety.specs.invariant.Eras.{plan_now, failed_now, is_among, device_failed_now, link_failed_now, path_hit}
 use Rattle.sd_safety.specs.invariant.Clauses.{backup_root_moved, move_is_caused, fallback_device_is_sound, fallback_link_is_sound}
@@ -71,7 +71,7 @@ failed_are_known setting (e ∷ history) is =
     let steps = chronicle setting history in
     let s = (next_step setting steps e).seen in
     known_when (is_known setting.net) s (seen_of steps) (not s.closed)
-    (all_known setting e (rule_holds setting steps e _ is.1 first refl) (rule_holds setting steps e _ is.1 (later first) refl))
+    (all_known setting e (clear setting steps e is.1).device_known (clear setting steps e is.1).link_known)
     (failed_are_known setting history is.0)
 
 pub known : (net : Network) (failed : List Thing) (x : Thing) → list_all (is_known net) failed ≡ true → is_among failed x ≡ true → is_known net x ≡ true

@@ -14,8 +14,7 @@ use Rattle.sd_history.specs.Steps.{Step, seen_of}
 use Rattle.sd_history.specs.Chronicle.{next_step, chronicle}
 use Rattle.sd_history.specs.Admitted.{IsAdmitted}
 use Rattle.sd_history.specs.Refusals.{no_plan_left}
-use Rattle.sd_history.proofs.Among.{first, later}
-use Rattle.sd_history.proofs.Admitted.{rule_holds}
+use Rattle.sd_history.proofs.Clear.{clear}
 use Rattle.sd_safety.specs.invariant.Eras.{era, plan_now}
 
 -- there are as many plans as the era's number, and one more while a window is open
@@ -55,7 +54,7 @@ has_plans setting (e ∷ earlier) some is =
     let before : HasPlans setting (seen_of steps) = has_plans setting earlier some is.0 in
     let s : Step = next_step setting steps e in
     let left : no_plan_left setting (seen_of steps) e ≡ false =
-    rule_holds setting steps e _ is.1 (later (later (later (later (later (later (later (later (later (later (later first))))))))))) refl in
+    (clear setting steps e is.1).plan_left in
     let both =
     plans_after s.seen.closed (is_stage e) s.seen (window (seen_of steps)) (count_by (λ x. x.closed) (seen_of steps))
     (length setting.plans) before.now before.next

@@ -14,8 +14,8 @@ use Rattle.sd_history.specs.Chronicle.{next_step, chronicle}
 use Rattle.sd_history.specs.Admitted.{IsAdmitted}
 use Rattle.sd_history.specs.Refusals.{past_preparing, window_order_seen, window_order}
 use Rattle.sd_history.specs.Premises.{renew_holds, commits_orderly, seals_orderly, fails_orderly, begins_orderly, has_mend}
-use Rattle.sd_history.proofs.Among.{first, later}
-use Rattle.sd_history.proofs.Admitted.{rule_holds}
+use Rattle.sd_history.proofs.Among.{first}
+use Rattle.sd_history.proofs.Clear.{clear}
 use Rattle.sd_safety.specs.invariant.Eras.{none_after}
 use Rattle.sd_safety.specs.invariant.Clauses.{is_failure, is_mend, is_start, is_join, none_started_late, none_fails_after_mend, rests_after_commit, none_sealed_early}
 use Rattle.sd_safety.specs.invariant.Invariant.{IsInOrder}
@@ -63,7 +63,7 @@ pub orderly : (setting : Setting) (e : Event) (history : List Event) → IsAdmit
 orderly setting e history is =
     let steps = chronicle setting history in
     let order : window_order setting steps e ≡ false =
-    rule_holds setting steps e _ is.1 (later (later (later (later (later (later (later (later (later (later (later (later first)))))))))))) refl in
+    (clear setting steps e is.1).in_window in
     let outside : window_order_seen setting (seen_of steps) e ≡ false = (or_parts (window_order_seen setting (seen_of steps) e) _ order).0 in
     let last = or_parts _ (is_seal e && (not (window_is_open (seen_of steps)) || not (has_commit (seen_of steps)))) outside in
     let front = or_parts _ _ last.0 in

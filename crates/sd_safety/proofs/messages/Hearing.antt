@@ -15,8 +15,7 @@ use Rattle.sd_history.specs.World.{Setting, is_up, makes, fails}
 use Rattle.sd_history.specs.Steps.{Calls, Step, seen_of}
 use Rattle.sd_history.specs.Refusals.{not_started}
 use Rattle.sd_history.specs.Chronicle.{past_in, past_after}
-use Rattle.sd_history.proofs.Among.{first, later}
-use Rattle.sd_history.proofs.Admitted.{rule_holds}
+use Rattle.sd_history.proofs.Clear.{clear}
 use Rattle.sd_history.proofs.Known.{has_some, kept_past, makes_past, up_by}
 use Rattle.sd_safety.specs.messages.Moments.{IsChronicle, Moment, upto}
 use Rattle.sd_safety.specs.messages.Rounds.{Takes, Hears}
@@ -141,7 +140,7 @@ receiver_is_up setting p d l m c is act =
     let t : Taken p d l m c = taken_flight setting p d l m c is act in
     not-false (is_up (seen_of p.earlier) d)
     (subst (λ e. not_started (seen_of p.earlier) e ≡ false) t.event_is
-    (rule_holds setting p.earlier p.step.seen.event _ is.2 (later (later (later (later (later (later (later (later (later first))))))))) refl))
+    (clear setting p.earlier p.step.seen.event is.2).device_up)
 
 pub receiver_past : (setting : Setting) (p : Moment) (d l : ℕ) (m : Message) (c : ℕ) → IsChronicle setting (upto p) → p.step.act ≡ Calls d (Receive l m c)
     → (past : Past) × (past_in p.earlier d ≡ Some past)

@@ -23,7 +23,7 @@ use Rattle.sd_history.specs.Refusals.{since_sending, was_swept, was_used, is_spe
 use Rattle.sd_history.specs.Chronicle.{past_in}
 use Rattle.sd_history.specs.Premises.{delay_holds, is_in_time}
 use Rattle.sd_history.proofs.Among.{Among, first, later}
-use Rattle.sd_history.proofs.Admitted.{rule_holds}
+use Rattle.sd_history.proofs.Clear.{clear}
 use Rattle.sd_history.proofs.Given.{some_is}
 use Rattle.sd_history.proofs.flights.Sending.{IsOver}
 use Rattle.sd_safety.specs.messages.Moments.{IsChronicle, Moment, upto, when, IsIn, IsBefore, Sends, Receipt}
@@ -138,9 +138,9 @@ taken_flight setting p d l m c is act =
       receivable =
           receivable_by p.earlier g.reference d (flight_numbered p.earlier g.number) g.flight g.found
           (subst (λ e. spent_message p.earlier e ≡ false) g.event_is
-          (rule_holds setting p.earlier p.step.seen.event _ is.2 (later (later (later (later (later first))))) refl))
+          (clear setting p.earlier p.step.seen.event is.2).message_open)
           (subst (λ e. wrong_device p.earlier e ≡ false) g.event_is
-          (rule_holds setting p.earlier p.step.seen.event _ is.2 (later (later (later (later (later (later first)))))) refl));
+          (clear setting p.earlier p.step.seen.event is.2).right_device);
       link = g.link;
       message = g.message;
       event_is = g.event_is ∙ ap (λ r. event.Recv r d c g.number) (sym (ap reference_of g.event_is));

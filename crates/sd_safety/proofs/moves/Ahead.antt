@@ -24,9 +24,9 @@ use Rattle.sd_history.specs.World.{Setting, Seen, makes, fails, is_up, window, w
 use Rattle.sd_history.specs.Steps.{Act, Makes, Calls, Asks, Passes, Answers, Step, seen_of, act_by, changed, flight_numbered, answers_in, live_answers, epoch_in, has_settled, first_step, activated_by, can_close}
 use Rattle.sd_history.specs.Refusals.{window_order, window_order_seen, window_order_within}
 use Rattle.sd_history.specs.Chronicle.{new_past, past_in, past_after, answers_by, told_by, chronicle}
-use Rattle.sd_history.proofs.Among.{Among, first, later, passes}
+use Rattle.sd_history.proofs.Among.{Among, passes}
 use Rattle.sd_history.proofs.Filters.{filter_in}
-use Rattle.sd_history.proofs.Admitted.{rule_holds}
+use Rattle.sd_history.proofs.Clear.{clear}
 use Rattle.sd_history.proofs.Bridges.{answers_by_words}
 use Rattle.sd_safety.specs.invariant.Eras.{era, is_new}
 use Rattle.sd_safety.specs.invariant.Invariant.{Core, Invariant, AtEach}
@@ -175,8 +175,7 @@ module _ (setting : Setting) (e : Event) (history : List Event) (comes : IsNextE
   no_second_stage : (is_stage e && window_is_open (seen_of steps)) ≡ false
   no_second_stage =
       let order : window_order setting steps e ≡ false =
-      rule_holds setting steps e _ comes.clean.is.1
-      (later (later (later (later (later (later (later (later (later (later (later (later first)))))))))))) refl in
+      (clear setting steps e comes.clean.is.1).in_window in
       let outside : window_order_seen setting (seen_of steps) e ≡ false =
       (or_parts (window_order_seen setting (seen_of steps) e) (window_order_within steps e) order).0 in
       (or_parts (is_stage e && window_is_open (seen_of steps)) _
@@ -203,8 +202,7 @@ module _ (setting : Setting) (e : Event) (history : List Event) (comes : IsNextE
           let of_staged : is_staged_member setting (seen_of steps) m ≡ true =
           given_member (map_or (started e) false (λ d. not (is_member (in_force setting (seen_of steps)) d)))
           (map_or (joined e) false (λ d. not (is_staged_member setting (seen_of steps) d))) (given e) m (is_staged_member setting (seen_of steps)) gives.1
-          (rule_holds setting steps e _ comes.clean.is.1
-          (later (later (later (later (later (later (later (later (later (later (later (later (later (later (later first))))))))))))))) refl) in
+          (clear setting steps e comes.clean.is.1).is_member in
           let early : has_commit (seen_of steps) ≡ false =
           before_commit (given e) m (is_some (joined e)) (is_some (mended e)) (is_commit e) (window_is_open (seen_of steps))
           (has_commit (seen_of steps)) gives.1 (orderly setting e history comes.clean.is).prepares in

@@ -18,8 +18,8 @@ use Rattle.sd_history.specs.World.{Setting, is_untouched, plan_numbered, is_up, 
 use Rattle.sd_history.specs.Steps.{seen_of, live_answers, answers_in, epoch_in, acts_in}
 use Rattle.sd_history.specs.Chronicle.{past_in, chronicle, next_step, answers_by}
 use Rattle.sd_history.specs.Premises.{latest_tick, tick_holds, first_reference, is_current_member, ticks_in_time}
-use Rattle.sd_history.proofs.Among.{first, later, passes}
-use Rattle.sd_history.proofs.Admitted.{rule_holds}
+use Rattle.sd_history.proofs.Among.{passes}
+use Rattle.sd_history.proofs.Clear.{clear}
 use Rattle.sd_history.proofs.Bridges.{answers_by_words}
 use Rattle.sd_safety.specs.invariant.Guarded.{IsGuarded}
 use Rattle.sd_safety.specs.invariant.Bounds.{tick_gap, delay}
@@ -93,8 +93,7 @@ module _ (setting : Setting) (r d c : ℕ) (history : List Event) (comes : IsNex
   -- the device is up
   pub live : is_up (seen_of (chronicle setting history)) d ≡ true
   live = up_by (is_up (seen_of (chronicle setting history)) d)
-      (rule_holds setting (chronicle setting history) (event.Tick r d c) _ comes.clean.is.1
-      (later (later (later (later (later (later (later (later (later first))))))))) refl)
+      (clear setting (chronicle setting history) (event.Tick r d c) comes.clean.is.1).device_up
     where
       up_by : (b : Bool) → (true && not b) ≡ false → b ≡ true
       up_by true none = refl

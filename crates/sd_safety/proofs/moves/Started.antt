@@ -21,8 +21,8 @@ use Rattle.sd_history.specs.World.{Setting, Seen, is_up, has_failed, was_made, h
 use Rattle.sd_history.specs.Steps.{Makes, Answers, tells_made, Step, seen_of, act_by, answers_in, live_answers, epoch_in, acts_in, flights, first_step, activated_by, acted_by}
 use Rattle.sd_history.specs.Chronicle.{new_past, answers_by, told_by, chronicle, next_step}
 use Rattle.sd_history.specs.Premises.{ticks_in_time, tick_holds, first_reference}
-use Rattle.sd_history.proofs.Among.{first, later, all_pass}
-use Rattle.sd_history.proofs.Admitted.{rule_holds}
+use Rattle.sd_history.proofs.Among.{all_pass}
+use Rattle.sd_history.proofs.Clear.{clear}
 use Rattle.sd_safety.specs.invariant.Bounds.{depth, delay, tick_gap}
 use Rattle.sd_safety.specs.invariant.Eras.{era, plan_now, device_failed_now, is_old, is_new, is_blank, is_past, moved, heard_at, is_ordinary, root_lives, root_failed, hit, beginning, belongs}
 use Rattle.sd_safety.specs.invariant.Clauses.{is_beginning, nothing_emitted, stays, member_follows, returned_is_joined, outsider_is_past, counted_is_current, blank_is_idle, root_acts, failed_root_is_not_old, ordinary_follows, backup_is_caused, move_is_caused, takeover_is_caused, path_stays, above_backup_root, backup_root_stays, shadow_is_short, none_sent_ahead, staged_root, left_out_is_hit}
@@ -152,8 +152,7 @@ module _ (setting : Setting) (r d c clock eps : ℕ) (history : List Event) (com
   member : is_member plan d ≡ true
   member = by (is_member plan d)
       (or_parts (not (is_member plan d) || false) false
-      (rule_holds setting (chronicle setting history) (event.Start r d c clock eps) _ comes.clean.is.1
-      (later (later (later (later (later (later (later (later (later (later (later (later (later (later (later first))))))))))))))) refl)).0
+      (clear setting (chronicle setting history) (event.Start r d c clock eps) comes.clean.is.1).is_member).0
     where
       by : (b : Bool) → (not b || false) ≡ false → b ≡ true
       by true h = refl
@@ -161,11 +160,10 @@ module _ (setting : Setting) (r d c clock eps : ℕ) (history : List Event) (com
 
   pub unmade : was_made (seen_of (chronicle setting history)) d ≡ false
   unmade = (or_parts (was_made (seen_of (chronicle setting history)) d) false
-      (rule_holds setting (chronicle setting history) (event.Start r d c clock eps) _ comes.clean.is.1
-      (later (later (later (later (later (later (later (later (later (later first)))))))))) refl)).0
+      (clear setting (chronicle setting history) (event.Start r d c clock eps) comes.clean.is.1).started_once).0
 
   sound : has_failed (seen_of (chronicle setting history)) (thing.Device d) ≡ false
-  sound = rule_holds setting (chronicle setting history) (event.Start r d c clock eps) _ comes.clean.is.1 (later (later first)) refl
+  sound = (clear setting (chronicle setting history) (event.Start r d c clock eps) comes.clean.is.1).device_works
 
   known : d < length setting.net.devices
   known = admitted_named_is_known setting (chronicle setting history) (event.Start r d c clock eps) d comes.clean.is.1 refl

@@ -19,8 +19,7 @@ use Rattle.sd_sched.specs.Events.{started, joined, is_stage}
 use Rattle.sd_history.specs.World.{Setting, is_up, was_made, has_ever_failed, is_untouched, joined_in_window, staged_epoch}
 use Rattle.sd_history.specs.Steps.{Answers, Step, seen_of, live_answers, parent_in, acts_in, epoch_in}
 use Rattle.sd_history.specs.Chronicle.{answers_by, new_past, past_in, chronicle}
-use Rattle.sd_history.proofs.Among.{first, later}
-use Rattle.sd_history.proofs.Admitted.{rule_holds}
+use Rattle.sd_history.proofs.Clear.{clear}
 use Rattle.sd_history.proofs.Known.{admitted_named_is_known}
 use Rattle.sd_safety.specs.invariant.Eras.{era, plan_now, device_failed_now, failed_now, is_among, live_past, is_old, is_new, is_blank, is_past, belongs, root_failed, root_lives}
 use Rattle.sd_safety.specs.invariant.Clauses.{is_beginning, backup_root_acts}
@@ -102,7 +101,7 @@ module _ {setting : Setting} (r d c clock eps : ℕ) (history : List Event) (com
 
   twice : (is_up (seen_of (chronicle setting history)) d
       && (is_member (plan_now setting (chronicle setting history)) d || joined_in_window (seen_of (chronicle setting history)) d)) ≡ false
-  twice = rule_holds setting one e _ comes.clean.is.1 (later (later (later (later (later (later (later (later (later (later first)))))))))) refl
+  twice = (clear setting one e comes.clean.is.1).started_once
 
   member_down : is_member (plan_now setting (chronicle setting history)) d ≡ true → is_up (seen_of (chronicle setting history)) d ≡ false
   member_down member = not_member_up (is_up (seen_of one) d) (is_member (plan_now setting one) d) (joined_in_window (seen_of one) d) twice member

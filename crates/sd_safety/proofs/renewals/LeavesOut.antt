@@ -29,8 +29,8 @@ use Rattle.sd_history.specs.World.{Setting, Seen, is_up, was_made, has_ever_fail
 use Rattle.sd_history.specs.Steps.{Step, seen_of}
 use Rattle.sd_history.specs.Chronicle.{chronicle, next_step}
 use Rattle.sd_history.specs.Admitted.{IsAdmitted}
-use Rattle.sd_history.proofs.Among.{first, later, all_pass, passes, any_passing}
-use Rattle.sd_history.proofs.Admitted.{rule_holds}
+use Rattle.sd_history.proofs.Among.{all_pass, passes, any_passing}
+use Rattle.sd_history.proofs.Clear.{clear}
 use Rattle.sd_history.proofs.Known.{admitted_up_is_known}
 use Rattle.sd_history.proofs.Shared.{among_below}
 use Rattle.sd_safety.specs.invariant.Eras.{era, plan_now, failed_now, device_failed_now, link_failed_now, is_among, touches, belongs, is_ordinary, hit, path_hit, root_failed}
@@ -76,8 +76,7 @@ joined_is_staged setting (e ∷ history) is x joined_ = by s.seen.closed refl (i
     refused : map_or (joined e) false (λ d. not (is_staged_member setting (seen_of (chronicle setting history)) d)) ≡ false
     refused =
         (or_parts _ (map_or (joined e) false (λ d. not (is_staged_member setting (seen_of (chronicle setting history)) d)))
-        (rule_holds setting (chronicle setting history) e _ is.1
-        (later (later (later (later (later (later (later (later (later (later (later (later (later (later (later first))))))))))))))) refl)).1
+        (clear setting (chronicle setting history) e is.1).is_member).1
 
     by : (c : Bool) → (next_step setting (chronicle setting history) e).seen.closed ≡ c → (st : Bool) → is_stage e ≡ st
         → map_or (if c then None else if st then Some [] else option_map (λ w. (next_step setting (chronicle setting history) e).seen ∷ w)

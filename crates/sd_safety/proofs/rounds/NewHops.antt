@@ -1,4 +1,4 @@
--- From a moment on that has a commit behind it, a primary hop of the staged plan is open to a round of that plan.
+-- From a moment on that is later than a commit, a primary hop of the staged plan is open to a round of that plan.
 use Rattle.std.specs.Prelude.{◌≡◌, ℕ, ◌+◌, ◌<◌, ◌≤◌, true, false, List, [], ◌∷◌, length, refl, ◌⊎◌}
 use Rattle.std.proofs.Common.{arith, sym, ap, subst, inr}
 use Rattle.std.proofs.lemmas.Bool.{eqb-true, eq-eqb}

@@ -20,8 +20,8 @@ use Rattle.sd_history.specs.World.{Setting, Seen, makes, fails, is_up, plan_numb
 use Rattle.sd_history.specs.Steps.{Calls, Step, seen_of, acts_in, epoch_in}
 use Rattle.sd_history.specs.Chronicle.{past_in, chronicle, next_step}
 use Rattle.sd_history.specs.Refusals.{window_order, window_order_seen, window_order_within, not_started}
-use Rattle.sd_history.proofs.Among.{first, later}
-use Rattle.sd_history.proofs.Admitted.{rule_holds}
+use Rattle.sd_history.proofs.Among.{later}
+use Rattle.sd_history.proofs.Clear.{clear}
 use Rattle.sd_history.proofs.Given.{some_is}
 use Rattle.sd_safety.specs.invariant.Eras.{era, plan_now, is_old, is_new, is_ordinary, root_failed, all_started}
 use Rattle.sd_safety.specs.invariant.Clauses.{backup_root_acts}
@@ -57,7 +57,7 @@ use Rattle.sd_safety.proofs.timers.Emissions.{timed_tail}
 stage_not : (setting : Setting) (steps : List Step) (e : Event) → Admits setting steps e → (is_stage e && window_is_open (seen_of steps)) ≡ false
 stage_not setting steps e none =
     let order : window_order setting steps e ≡ false =
-    rule_holds setting steps e _ none (later (later (later (later (later (later (later (later (later (later (later (later first)))))))))))) refl in
+    (clear setting steps e none).in_window in
     let seen = (or_parts (window_order_seen setting (seen_of steps) e) (window_order_within steps e) order).0 in
     (or_parts (is_stage e && window_is_open (seen_of steps)) _ (or_parts _ _ (or_parts _ _ seen).0).0).0
 
@@ -100,7 +100,7 @@ emitter_up setting p y m is timed_ emits =
     true_from_ne_false (is_up (seen_of p.earlier) y)
     (λ down. not_both (not (is_up (seen_of p.earlier) y)) (ap not down)
     (subst (λ e. not_started (seen_of p.earlier) e ≡ false) tick.1
-    (rule_holds setting p.earlier p.step.seen.event _ is.2 (later (later (later (later (later (later (later (later (later first))))))))) refl))) in
+    (clear setting p.earlier p.step.seen.event is.2).device_up)) in
     up_stays_by (makes y p.step.seen.event) (fails (thing.Device y) p.step.seen.event) (is_up (seen_of p.earlier) y)
     (sending_fails_not setting p y m (thing.Device y) is s) up
 

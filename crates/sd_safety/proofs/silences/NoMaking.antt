@@ -11,8 +11,7 @@ use Rattle.sd_sched.specs.Events.{started, joined}
 use Rattle.sd_history.specs.World.{Setting, makes, is_up, was_made, in_force, joined_in_window}
 use Rattle.sd_history.specs.Steps.{Act, Makes, Step, seen_of}
 use Rattle.sd_history.specs.Refusals.{started_twice}
-use Rattle.sd_history.proofs.Among.{first, later}
-use Rattle.sd_history.proofs.Admitted.{rule_holds}
+use Rattle.sd_history.proofs.Clear.{clear}
 use Rattle.sd_history.proofs.Shared.{up_made}
 use Rattle.sd_safety.proofs.invariant.Sides.{not_both}
 use Rattle.sd_safety.specs.messages.Stamping.{remakes}
@@ -27,7 +26,7 @@ pub not_made : (setting : Setting) (steps : List Step) (e : Event) (d : ℕ) →
     → is_member (in_force setting (seen_of steps)) d ≡ true → makes d e ≡ false
 not_made setting steps e d none up member =
     let once : started_twice setting (seen_of steps) e ≡ false =
-    rule_holds setting steps e _ none (later (later (later (later (later (later (later (later (later (later first)))))))))) refl in
+    (clear setting steps e none).started_once in
     let parts = or_parts (map_or (started e) false (was_made (seen_of steps))) _ once in
     or_from (same_number (started e) d) (same_number (joined e) d)
     (named_by (started e) d (was_made (seen_of steps)) parts.0 (up_made (seen_of steps) d up))

@@ -29,7 +29,7 @@ use Rattle.sd_history.specs.Chronicle.{past_in, chronicle, next_step}
 use Rattle.sd_history.specs.Admitted.{IsAdmitted}
 use Rattle.sd_history.specs.Premises.{first_reference, ticks_in_time}
 use Rattle.sd_history.proofs.Among.{Among, first, later, passes}
-use Rattle.sd_history.proofs.Admitted.{rule_holds}
+use Rattle.sd_history.proofs.Clear.{clear}
 use Rattle.sd_history.proofs.Given.{some_is}
 use Rattle.sd_history.proofs.Shared.{among_below, epoch_kept}
 use Rattle.sd_safety.specs.invariant.Eras.{era, beginning}
@@ -92,7 +92,7 @@ staged_within setting (e ∷ earlier) is opened =
     let steps : List Step = chronicle setting earlier in
     let s : Seen = (next_step setting steps e).seen in
     let some_left : no_plan_left setting (seen_of steps) e ≡ false =
-    rule_holds setting steps e _ is.1 (later (later (later (later (later (later (later (later (later (later (later first))))))))))) refl in
+    (clear setting steps e is.1).plan_left in
     by s.closed (is_stage e) (window (seen_of steps)) refl refl refl some_left (staged_within setting earlier is.0) opened
   where
     s : Seen

@@ -12,8 +12,7 @@ use Rattle.sd_history.specs.Steps.{Step, seen_of, given_in}
 use Rattle.sd_history.specs.Chronicle.{chronicle}
 use Rattle.sd_history.specs.Admitted.{IsAdmitted}
 use Rattle.sd_history.specs.Refusals.{window_order_seen, window_order_within, window_order}
-use Rattle.sd_history.proofs.Among.{first, later}
-use Rattle.sd_history.proofs.Admitted.{rule_holds}
+use Rattle.sd_history.proofs.Clear.{clear}
 use Rattle.sd_safety.specs.invariant.Eras.{era, plan_now}
 use Rattle.sd_safety.proofs.invariant.Orders.{orderly}
 
@@ -43,7 +42,7 @@ pub stages_shut : (setting : Setting) (e : Event) (history : List Event) → IsA
 stages_shut setting e history is =
     let steps = chronicle setting history in
     let order : window_order setting steps e ≡ false =
-    rule_holds setting steps e _ is.1 (later (later (later (later (later (later (later (later (later (later (later (later first)))))))))))) refl in
+    (clear setting steps e is.1).in_window in
     let outside : window_order_seen setting (seen_of steps) e ≡ false = (or_parts (window_order_seen setting (seen_of steps) e) _ order).0 in
     let last = or_parts _ (is_seal e && (not (window_is_open (seen_of steps)) || not (has_commit (seen_of steps)))) outside in
     let front = or_parts _ _ last.0 in
@@ -62,7 +61,7 @@ committing setting r d c history is =
     let steps : List Step = chronicle setting history in
     let e : Event = event.Commit r d c in
     let order : window_order setting steps e ≡ false =
-    rule_holds setting steps e _ is.1 (later (later (later (later (later (later (later (later (later (later (later (later first)))))))))))) refl in
+    (clear setting steps e is.1).in_window in
     let outside = or_parts (window_order_seen setting (seen_of steps) e) (window_order_within steps e) order in
     let last = or_parts _ (is_seal e && (not (window_is_open (seen_of steps)) || not (has_commit (seen_of steps)))) outside.0 in
     let front = or_parts _ (is_commit e && map_or (device_of e) false (λ x. not (map_or (staged setting (seen_of steps)) false (λ plan. nat_eq plan.root x))))

@@ -17,8 +17,8 @@ use Rattle.sd_history.specs.Chronicle.{next_step, chronicle}
 use Rattle.sd_history.specs.Admitted.{IsAdmitted}
 use Rattle.sd_history.specs.Refusals.{unknown_link}
 use Rattle.sd_history.specs.Premises.{has_mend}
-use Rattle.sd_history.proofs.Among.{first, later, passes}
-use Rattle.sd_history.proofs.Admitted.{rule_holds}
+use Rattle.sd_history.proofs.Among.{passes}
+use Rattle.sd_history.proofs.Clear.{clear}
 use Rattle.sd_history.proofs.Shared.{among_below}
 use Rattle.sd_safety.specs.invariant.Guarded.{AreGuarded, IsSteady}
 use Rattle.sd_safety.proofs.invariant.Orders.{renews}
@@ -44,7 +44,7 @@ failed_link_known setting (e ∷ history) l is failed =
     go : (f : Bool) → fails (thing.Link l) e ≡ f → (m : Bool) → (link_has_failed (seen_of (chronicle setting history)) l ≡ true → l < length setting.net.links)
         → map_or (if f then Some true else if m then Some false else None) (link_has_failed (seen_of (chronicle setting history)) l) (λ told. told) ≡ true
         → l < length setting.net.links
-    go true here m rest failed' = fails_known setting e l (rule_holds setting (chronicle setting history) e _ is.1 (later first) refl) here
+    go true here m rest failed' = fails_known setting e l (clear setting (chronicle setting history) e is.1).link_known here
     go false here true rest failed' = cc
     go false here false rest failed' = rest failed'
 

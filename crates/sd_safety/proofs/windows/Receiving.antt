@@ -17,8 +17,8 @@ use Rattle.sd_sched.specs.declared.Event.TheVariants as event
 use Rattle.sd_history.specs.World.{Setting, is_up, has_commit, staged_epoch, plan_numbered}
 use Rattle.sd_history.specs.Steps.{Calls, Passes, Step, seen_of, changed, act_by, flights, flight_numbered, epoch_in}
 use Rattle.sd_history.specs.Chronicle.{past_in, past_after, next_step, chronicle}
-use Rattle.sd_history.proofs.Among.{first, later, found}
-use Rattle.sd_history.proofs.Admitted.{rule_holds}
+use Rattle.sd_history.proofs.Among.{found}
+use Rattle.sd_history.proofs.Clear.{clear}
 use Rattle.sd_history.proofs.Given.{some_is, takes_given}
 use Rattle.sd_safety.specs.messages.Moments.{Accepts, entering, following}
 use Rattle.sd_safety.proofs.messages.Tails.{history_chronicle}
@@ -144,7 +144,7 @@ module _ (setting : Setting) (r d c n : ℕ) (history : List Event) (fair : AreG
       receiver_is : f.receiver ≡ d
       receiver_is =
           by (flight_numbered (chronicle setting history) n) is
-          (rule_holds setting (chronicle setting history) (event.Recv r d c n) _ clean.is.1 (later (later (later (later (later (later first)))))) refl)
+          (clear setting (chronicle setting history) (event.Recv r d c n) clean.is.1).right_device
         where
           by : (o : Option Flight) → o ≡ Some f → map_or o false (λ g. not (same_number (Some d) g.receiver)) ≡ false → f.receiver ≡ d
           by None same right = cc

@@ -21,8 +21,8 @@ use Rattle.sd_history.specs.World.{Setting, is_thing, up_after, is_up, has_commi
 use Rattle.sd_history.specs.Steps.{Act, Makes, Calls, Asks, Passes, Step, seen_of, act_by, flights, flight_numbered}
 use Rattle.sd_history.specs.Chronicle.{answers_by, past_in, past_after, next_step, chronicle}
 use Rattle.sd_history.specs.Refusals.{not_started}
-use Rattle.sd_history.proofs.Among.{Among, first, later, either_side}
-use Rattle.sd_history.proofs.Admitted.{rule_holds}
+use Rattle.sd_history.proofs.Among.{Among, either_side}
+use Rattle.sd_history.proofs.Clear.{clear}
 use Rattle.sd_history.proofs.Given.{takes_given}
 use Rattle.sd_safety.proofs.messages.Sending.{sends_own}
 use Rattle.sd_safety.proofs.messages.Flights.{IsSentBy, sent_by}
@@ -157,7 +157,7 @@ module _ (setting : Setting) (steps : List Step) (d : ℕ) (call : Call) where
 
   pub called_is_up : (e : Event) → Admits setting steps e → act_by setting steps e ≡ Calls d call → IsCalled steps e d
   called_is_up e none same =
-      go e (rule_holds setting steps e _ none (later (later (later (later (later (later (later (later (later first))))))))) refl) same
+      go e (clear setting steps e none).device_up same
     where
       go : (x : Event) → not_started (seen_of steps) x ≡ false → act_by setting steps x ≡ Calls d call → IsCalled steps x d
       go (event.Tick r v c) started_ is = by_name (event.Tick r v c) v (device_is is) refl started_
