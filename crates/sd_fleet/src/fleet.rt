@@ -23,8 +23,8 @@ ghost use Rattle.sd_fleet.specs.Keeping.{outcome_keeping};
 ghost use Rattle.sd_fleet.specs.Calling.{IsLimited};
 ghost use Rattle.sd_fleet.specs.Bounds.{AreNodes, context_of};
 
-use crate::quick_calls::{emit_at, hear_at, keeps_at_messages, keeps_at_ticks};
 use crate::nodes::{CallContext, ask_at, call_at, place, rests_at};
+use crate::quick_calls::{emit_at, hear_at, keeps_at_messages, keeps_at_ticks};
 use crate::{ApplyFault, Call, Fabric, Outcome, Reply, Sent};
 use sd_device::Node;
 use sd_device::msg::{Flight, TakeFault};

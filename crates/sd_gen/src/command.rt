@@ -15,8 +15,8 @@ mod plans;
 mod tally;
 
 use crate::fabric_topology;
-use plans::greedy_plans;
 use case_run::replay_case;
+use plans::greedy_plans;
 use sd_files::{Answer, CommandError, Status};
 use sd_plan::topo::Topology;
 use std::alloc::Global;

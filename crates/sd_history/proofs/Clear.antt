@@ -32,23 +32,23 @@ pub record IsClear (setting : Setting) (steps : List Step) (e : Event) : Type 0 
 -- here alone a cause is named by its place
 pub clear : (setting : Setting) (steps : List Step) (e : Event) → Admits setting steps e → IsClear setting steps e
 clear setting steps e admits = record {
-    device_known = rule_holds setting steps e _ admits first refl;
-    link_known = rule_holds setting steps e _ admits (later first) refl;
-    device_works = rule_holds setting steps e _ admits (later (later first)) refl;
-    link_works = rule_holds setting steps e _ admits (later (later (later first))) refl;
-    message_known = rule_holds setting steps e _ admits (later (later (later (later first)))) refl;
-    message_open = rule_holds setting steps e _ admits (later (later (later (later (later first))))) refl;
-    right_device = rule_holds setting steps e _ admits (later (later (later (later (later (later first)))))) refl;
-    time_rises = rule_holds setting steps e _ admits (later (later (later (later (later (later (later first))))))) refl;
-    counter_rises = rule_holds setting steps e _ admits (later (later (later (later (later (later (later (later first)))))))) refl;
-    device_up = rule_holds setting steps e _ admits (later (later (later (later (later (later (later (later (later first))))))))) refl;
-    started_once = rule_holds setting steps e _ admits (later (later (later (later (later (later (later (later (later (later first)))))))))) refl;
-    plan_left = rule_holds setting steps e _ admits (later (later (later (later (later (later (later (later (later (later (later first))))))))))) refl;
-    in_window = rule_holds setting steps e _ admits (later (later (later (later (later (later (later (later (later (later (later (later first)))))))))))) refl;
-    before_end = rule_holds setting steps e _ admits (later (later (later (later (later (later (later (later (later (later (later (later (later first))))))))))))) refl;
-    has_failed = rule_holds setting steps e _ admits (later (later (later (later (later (later (later (later (later (later (later (later (later (later first)))))))))))))) refl;
-    is_member = rule_holds setting steps e _ admits (later (later (later (later (later (later (later (later (later (later (later (later (later (later (later first))))))))))))))) refl
-  }
+  device_known = rule_holds setting steps e _ admits first refl;
+  link_known = rule_holds setting steps e _ admits (later first) refl;
+  device_works = rule_holds setting steps e _ admits (later (later first)) refl;
+  link_works = rule_holds setting steps e _ admits (later (later (later first))) refl;
+  message_known = rule_holds setting steps e _ admits (later (later (later (later first)))) refl;
+  message_open = rule_holds setting steps e _ admits (later (later (later (later (later first))))) refl;
+  right_device = rule_holds setting steps e _ admits (later (later (later (later (later (later first)))))) refl;
+  time_rises = rule_holds setting steps e _ admits (later (later (later (later (later (later (later first))))))) refl;
+  counter_rises = rule_holds setting steps e _ admits (later (later (later (later (later (later (later (later first)))))))) refl;
+  device_up = rule_holds setting steps e _ admits (later (later (later (later (later (later (later (later (later first))))))))) refl;
+  started_once = rule_holds setting steps e _ admits (later (later (later (later (later (later (later (later (later (later first)))))))))) refl;
+  plan_left = rule_holds setting steps e _ admits (later (later (later (later (later (later (later (later (later (later (later first))))))))))) refl;
+  in_window = rule_holds setting steps e _ admits (later (later (later (later (later (later (later (later (later (later (later (later first)))))))))))) refl;
+  before_end = rule_holds setting steps e _ admits (later (later (later (later (later (later (later (later (later (later (later (later (later first))))))))))))) refl;
+  has_failed = rule_holds setting steps e _ admits (later (later (later (later (later (later (later (later (later (later (later (later (later (later first)))))))))))))) refl;
+  is_member = rule_holds setting steps e _ admits (later (later (later (later (later (later (later (later (later (later (later (later (later (later (later first))))))))))))))) refl;
+}
 
 pub accepted_is_clear : (setting : Setting) (steps : List Step) (e : Event) → refusal setting steps e ≡ None → IsClear setting steps e
 accepted_is_clear setting steps e none = clear setting steps e (accepted_is_admitted setting steps e none)

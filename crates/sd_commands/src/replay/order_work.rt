@@ -14,8 +14,8 @@ ghost use Rattle.sd_commands.specs.replay.Replays.{order_work, replay_work};
 ghost use Rattle.sd_commands.specs.replay.Telling.{latest_name, latest_waits};
 ghost use Rattle.sd_commands.specs.contracts.replay.observer.WaitObserverObserver.TheImpl.{ghosts};
 
-use crate::replay::replay_work::{ReplayWork, status_if};
 use crate::replay::observer::WaitObserver;
+use crate::replay::replay_work::{ReplayWork, status_if};
 use sd_device::Device;
 use sd_files::work::{LineWork, Taken};
 use sd_files::{IoError, Status, send};

@@ -14,9 +14,9 @@ ghost use Rattle.sd_commands.specs.replay.Replays.{order_work, replay_work};
 
 use crate::replay::Files;
 use crate::replay::files::{end_early, start};
+use crate::replay::observer::WaitObserver;
 use crate::replay::order_work::OrderWork;
 use crate::replay::replay_work::ReplayWork;
-use crate::replay::observer::WaitObserver;
 use sd_device::msg::NoObserver;
 use sd_files::work::{LineWork, work_through};
 use sd_files::{IoError, Status};
