@@ -7,7 +7,8 @@ use Rattle.sd_files.specs.Writes.{IsAllowed}
 use Rattle.sd_files.specs.declared.command_error.Answer.{Answer}
 use Rattle.sd_files.specs.declared.command_error.CommandError.{CommandError}
 use Rattle.sd_files.specs.declared.command_error.CommandError.TheVariants as ended
-use Rattle.sd_search.specs.Finds.{IsFound}
+use Rattle.sd_drill.specs.declared.Budget.{Budget}
+use Rattle.sd_search.specs.Finds.{IsFound, IsNoneWorse}
 use Rattle.sd_search.specs.declared.found.Found.{Found}
 use Rattle.sd_search.specs.declared.found.Found.TheVariants as found
 use Rattle.sd_ctl_top.specs.Findings.{FitsFound, IsFinding, found_status, found_text}
@@ -18,10 +19,12 @@ found_fits net absent root (found.Plan plan) (kept, accepted) = kept.fits
 found_fits net absent root (found.NoPlan plan breach) is = tt
 
 -- an answer with the text and the status of what was found
-pub finding_makes : (net : Network) (absent : Absent) (root : Option ℕ) (what : Found) (made : Result Answer CommandError) → IsFound net absent root what
+pub finding_makes : (net : Network) (absent : Absent) (root : Option ℕ) (budget : Budget) (what : Found) (made : Result Answer CommandError)
+    → IsFound net absent root what → IsNoneWorse net absent root budget what
     → IfOk made (λ answer. answer.text.items ≡ found_text net what)
-    → IfOk made (λ answer. answer.status ≡ found_status what) → IfErr made (λ why. why ≡ ended.Memory) → IsAllowed (IsFinding net absent root) made
-finding_makes net absent root what (Ok answer) is text status only = (what, is, text, status)
-finding_makes net absent root what (Err ended.Memory) is text status only = tt
-finding_makes net absent root what (Err ended.Shelf) is text status only = cc
-finding_makes net absent root what (Err (ended.Refused why)) is text status only = cc
+    → IfOk made (λ answer. answer.status ≡ found_status what) → IfErr made (λ why. why ≡ ended.Memory) → IsAllowed (IsFinding net absent root budget) made
+finding_makes net absent root budget what (Ok answer) is good text status only =
+    record { what = what; found = is; none_worse = good; text = text; answer = status }
+finding_makes net absent root budget what (Err ended.Memory) is good text status only = tt
+finding_makes net absent root budget what (Err ended.Shelf) is good text status only = cc
+finding_makes net absent root budget what (Err (ended.Refused why)) is good text status only = cc

@@ -6,7 +6,8 @@ use Rattle.sd_plan.specs.declared.Absent.{Absent}
 use Rattle.sd_plan.specs.declared.Plan.{Plan}
 use Rattle.sd_plantext.specs.Printed.{plan_text}
 use Rattle.sd_plan.specs.Plans.{Fits}
-use Rattle.sd_search.specs.Finds.{IsFound}
+use Rattle.sd_drill.specs.declared.Budget.{Budget}
+use Rattle.sd_search.specs.Finds.{IsFound, IsNoneWorse}
 use Rattle.sd_search.specs.declared.found.Found.{Found}
 use Rattle.sd_search.specs.declared.found.Found.TheVariants as found
 use Rattle.sd_checker.specs.Text.{refused_line}
@@ -31,20 +32,24 @@ FitsFound net (found.Plan plan) = Fits net plan
 FitsFound net (found.NoPlan plan breach) = Unit {0}
 
 -- what is printed of a search without what is absent, over the root that is given or any: the text of an accepted plan, or the line of a breach, and then no
--- greedy plan is accepted either
-abbrev pub IsFinding : Network → Absent → Option ℕ → Allowed
-IsFinding net absent root bytes status = (what : Found) × IsFound net absent root what × (bytes ≡ found_text net what) × (status ≡ found_status what)
+-- greedy plan is accepted either. The plan is no worse by the drill than the first greedy one that is accepted, if one is.
+pub record IsFinding (net : Network) (absent : Absent) (root : Option ℕ) (budget : Budget) (bytes : List ℕ) (status : Status) : Type 0 where
+  pub what : Found
+  pub found : IsFound net absent root what
+  pub none_worse : IsNoneWorse net absent root budget what
+  pub text : bytes ≡ found_text net what
+  pub answer : status ≡ found_status what
 
 -- `search`: an accepted plan with all that there is. There is one wherever the greedy plan from a candidate is accepted: what `plan` prints is the first's.
-abbrev pub IsSearch : List ℕ → Allowed
-IsSearch topology bytes status = After (topology_of topology) (λ net. IsFinding net (record { devices = []; links = [] }) None) bytes status
+abbrev pub IsSearch : Budget → List ℕ → Allowed
+IsSearch budget topology bytes status = After (topology_of topology) (λ net. IsFinding net (record { devices = []; links = [] }) None budget) bytes status
 
 -- the root that goes on: the old one unless it is absent, and then the backup root
 abbrev pub root_after : Plan → Absent → ℕ
 root_after plan absent = if not (has absent.devices plan.root) then plan.root else plan.backup_root
 
 -- `renew`: an accepted plan without what is absent, whose root goes on from the old plan
-abbrev pub IsRenewing : List ℕ → List ℕ → List ℕ → Allowed
-IsRenewing topology plan absent bytes status =
+abbrev pub IsRenewing : Budget → List ℕ → List ℕ → List ℕ → Allowed
+IsRenewing budget topology plan absent bytes status =
     After (topology_of topology)
-    (λ net. After (plan_in_file net 1 plan) (λ old. After (absent_in_file net absent) (λ left. IsFinding net left (Some (root_after old left))))) bytes status
+    (λ net. After (plan_in_file net 1 plan) (λ old. After (absent_in_file net absent) (λ left. IsFinding net left (Some (root_after old left)) budget))) bytes status

@@ -49,9 +49,9 @@ step_by_step statuses Writes = record { Writes = Writes; gives = statuses; in_st
 -- each command, and words that are none
 abbrev pub task_of : Option Command → Task
 task_of None = once (Usage ∷ []) (λ texts. IsUsageLine)
-task_of (Some (Search topology settings)) = once (Done ∷ PlanRefused ∷ InputRefused ∷ []) (λ texts. IsSearch (texts topology))
+task_of (Some (Search topology settings)) = once (Done ∷ PlanRefused ∷ InputRefused ∷ []) (λ texts. IsSearch settings.budget (texts topology))
 task_of (Some (Renew topology plan absent settings)) =
-    once (Done ∷ PlanRefused ∷ InputRefused ∷ []) (λ texts. IsRenewing (texts topology) (texts plan) (texts absent))
+    once (Done ∷ PlanRefused ∷ InputRefused ∷ []) (λ texts. IsRenewing settings.budget (texts topology) (texts plan) (texts absent))
 task_of (Some (Why topology)) = once (Done ∷ PlanRefused ∷ InputRefused ∷ []) (λ texts. IsReasoning (texts topology))
 task_of (Some (Bounds topology plan budget)) =
     step_by_step (Done ∷ PlanRefused ∷ InputRefused ∷ []) (λ texts. IsBounding (texts topology) (texts plan) budget)

@@ -43,7 +43,8 @@ pub(crate) fn finding(
     requires absent { IsAbsentOf (network topo.now) absent.now }
     requires root { IfSome root (λ r. r < length (network topo.now).devices) }
     requires budget { IsBudget settings.budget }
-    ensures makes { IsAllowed (IsFinding (network topo.now) absent.now root) result }
+    ensures makes { IsAllowed
+        (IsFinding (network topo.now) absent.now root settings.budget) result }
     ensures gives { IfOk result (λ answer. IsTrue
         (is_among (Status.Done ∷ Status.PlanRefused ∷ Status.InputRefused ∷ []) answer.status)) }
     ensures only { IfErr result (λ why. why ≡ CommandError.Memory) }

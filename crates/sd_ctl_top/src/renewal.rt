@@ -42,8 +42,8 @@ pub(crate) fn renewal_answer<S: Shelf>(
     requires budget { IsBudget settings.budget }
     ensures makes { IfSome (S.held shelf.old)
         (λ held. IsAllowed
-        (IsRenewing (texts_of held files.entry.topology.now) (texts_of held files.entry.plan.now)
-        (texts_of held files.entry.absent.now)) result) }
+        (IsRenewing settings.budget (texts_of held files.entry.topology.now)
+        (texts_of held files.entry.plan.now) (texts_of held files.entry.absent.now)) result) }
     ensures gives { IfOk result (λ answer. IsTrue
         (is_among (Status.Done ∷ Status.PlanRefused ∷ Status.InputRefused ∷ []) answer.status)) }
     ensures shelf { KeepsShelf S.Shelf (result ≡ Err CommandError.Shelf) shelf.old shelf.new }
@@ -67,7 +67,8 @@ fn renew_over<S: Shelf>(
         (λ held. IsAllowed
         (After (plan_in_file (network topo.now) 1 (texts_of held files.entry.plan.now))
         (λ old. After (absent_in_file (network topo.now) (texts_of held files.entry.absent.now))
-        (λ left. IsFinding (network topo.now) left (Some (findings.root_after old left))))) result) }
+        (λ left. IsFinding (network topo.now) left (Some (findings.root_after old left))
+        settings.budget))) result) }
     ensures gives { IfOk result (λ answer. IsTrue
         (is_among (Status.Done ∷ Status.PlanRefused ∷ Status.InputRefused ∷ []) answer.status)) }
     ensures shelf { KeepsShelf S.Shelf (result ≡ Err CommandError.Shelf) shelf.old shelf.new }

@@ -33,8 +33,9 @@ pub fn run<S: Shelf, O: Sink>(alloc: Global, words: &[String], shelf: &mut S, ou
         (names_of (meaning.command_of (map string_bytes words.now))) }
 
     // Over a shelf that tells its texts: what the words write and answer. A plan is printed only
-    // where the checker accepts it, and it leaves out just what is absent. No plan is printed only
-    // where the checker refuses the greedy one too: what `sundial plan` prints, or `sundial renew`.
+    // where the checker accepts it, and it leaves out just what is absent. It is no worse by the
+    // drill than the first greedy plan that the checker accepts. No plan is printed only where it
+    // refuses them all: what `sundial plan` prints, or `sundial renew`.
     // It is printed that an opening agrees only where all later events that may follow both are the
     // same after both, and what breaks after the opening is broken after the schedule; and that it
     // differs only where no shift of numbers makes it agree. Of a recording each line of the log

@@ -26,7 +26,7 @@ pub(crate) fn whole_answer<S: Shelf>(
     requires topology { IsTrue (S.serves shelf.old topology.now) }
     requires budget { IsBudget settings.budget }
     ensures makes { IfSome (S.held shelf.old)
-        (λ held. IsAllowed (IsSearch (texts_of held topology.now)) result) }
+        (λ held. IsAllowed (IsSearch settings.budget (texts_of held topology.now)) result) }
     ensures gives { IfOk result (λ answer. IsTrue
         (is_among (Status.Done ∷ Status.PlanRefused ∷ Status.InputRefused ∷ []) answer.status)) }
     ensures shelf { KeepsShelf S.Shelf (result ≡ Err CommandError.Shelf) shelf.old shelf.new }
@@ -38,8 +38,8 @@ pub(crate) fn whole_answer<S: Shelf>(
 /// The same over a topology that is lent, and so dropped in one place.
 fn search_whole(alloc: Global, topo: &Topology, settings: Settings) -> Result<Answer, CommandError>
     requires budget { IsBudget settings.budget }
-    ensures makes { IsAllowed
-        (IsFinding (network topo.now) (record { devices = []; links = [] }) None) result }
+    ensures makes { IsAllowed (IsFinding (network topo.now) (record { devices = []; links = [] })
+        None settings.budget) result }
     ensures gives { IfOk result (λ answer. IsTrue
         (is_among (Status.Done ∷ Status.PlanRefused ∷ Status.InputRefused ∷ []) answer.status)) }
     ensures only { IfErr result (λ why. why ≡ CommandError.Memory) }

@@ -10,6 +10,6 @@ pub returns-clause-makes : goal.returns-clause-makes
 returns-clause-makes g c =
     told_goes_on network (λ texts. topology_of (texts c.args.files.topology.now))
     (λ texts net. After (plan_in_file net 1 (texts c.args.files.plan.now))
-    (λ old. After (absent_in_file net (texts c.args.files.absent.now)) (λ left. IsFinding net left (Some (root_after old left))))) _ c.in_ok-topo.topo
+    (λ old. After (absent_in_file net (texts c.args.files.absent.now)) (λ left. IsFinding net left (Some (root_after old left)) c.args.settings.budget))) _ c.in_ok-topo.topo
     c.renew_over.result c.in_ok-topo.ensures.says
     (rw c.in_ok-topo.ensures.shelf.same_held at c.renew_over.ensures.makes)

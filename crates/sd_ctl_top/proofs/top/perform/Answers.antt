@@ -22,7 +22,7 @@ pub returns-in-Some-Search-clause-outcome : goal.returns-in-Some-Search-clause-o
 returns-in-Some-Search-clause-outcome g c =
     meets _ _ (Some (Search c.in-Some-Search.topology.now c.in-Some-Search.settings)) _ _ _
     (ap (λ (x : Parsed). Some (named x)) (sym c.in-Some-Search.field-0-is) ∙ c.in-Some-Search.ensures.is)
-    (made_once _ (λ texts. IsSearch (texts c.in-Some-Search.topology.now)) c.whole_answer-made.result _ _ _ c.whole_answer-made.ensures.makes
+    (made_once _ (λ texts. IsSearch c.in-Some-Search.settings.budget (texts c.in-Some-Search.topology.now)) c.whole_answer-made.result _ _ _ c.whole_answer-made.ensures.makes
     c.write_answer.ensures.writes)
 
 pub returns-in-Some-Search-clause-shelf : goal.returns-in-Some-Search-clause-shelf
@@ -52,7 +52,8 @@ returns-in-Some-Renew-clause-outcome g c =
     meets _ _ (Some (Renew c.in-Some-Renew.topology.now c.in-Some-Renew.plan.now c.in-Some-Renew.absent.now c.in-Some-Renew.settings)) _ _ _
     (ap (λ (x : Parsed). Some (named x)) (sym c.in-Some-Renew.field-0-is) ∙ c.in-Some-Renew.ensures.is)
     (made_once _
-    (λ texts. IsRenewing (texts c.in-Some-Renew.topology.now) (texts c.in-Some-Renew.plan.now) (texts c.in-Some-Renew.absent.now))
+    (λ texts. IsRenewing c.in-Some-Renew.settings.budget (texts c.in-Some-Renew.topology.now) (texts c.in-Some-Renew.plan.now)
+    (texts c.in-Some-Renew.absent.now))
     c.renewal_answer-made.result _ _ _ c.renewal_answer-made.ensures.makes c.write_answer-in-Some-Renew.ensures.writes)
 
 pub returns-in-Some-Renew-clause-shelf : goal.returns-in-Some-Renew-clause-shelf

@@ -8,5 +8,5 @@ use Rattle.sd_ctl_top.proofs.whole.whole_answer.Goals as goal
 pub returns-clause-makes : goal.returns-clause-makes
 returns-clause-makes g c =
     told_goes_on network (λ texts. topology_of (texts c.args.topology.now))
-    (λ texts net. IsFinding net (record { devices = []; links = [] }) None) _ c.in_ok-topo.topo c.search_whole.result c.in_ok-topo.ensures.says
+    (λ texts net. IsFinding net (record { devices = []; links = [] }) None c.args.settings.budget) _ c.in_ok-topo.topo c.search_whole.result c.in_ok-topo.ensures.says
     (told_always _ c.search_whole.ensures.makes)
