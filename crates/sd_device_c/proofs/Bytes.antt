@@ -276,7 +276,7 @@ some_port all bytes long =
           ∙ simp append_assoc,
     )
 
--- and so many times 17 are those of so many ports
+-- and this many times 17 are those of this many ports
 pub some_ports : (n : ℕ) (all : List ℕ) → ((i : ℕ) → get_or all i 0 < 256) → length all ≡ 17 * n
     → (ports : List PlainPort) × (length ports ≡ n) × (all ≡ flat_map port_bytes ports)
 some_ports zero all bytes long = ([], refl, nil_from_length all long)

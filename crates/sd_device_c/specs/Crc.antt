@@ -6,7 +6,7 @@ use Rattle.std.specs.List.{fold}
 unfoldable pub turned : ℕ → ℕ
 turned register = if nat_eq (register % 2) 1 then bit_xor (register / 2) 0xEDB88320 else register / 2
 
--- the register has moved on by so many bits
+-- the register has moved on by this many bits
 unfoldable pub turns : ℕ → ℕ → ℕ
 turns zero register = register
 turns (suc k) register = turned (turns k register)

@@ -16,7 +16,7 @@ use Rattle.sd_device_c.specs.Pauses.{advance, is_in_time}
 use Rattle.sd_device_c.specs.Answers.{IsDevice}
 use Rattle.sd_device_c.specs.Crc.{crc_of}
 
--- a number in so many bytes, the least first; the last one takes all that is left
+-- a number in this many bytes, the least first; the last one takes all that is left
 unfoldable pub little : (size : ℕ) → ℕ → List ℕ
 little zero n = []
 little (suc zero) n = n ∷ []
@@ -102,7 +102,7 @@ pub record Says (kept : List ℕ) (device : PlainDevice) (ports : List PlainPort
   pub bytes : kept ≡ kept_bytes device ports lowered ticked
   pub sound : IsDevice device
 
--- the bytes say some device with so many ports
+-- the bytes say some device with this many ports
 abbrev pub AreKept : (ports : ℕ) → List ℕ → Type 0
 AreKept count kept =
     (device : PlainDevice) × (ports : List PlainPort) × (lowered : ℕ) × (ticked : ℕ)
@@ -121,7 +121,7 @@ SaysOnly kept device ports lowered ticked =
     (d : PlainDevice) (ps : List PlainPort) (l t : ℕ) → kept ≡ kept_bytes d ps l t
     → (d ≡ device) × (ps ≡ ports) × (l ≡ lowered) × (t ≡ ticked)
 
--- the bytes are those of these two counters, of this device and of so many ports
+-- the bytes are those of these two counters, of this device and of this many ports
 pub record IsRead (count : ℕ) (kept : List ℕ) (device : PlainDevice) (lowered ticked : ℕ) (ports : List ℕ) : Type 0 where
   pub bytes : kept ≡ checked (header_bytes count ++ (state_bytes device lowered ticked ++ ports))
   pub size : length ports ≡ 17 * count
@@ -142,7 +142,7 @@ pub record IsSpoiled (old new : List ℕ) : Type 0 where
 abbrev pub ShowsSpoiling : (ports : ℕ) → List ℕ → Type 0
 ShowsSpoiling count kept = (spoiled : List ℕ) → IsSpoiled kept spoiled → AreKept count spoiled → ⊥
 
--- it may be kept in so many bytes
+-- it may be kept in this many bytes
 abbrev pub MayKeep : PlainDevice → (ports size : ℕ) → Type 0
 MayKeep device ports size = IsDevice device × (size ≡ kept_size ports)
 
@@ -151,7 +151,7 @@ abbrev pub HasKeepFault : PlainDevice → (ports size : ℕ) → Fault → Type 
 HasKeepFault device ports size fault =
     ((fault ≡ NoDevice) × (IsDevice device → ⊥)) ⊎ ((fault ≡ WrongSize) × (size ≢ kept_size ports))
 
--- the fault says that the bytes say no device with so many ports
+-- the fault says that the bytes say no device with this many ports
 abbrev pub IsNotKept : (ports : ℕ) → List ℕ → Fault → Type 0
 IsNotKept count kept fault = (fault ≡ NotKept) × (AreKept count kept → ⊥)
 

@@ -28,9 +28,9 @@ pub(crate) enum Fault {
     MessageTooGreat,
     /// No duty of a root was given to the device.
     NotRoot,
-    /// What is kept of so many ports takes another number of bytes.
+    /// What is kept of this many ports takes another number of bytes.
     WrongSize,
-    /// The bytes are not what is kept of a device with so many ports.
+    /// The bytes are not what is kept of a device with this many ports.
     NotKept,
     /// More than a tick may have passed since the latest tick.
     TooLate,

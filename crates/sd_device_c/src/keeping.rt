@@ -61,7 +61,7 @@ pub extern "C" fn sundial_keep(
     DONE
 }
 
-/// How many bytes are kept of so many ports.
+/// How many bytes are kept of this many ports.
 #[inline(always)]
 fn size_of_kept(ports: usize) -> u128
     ensures { result ≡ kept_size ports }
@@ -84,7 +84,7 @@ fn write(bytes: &mut [u8], device: &PlainDevice, ports: &[PlainPort], lowered: u
     put_u32(bytes, at, check);
 }
 
-/// Reads what was kept of a device with so many ports.
+/// Reads what was kept of a device with this many ports.
 #[unsafe(no_mangle)]
 pub extern "C" fn sundial_kept(
     bytes: &[u8],
@@ -149,7 +149,7 @@ pub extern "C" fn sundial_restore(
     DONE
 }
 
-/// What the bytes say but for the ports, and the bytes of so many ports.
+/// What the bytes say but for the ports, and the bytes of this many ports.
 #[inline(always)]
 fn read(bytes: &[u8], ports: usize) -> Option<(State, &[u8])>
     ensures some { IfSome result (λ read. IsRead ports bytes.now
