@@ -14,7 +14,7 @@ class Made(NamedTuple):
     """A file that another run writes, which ends with status 0."""
 
     words: str
-    files: Dict[str, str]
+    files: Dict[str, Union[str, "Made"]]
     program: str = "sundial"
 
 

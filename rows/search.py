@@ -1,5 +1,7 @@
 """Rows of `sundialctl search` and `renew`. Whether a plan that is found is right is asked of `sundial check`."""
 
+from typing import Dict, Union
+
 from rows import Ends, Made, Row
 from rows.texts import FABRIC, FABRIC_GREEDY, FABRIC_PLAN, FABRIC_RENEWED, FIRST, LINE, TRIANGLE, domain, topology, without
 
@@ -21,6 +23,16 @@ def words(steps: int) -> str:
     return f"search topology 1000000 3000000000 1 {steps}"
 
 
+def renewed(steps: int) -> str:
+    """The same of a renewal."""
+    return f"renew topology plan absent 1000000 3000000000 1 {steps}"
+
+
+MESH_PLAN = Made(words(4000), {"topology": MESH}, "sundialctl")
+# What is left when a device is lost, so that the greedy plan is refused once more.
+LOST: Dict[str, Union[str, Made]] = {"topology": MESH, "plan": MESH_PLAN, "absent": without("d5")}
+
+
 ROWS = [
     Row("the greedy plan without a move", words(0), {"topology": FABRIC}, FABRIC_GREEDY, program="sundialctl"),
     Row("the greatest numbers", "search topology 1152921504606846976 1152921504606846976 18446744073709551615 0",
@@ -34,7 +46,10 @@ ROWS = [
         {"topology": FABRIC, "plan": FABRIC_PLAN, "absent": without("l3")}, FABRIC_RENEWED, program="sundialctl"),
     Row("greed fails in a mesh", words(0), {"topology": MESH}, REFUSED, 1, "sundialctl"),
     Row("the plan that is found in a mesh", "check topology plan",
-        {"topology": MESH, "plan": Made(words(4000), {"topology": MESH}, "sundialctl")}, "accepted 12 20 36\n"),
+        {"topology": MESH, "plan": MESH_PLAN}, "accepted 12 20 36\n"),
+    Row("greed fails in a renewal", renewed(0), {**LOST}, "refused plan 1 structure 6 device d0\n", 1, "sundialctl"),
+    Row("the plan that is found in a renewal", "check topology plan",
+        {"topology": MESH, "plan": Made(renewed(2000), LOST, "sundialctl")}, "accepted 12 20 36\n"),
     *[Row(f"no plan of three devices in a row, in {steps} steps", words(steps), {"topology": LINE}, REFUSED, 1, "sundialctl")
       for steps in (0, 300)],
 ]
