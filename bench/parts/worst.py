@@ -90,6 +90,14 @@ def mesh(devices: int) -> Iterator[str]:
         yield networks.link(f"k{place}", f"d{first}", f"d{second}")
 
 
+def in_a_row(devices: int) -> Iterator[str]:
+    """Devices in a row, each of which may be a root, and from each of which some other is too far."""
+    roots = ", ".join(f'"d{place}"' for place in range(devices))
+    yield networks.head(("d0", "d1"), depth=5).replace('"d0", "d1"', roots)
+    yield from (networks.device(f"d{place}") for place in range(devices))
+    yield from (networks.link(f"k{place}", f"d{place - 1}", f"d{place}") for place in range(1, devices))
+
+
 def colliding(bench: Bench, number: int) -> List[str]:
     program = bench.plain("colliding")
     if not program:
@@ -174,6 +182,8 @@ def second_rows(bench: Bench) -> List[Row]:
         beside_half(bench, f"`merge` of {count(lines)} lines", "logs", bench.count(4000, 400),
                     lambda number: ("merge", str(number), bench.file(f"feed{number}", feed(number, lines))), 0, name),
         beside_half(bench, "`bounds`", "devices", devices, drilled, 0, name, "half of it, with a quarter of the lines"),
+        beside_half(bench, "`why`, a row of candidates", "devices", bench.count(4096, 64),
+                    lambda number: ("why", bench.file(f"row{number}", in_a_row(number))), 1, name),
     ]
 
 
