@@ -9,7 +9,7 @@ pub mod check_reach;
 pub mod check_root;
 mod hits;
 mod judging;
-mod order;
+pub mod order;
 mod roots;
 mod text;
 

@@ -9,14 +9,14 @@ use sd_plan::domain::DomainId;
 use sd_plan::topo::Topology;
 
 /// How many domains there are.
-pub(crate) fn domain_count(topo: &Topology) -> u32
+pub fn domain_count(topo: &Topology) -> u32
     ensures { result ≡ length (domains (network topo.now)) }
 {
     topo.domains() + topo.devices() + topo.links()
 }
 
 /// The domain at a place of their order, from 0.
-pub(crate) fn domain_at(topo: &Topology, place: u32) -> DomainId
+pub fn domain_at(topo: &Topology, place: u32) -> DomainId
     requires { place < length (domains (network topo.now)) }
     ensures at { slice_get (domains (network topo.now)) place ≡ Some result }
     ensures domain { IsDomain (network topo.now) result }

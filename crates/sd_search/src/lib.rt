@@ -3,7 +3,6 @@
 #![tactic(auto)]
 
 mod candidates;
-mod domains;
 pub mod draft;
 mod found;
 mod moves;

@@ -10,7 +10,7 @@ ghost use Rattle.sd_plan.specs.topo.Topologies.{network};
 ghost use Rattle.sd_search.specs.Ratings as words;
 ghost use Rattle.sd_search.specs.Ratings.{IsNoMore, IsNoWorse, IsRating};
 
-use crate::domains::{domain_at, domain_count};
+use sd_checker::order::{domain_at, domain_count};
 use sd_drill::{Budget, Drill};
 use sd_num::NoMemory;
 use sd_plan::domain::DomainId;

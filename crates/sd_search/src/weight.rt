@@ -4,10 +4,10 @@ ghost use Rattle.sd_plan.specs.topo.Topologies.{network};
 ghost use Rattle.std.proofs.Props.{props};
 ghost use Rattle.sd_plan.specs.Props.{IsRow-prop};
 
-use crate::domains::{domain_at, domain_count};
 use crate::draft::tables::{copy_entries, set_entry};
 use crate::draft::{Bounds, Change, Draft, DraftDrill, Ground, Tally, places};
 use crate::found::plan_of;
+use sd_checker::order::{domain_at, domain_count};
 use sd_checker::{Verdict, check};
 use sd_drill::Budget;
 use sd_num::NoMemory;
