@@ -1,5 +1,5 @@
 -- What is above a backup parent.
-use Rattle.std.proofs.Common.{◌≡◌, ◌≢◌, ◌<◌, ℕ, Bool, length, IfSome, true, false, ◌&&◌, ◌||◌, not, [], ◌∷◌, map, Option, Some, None, if◌then◌else◌, sym, ap, subst, ◌∙◌}
+use Rattle.std.proofs.Common.{◌≡◌, ◌≢◌, ◌<◌, ℕ, Bool, length, IfSome, true, false, ◌&&◌, ◌||◌, not, [], map, Option, Some, None, if◌then◌else◌, sym, ap, subst, ◌∙◌}
 use Rattle.std.proofs.lemmas.Bool.{eq-eqb, ne_eqb, and_parts}
 use Rattle.sd_num.specs.Lists.{has, map_or}
 use Rattle.sd_plan.specs.topo.Network.{Network, joins}

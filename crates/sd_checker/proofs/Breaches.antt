@@ -4,13 +4,9 @@ use Rattle.std.specs.Prelude.{nat_lt, slice_get}
 use Rattle.std.proofs.lemmas.Bool.{cases_lt, eqb-true, ltb-true, lt-ltb}
 use Rattle.std.proofs.lemmas.Option.{slice_get_within}
 use Rattle.sd_plan.specs.topo.Network.{Network}
-use Rattle.sd_plan.specs.declared.topo.Thing.{Thing}
 use Rattle.sd_plan.specs.domain.Domains.{domains}
 use Rattle.sd_plan.specs.declared.domain.DomainId.{DomainId}
 use Rattle.sd_plan.specs.declared.Plan.{Plan}
-use Rattle.sd_plan.specs.Structure.{structure_breach, ancestor_breach}
-use Rattle.sd_checker.specs.check_root.Timing.{timing_breach}
-use Rattle.sd_checker.specs.declared.check_root.TimingBreach.{TimingBreach}
 use Rattle.sd_checker.specs.check_loop.Loops.{HasNoCycle}
 use Rattle.sd_checker.specs.check_loop.ShownCycles.{ShowsCycle}
 use Rattle.sd_checker.specs.check_reach.Reach.{DomainHolds, ReachHolds}

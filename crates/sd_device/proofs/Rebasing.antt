@@ -12,10 +12,10 @@ use Rattle.sd_device.specs.msg.Stamps.{stamp, message_of}
 use Rattle.sd_num.specs.declared.clock.Estimate.{Estimate}
 use Rattle.sd_num.specs.declared.clock.Report.{Report}
 use Rattle.sd_num.specs.clock.Estimates.{report_of}
-use Rattle.sd_num.specs.clock.Advances.{moved_on, microseconds_to}
+use Rattle.sd_num.specs.clock.Advances.{microseconds_to}
 use Rattle.sd_num.proofs.clock.Advance.{advance_reports}
 use Rattle.sd_device.specs.declared.Effect.{Effect}
-use Rattle.sd_device.specs.declared.Effect.TheVariants.{Quiet, Send}
+use Rattle.sd_device.specs.declared.Effect.TheVariants.{Send}
 use Rattle.sd_device.specs.declared.registers.Registers.{Registers}
 use Rattle.sd_device.specs.declared.registers.Mode.{Mode}
 use Rattle.sd_device.specs.declared.registers.Mode.TheVariants.{Primary, Backup, Acting, Idle}
@@ -23,8 +23,8 @@ use Rattle.sd_device.specs.declared.turns.Turn.{Turn}
 use Rattle.sd_device.specs.declared.turns.Turn.TheVariants.{Emit, TakeOver, Move, Stay}
 use Rattle.sd_device.specs.Calls.{Call, Tick, Receive, Fix, Give, Commit, Seal}
 use Rattle.sd_device.specs.Words.{wait_to_move, counter_of}
-use Rattle.sd_device.specs.Rules.{turn_of, turn_with, turned, called, entering, accepting, accepted, entered, quietly, committed, with_duty, is_acting_mode, is_backup_root, report_in, floor_in, epoch_in}
-use Rattle.sd_device.specs.Rebases.{waits_in, normal_at, least_in, lowered, lowering, rebased, call_lowered, IsSteady, TellsAlike, AnswersAlike}
+use Rattle.sd_device.specs.Rules.{turn_of, turn_with, turned, called, entering, accepting, accepted, entered, quietly, committed, is_acting_mode, is_backup_root, floor_in, epoch_in}
+use Rattle.sd_device.specs.Rebases.{waits_in, normal_at, lowering, rebased, call_lowered, IsSteady, TellsAlike, AnswersAlike}
 
 -- the registers with other counters and another estimate
 abbrev pub recounted : Registers → (last sent : ℕ) → Estimate → Registers

@@ -1,9 +1,8 @@
 -- Rebases add up: after any number of them a device answers for its whole life, at counters that are lowered by their sum.
-use Rattle.std.proofs.Common.{◌≡◌, ◌≢◌, ℕ, ◌+◌, ◌-◌, ◌≤◌, Bool, List, [], ◌∷◌, Option, Some, refl, sym, ◌∙◌, ap, subst, arith}
+use Rattle.std.proofs.Common.{◌≡◌, ℕ, ◌+◌, ◌-◌, ◌≤◌, Bool, List, [], ◌∷◌, Option, Some, refl, sym, ◌∙◌, ap, subst, arith}
 use Rattle.std.specs.Prelude.{max, map, IfSome}
 use Rattle.sd_num.specs.declared.Rates.{Rates}
 use Rattle.sd_plan.specs.declared.Duty.{Duty}
-use Rattle.sd_device.specs.declared.Effect.{Effect}
 use Rattle.sd_device.specs.declared.registers.Registers.{Registers}
 use Rattle.sd_device.specs.Calls.{Call, Tick, Receive, Fix, Give, Commit, Seal}
 use Rattle.sd_device.specs.Living.{Life}
@@ -126,10 +125,6 @@ alike_later by now at (call ∷ calls) r s later h = (
 )
 
 -- A whole life
-
-first_alike : (by now : ℕ) (calls : List Call) (r s : Registers) → AnswersAlike by now calls r s → TellsAlike by now r s
-first_alike by now [] r s h = h
-first_alike by now (call ∷ later) r s h = h.0
 
 -- a call of a device that was rebased: it sends what its life says
 pub lowered_after : (by now : ℕ) (lower : Registers) (life : Life) (call : Call) → (h : StandsLowered by now lower life)

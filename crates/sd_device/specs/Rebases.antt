@@ -1,5 +1,5 @@
 -- A rebase: the counters that a device keeps are lowered, and none of its later answers changes.
-use Rattle.std.specs.Prelude.{◌≡◌, ◌≢◌, ℕ, ◌+◌, ◌-◌, ◌≤◌, Bool, true, false, List, [], ◌∷◌, max, min, is_some, IfSome, if◌then◌else◌}
+use Rattle.std.specs.Prelude.{◌≡◌, ◌≢◌, ℕ, ◌+◌, ◌-◌, ◌≤◌, Bool, false, List, [], ◌∷◌, max, min, is_some, IfSome, if◌then◌else◌}
 use Rattle.sd_num.specs.Lists.{map_or}
 use Rattle.sd_num.specs.clock.Advances.{advanced}
 use Rattle.sd_device.specs.declared.registers.Registers.{Registers}

@@ -1,6 +1,6 @@
 -- What is listed for a device, by how it recovers.
-use Rattle.std.specs.Prelude.{◌≡◌, ℕ, ◌+◌, ◌<◌, ◌≤◌, true, false, List, [], ◌∷◌, ◌++◌, length, Option, Some, None}
-use Rattle.std.proofs.Common.{arith, ap, get_or, sym, ◌∙◌, subst, inl, inr}
+use Rattle.std.specs.Prelude.{◌≡◌, ℕ, ◌+◌, ◌<◌, ◌≤◌, false, List, [], ◌∷◌, ◌++◌, length, Option, Some, None}
+use Rattle.std.proofs.Common.{arith, get_or, sym, ◌∙◌, subst, inl, inr}
 use Rattle.std.proofs.lemmas.Bool.{both_ways, cases_lt}
 use Rattle.std.proofs.lemmas.List.{get_or_append_left, get_or_push, length_push}
 use Rattle.sd_plan.specs.topo.Network.{Network}
@@ -12,10 +12,8 @@ use Rattle.sd_drill.specs.recovery.Walks.{IsWalk}
 use Rattle.sd_drill.specs.declared.recovery.reach.Reach.{Reach}
 use Rattle.sd_drill.specs.declared.recovery.Recovery.{Recovery}
 use Rattle.sd_drill.specs.Bounds.{bound_at}
-use Rattle.sd_drill.specs.Drill.{IsWorst, root_halves, source}
-use Rattle.sd_drill.specs.Times.{IsBoundOf}
+use Rattle.sd_drill.specs.Drill.{IsWorst}
 use Rattle.sd_drill.specs.declared.Budget.{Budget}
-use Rattle.sd_drill.specs.declared.times.Times.{Times}
 use Rattle.sd_drill.proofs.Shared.{bound_is}
 
 module _ (net : Network) (plan : Plan) (f : DomainId) (d : ℕ) where
@@ -35,28 +33,8 @@ module _ (net : Network) (plan : Plan) (f : DomainId) (d : ℕ) where
   reach_is : (o : Option Reach) (reach : Reach) → o ≡ Some reach → ReachesFrom net plan f d o → IsReachOf net (IsWalk net plan f d) d reach
   reach_is o reach some is = subst (λ (found : Option Reach). ReachesFrom net plan f d found) some is
 
-  pub short_enough : (r : Recovery) (reach : Reach) → IsRecovery net plan f d r → r.reach ≡ Some reach → reach.long ≤ net.params.depth + 1
-  short_enough r reach is some = (reach_is r.reach reach some is.reach).within
-
   pub far_enough : (r : Recovery) (reach : Reach) → IsRecovery net plan f d r → r.reach ≡ Some reach → IsReachOf net (IsWalk net plan f d) d reach
   far_enough r reach is some = reach_is r.reach reach some is.reach
-
-  -- and what is fed over walks that are not too long has this one
-  pub some_bound : (times : Times) (r : Recovery) (reach : Reach) (w : ℕ) → IsRecovery net plan f d r → r.fed ≡ true → r.reach ≡ Some reach
-      → IsBoundOf net plan times d reach w → IsWorst net plan times.budget f d w
-  some_bound times r reach w is fed some bound =
-      let walks = reach_is r.reach reach some is.reach in
-      record {
-        fed = is.fed.0 fed;
-        far = reach.far;
-        is_far = walks.far;
-        long = reach.long;
-        is_long = walks.long;
-        short_enough = walks.within;
-        oldest = bound.is_growth.oldest;
-        is_oldest = bound.is_growth.is_oldest;
-        sum = bound.sum ∙ ap (λ (growth : ℕ). source net plan times.budget + root_halves net plan + reach.far + growth) bound.is_growth.grown;
-      }
 
 -- one more element of a list, which has what each has at its place
 pub placed_more : {A : Type 0} (default : A) (P : ℕ → A → Type 0) (xs : List A) (x : A) (n : ℕ) → length xs ≡ n → ((k : ℕ) → k < n → P k (get_or xs k default))

@@ -1,8 +1,8 @@
 -- The domains of a kind, up to a number and from it on.
-use Rattle.std.specs.Prelude.{◌≡◌, ℕ, zero, suc, ◌+◌, ◌<◌, ◌≤◌, List, [], ◌∷◌, ◌++◌, length, map}
+use Rattle.std.specs.Prelude.{◌≡◌, ℕ, zero, suc, ◌+◌, ◌<◌, ◌≤◌, List, [], ◌∷◌, ◌++◌, map}
 use Rattle.std.proofs.Common.{add-one, arith, refl, sym, ap, ◌∙◌, subst, inl, inr, append_assoc, append-nil, Option, Result, Ok, Err}
 use Rattle.std.proofs.lemmas.Bool.{cases_lt}
-use Rattle.std.proofs.lemmas.List.{length-append, map-append}
+use Rattle.std.proofs.lemmas.List.{map-append}
 use Rattle.sd_num.specs.Lists.{below}
 use Rattle.sd_plan.specs.topo.Network.{Network}
 use Rattle.sd_plan.specs.domain.Domains.{domains}

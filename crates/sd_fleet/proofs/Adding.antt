@@ -1,18 +1,13 @@
 -- Sending over one end after another.
-use Rattle.std.specs.Prelude.{◌≡◌, ℕ, zero, suc, ◌+◌, ◌<◌, ◌≤◌, true, false, List, [], ◌∷◌, ◌++◌, length, take, get_or, filter, nat_eq, refl, if◌then◌else◌}
-use Rattle.std.proofs.Common.{arith, sym, ◌∙◌, ap, add-one, inl, inr}
-use Rattle.std.proofs.lemmas.Bool.{or_cases, eqb-true, ne_eqb}
+use Rattle.std.specs.Prelude.{◌≡◌, ℕ, zero, suc, ◌+◌, ◌<◌, ◌≤◌, false, List, [], ◌∷◌, ◌++◌, length, take, get_or, filter, nat_eq, refl, if◌then◌else◌}
+use Rattle.std.proofs.Common.{arith, sym, ◌∙◌, ap, add-one}
+use Rattle.std.proofs.lemmas.Bool.{ne_eqb}
 use Rattle.std.proofs.lemmas.List.{length-take-le}
-use Rattle.sd_plan.specs.topo.Network.{Network, link_of}
-use Rattle.sd_plan.specs.topo.Limits.{IsNetwork}
-use Rattle.sd_plan.specs.topo.Places.{is_end_of}
-use Rattle.sd_plan.specs.declared.topo.LinkEntry.{LinkEntry}
-use Rattle.sd_plan.proofs.topo.Laws.{link_law}
+use Rattle.sd_plan.specs.topo.Network.{Network}
 use Rattle.sd_plan.specs.declared.End.{End}
 use Rattle.sd_device.specs.declared.msg.Flight.{Flight}
 use Rattle.sd_device.specs.msg.Books.{Book, AreGiven, with_sent}
 use Rattle.sd_world.specs.world.Registers as worlds
-use Rattle.sd_world.specs.membership.Plans.{IsEnd}
 use Rattle.sd_history.proofs.flights.Booking.{sent_more}
 use Rattle.sd_fleet.specs.declared.messages.Sending.{Sending}
 use Rattle.sd_fleet.specs.declared.messages.Sent.{Sent}

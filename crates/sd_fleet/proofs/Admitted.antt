@@ -1,18 +1,18 @@
 -- What holds of an event that is not refused, by what a fabric keeps.
-use Rattle.std.specs.Prelude.{◌≡◌, ℕ, ◌^◌, ◌<◌, ◌≤◌, Bool, true, false, ◌&&◌, ◌||◌, not, List, [], ◌∷◌, cond, find, length, nat_lt, Option, Some, None, is_some, option_map, refl, nat_le}
+use Rattle.std.specs.Prelude.{◌≡◌, ℕ, ◌^◌, ◌<◌, ◌≤◌, Bool, true, false, ◌&&◌, ◌||◌, not, List, [], ◌∷◌, cond, find, length, nat_lt, Option, Some, None, is_some, option_map, refl}
 use Rattle.std.proofs.Common.{ap, subst}
 use Rattle.std.proofs.lemmas.Bool.{leb-false, ltb-false, not-false}
 use Rattle.sd_num.specs.Lists.{map_or}
 use Rattle.sd_num.proofs.Shared.{or_first}
 use Rattle.sd_sched.specs.declared.Event.{Event}
-use Rattle.sd_sched.specs.Events.{reference_of, device_of, counter_of, link_of, message_of, received, started, joined, given, is_stage}
+use Rattle.sd_sched.specs.Events.{reference_of, device_of, counter_of, message_of, started, joined, given}
 use Rattle.sd_history.specs.Things.{failure_of, mended}
 use Rattle.sd_history.specs.Refusals.{makes_some}
 use Rattle.sd_history.specs.flights.Flights.{says_unknown, says_spent}
-use Rattle.sd_world.specs.world.Registers.{up_at, reading_at, is_open}
+use Rattle.sd_world.specs.world.Registers.{up_at, reading_at}
 use Rattle.sd_world.specs.membership.Memberships.{is_in_force, is_in_staged}
 use Rattle.sd_fleet.specs.Registers.{Registers}
-use Rattle.sd_fleet.specs.Causes.{Cause, first_of, causes_in, refusal_in, flight_at, is_for_another}
+use Rattle.sd_fleet.specs.Causes.{Cause, first_of, causes_in, refusal_in, flight_at}
 use Rattle.sd_fleet.proofs.Alike.{in_range}
 
 -- none of the causes holds
@@ -52,22 +52,12 @@ module _ (r : Registers) (e : Event) (accepted : refusal_in r e ≡ None) where
   pub device_known : (d : ℕ) → device_of e ≡ Some d → d < length r.net.devices
   device_known d is = in_range (length r.net.devices) (device_of e) d all.0 is
 
-  pub link_known : (l : ℕ) → link_of e ≡ Some l → l < length r.net.links
-  link_known l is = in_range (length r.net.links) (link_of e) l all.1.0 is
-
   -- its message is on its way
   pub message_known : (n : ℕ) → message_of e ≡ Some n → says_unknown (flight_at r n) ≡ false
   message_known n is = fails_at (message_of e) (λ n. says_unknown (flight_at r n)) n all.1.1.1.1.0 is
 
   pub message_unspent : (n : ℕ) → message_of e ≡ Some n → says_spent (reference_of e) (flight_at r n) ≡ false
   message_unspent n is = fails_at (message_of e) (λ n. says_spent (reference_of e) (flight_at r n)) n all.1.1.1.1.1.0 is
-
-  pub message_ours : (n : ℕ) → received e ≡ Some n → is_for_another (device_of e) (flight_at r n) ≡ false
-  message_ours n is = fails_at (received e) (λ n. is_for_another (device_of e) (flight_at r n)) n all.1.1.1.1.1.1.0 is
-
-  -- time and counters do not fall
-  pub reference_rises : r.membership.world.reference ≤ reference_of e
-  reference_rises = ltb-false (reference_of e) r.membership.world.reference all.1.1.1.1.1.1.1.0
 
   pub counter_rises : (d c : ℕ) → makes_some e ≡ false → device_of e ≡ Some d → counter_of e ≡ Some c → reading_at r.membership.world d ≤ c
   counter_rises d c makes named read =
@@ -103,20 +93,3 @@ module _ (r : Registers) (e : Event) (accepted : refusal_in r e ≡ None) where
 
   pub events_left : r.membership.world.events < 2 ^ 26
   events_left = leb-false (2 ^ 26) r.membership.world.events all.1.1.1.1.1.1.1.1.1.1.1.1.1.1.1.1.0
-
-  -- a stage has a plan left
-  pub plan_left : is_stage e ≡ true → r.membership.world.epoch < length r.membership.plans
-  plan_left stage =
-      let shut = four _ _ _ _ _ all.1.1.1.1.1.1.1.1.1.1.1.1.0 in
-      leb-false (length r.membership.plans) r.membership.world.epoch
-      (by (is_stage e) (is_open r.membership.world.window) (nat_le (length r.membership.plans) r.membership.world.epoch) stage shut
-      all.1.1.1.1.1.1.1.1.1.1.1.0)
-    where
-      four : (a b c d e : Bool) → (a || b || c || d || e) ≡ false → a ≡ false
-      four true b c d e none = none
-      four false b c d e none = refl
-
-      by : (s o m : Bool) → s ≡ true → (s && o) ≡ false → (s && not o && m) ≡ false → m ≡ false
-      by true false m is closed left = left
-      by true true m is closed left = cc
-      by false o m is closed left = cc

@@ -2,7 +2,6 @@
 use Rattle.std.specs.Prelude.{◌≡◌, ◌≢◌, ℕ, zero, suc, ◌+◌, ◌^◌, ◌<◌, ◌≤◌, Bool, true, false, List, [], ◌∷◌, ◌++◌, length, replicate, Option, Some, None, option_map, IsTrue, IfSome, refl}
 use Rattle.std.proofs.Common.{arith, sym, ◌∙◌, ap, subst, inl, inr, add-one}
 use Rattle.sd_plan.specs.topo.Network.{Network, Each}
-use Rattle.sd_device.specs.declared.msg.Flight.{Flight}
 use Rattle.std.proofs.lemmas.Option.{same_Some}
 use Rattle.sd_num.specs.Lists.{map_or}
 use Rattle.sd_plan.specs.declared.Duty.{Duty}
@@ -18,8 +17,6 @@ use Rattle.sd_history.specs.Steps.{Step}
 use Rattle.sd_history.specs.Steps as steps
 use Rattle.sd_history.specs.Nodes.{NodeStep, IsRun, steps_of, node_in}
 use Rattle.sd_world.proofs.world.Answers.{up_stands}
-use Rattle.sd_world.specs.membership.Memberships as membership
-use Rattle.sd_world.specs.membership.Standing as standing
 use Rattle.sd_fleet.specs.declared.Reply.{Reply}
 use Rattle.sd_fleet.specs.declared.Outcome.{Outcome}
 use Rattle.sd_fleet.specs.Registers.{Registers}

@@ -5,13 +5,12 @@ use Rattle.std.proofs.lemmas.Bool.{and_parts, ltb-true, leb-true, eqb-true, eq-e
 use Rattle.sd_plan.specs.declared.topo.Thing.TheVariants as thing
 use Rattle.sd_device.specs.declared.msg.Flight.{Flight}
 use Rattle.sd_device.specs.declared.msg.TakeFault.{TakeFault}
-use Rattle.sd_sched.specs.declared.Event.{Event}
 use Rattle.sd_sched.specs.declared.Event.TheVariants as event
 use Rattle.sd_history.specs.flights.Flights.{says_unknown, says_spent}
 use Rattle.sd_world.specs.world.Registers.{up_at, failed_at, reading_at, admits_call}
 use Rattle.sd_fleet.specs.Registers.{Registers}
 use Rattle.sd_fleet.specs.Causes.{Cause, first_of, causes_in, refusal_in, flight_at, is_for_another}
-use Rattle.sd_fleet.specs.Calm.{is_on_time, is_calm}
+use Rattle.sd_fleet.specs.Calm.{is_on_time}
 use Rattle.sd_fleet.specs.Sound.{IsSound}
 use Rattle.sd_fleet.proofs.Admitted.{NoneHolds, none_holds}
 use Rattle.sd_fleet.proofs.Firsts.{behind}

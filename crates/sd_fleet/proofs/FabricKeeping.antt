@@ -1,7 +1,7 @@
 -- What an accepted event asks of the parts of a fabric, and that a fabric stays sound.
-use Rattle.std.specs.Prelude.{◌≡◌, ℕ, ◌+◌, ◌^◌, ◌<◌, ◌≤◌, Bool, true, false, ◌&&◌, ◌||◌, List, [], length, find, filter, nat_eq, nat_le, ok_or, is_ok, Option, Some, None, IfSome, IsOk, IsOkAnd, Result, Ok, Err, refl, if◌then◌else◌}
+use Rattle.std.specs.Prelude.{◌≡◌, ℕ, ◌+◌, ◌^◌, ◌<◌, ◌≤◌, Bool, true, false, ◌&&◌, ◌||◌, List, [], length, filter, nat_eq, nat_le, is_ok, Option, Some, None, IfSome, IsOk, IsOkAnd, Result, Ok, Err, refl, if◌then◌else◌}
 use Rattle.std.proofs.Common.{arith, sym, ◌∙◌, ap, subst, inl, inr}
-use Rattle.std.proofs.lemmas.Bool.{and_parts, or_cases, eqb-true, ne_eqb, leb-true, ltb-false, le-leb, lt-ltb, not-false}
+use Rattle.std.proofs.lemmas.Bool.{and_parts, or_cases, eqb-true, leb-true, le-leb, lt-ltb}
 use Rattle.sd_num.specs.Lists.{map_or}
 use Rattle.sd_plan.specs.topo.Network.{Network, Each}
 use Rattle.sd_plan.specs.topo.Limits.{IsNetwork}
@@ -9,19 +9,17 @@ use Rattle.sd_plan.specs.declared.End.{End}
 use Rattle.sd_plan.specs.Tables.{TableRow}
 use Rattle.sd_device.specs.declared.msg.Flight.{Flight}
 use Rattle.sd_device.specs.declared.msg.TakeFault.{TakeFault}
-use Rattle.sd_device.specs.declared.msg.TakeFault.TheVariants as take
-use Rattle.sd_device.specs.msg.Books.{Book, AreGiven, has_number, is_given, found, dismissed, is_current}
+use Rattle.sd_device.specs.msg.Books.{Book, AreGiven, found, dismissed, is_current}
 use Rattle.sd_device.specs.declared.Effect.{Effect}
 use Rattle.sd_device.specs.declared.Effect.TheVariants.{Quiet, Send}
 use Rattle.sd_sched.specs.declared.Event.{Event}
 use Rattle.sd_sched.specs.declared.Event.TheVariants as event
-use Rattle.sd_sched.specs.Events.{reference_of, device_of, link_of}
+use Rattle.sd_sched.specs.Events.{reference_of, device_of}
 use Rattle.sd_sched.specs.Spelled.{is_within}
 use Rattle.sd_history.specs.World.{Setting}
 use Rattle.sd_world.specs.membership.Standing as standing
-use Rattle.sd_history.specs.flights.Flights.{says_unknown, says_spent}
 use Rattle.sd_history.proofs.flights.Booking.{found_kept}
-use Rattle.sd_world.specs.world.Registers.{is_open, HasNamed}
+use Rattle.sd_world.specs.world.Registers.{is_open}
 use Rattle.sd_world.proofs.world.Slots.{length_links}
 use Rattle.sd_world.specs.declared.membership.AnswerSummary.{AnswerSummary}
 use Rattle.sd_world.specs.membership.Plans.{IsNumber, IsEnd, IsSoundRow, AreTables, row_numbered}
@@ -30,14 +28,14 @@ use Rattle.sd_world.specs.membership.Memberships.{staged_number, is_current_numb
 use Rattle.sd_world.proofs.membership.Observing.{length_answers}
 use Rattle.sd_fleet.specs.declared.Reply.{Reply}
 use Rattle.sd_fleet.specs.Registers.{Registers, kept, size_of}
-use Rattle.sd_fleet.specs.Causes.{refusal_in, is_for_another}
+use Rattle.sd_fleet.specs.Causes.{refusal_in}
 use Rattle.sd_fleet.specs.Calm.{is_on_time}
 use Rattle.sd_fleet.specs.Doing.{IsReplyTo}
 use Rattle.sd_fleet.specs.Room.{ends_in, most_sent_in}
 use Rattle.sd_fleet.specs.Sending.{sent_by, sent_in}
 use Rattle.sd_fleet.specs.Sound.{IsSound}
-use Rattle.sd_fleet.specs.Stepping.{CanDeliver, membership_after, IsAfter}
-use Rattle.sd_fleet.proofs.Admitted.{device_known, link_known, message_known, message_unspent, message_ours, events_left}
+use Rattle.sd_fleet.specs.Stepping.{membership_after, IsAfter}
+use Rattle.sd_fleet.proofs.Admitted.{device_known, events_left}
 use Rattle.sd_fleet.proofs.Adding.{length-over}
 use Rattle.sd_fleet.proofs.Replies.{sent_quiet}
 

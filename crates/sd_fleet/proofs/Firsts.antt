@@ -1,20 +1,12 @@
 -- The first cause that holds, found one by one.
-use Rattle.std.specs.Prelude.{◌≡◌, ℕ, ◌<◌, Bool, true, false, List, ◌∷◌, ◌++◌, cond, find, nat_le, length, Option, Some, None, is_some, option_map, IfSome, refl}
+use Rattle.std.specs.Prelude.{◌≡◌, Bool, true, false, List, ◌∷◌, ◌++◌, cond, find, Option, Some, None, is_some, option_map, refl}
 use Rattle.std.specs.Option.{option_or}
 use Rattle.std.proofs.Common.{sym, ◌∙◌, ap}
-use Rattle.std.proofs.lemmas.Bool.{leb-false}
 use Rattle.std.proofs.lemmas.List.Folds.{find-append}
-use Rattle.sd_num.specs.Lists.{map_or}
 use Rattle.sd_sched.specs.declared.Event.{Event}
-use Rattle.sd_sched.specs.Events.{device_of, link_of}
 use Rattle.sd_history.specs.declared.ApplyFault.{ApplyFault}
 use Rattle.sd_fleet.specs.Registers.{Registers}
 use Rattle.sd_fleet.specs.Causes.{Cause, first_of, place_causes, message_causes, device_causes, window_causes, late_causes, refusal_in}
-use Rattle.sd_fleet.proofs.Admitted.{NoneHolds, none_holds}
-
--- it is the first, or one after it
-pub here : (f : ApplyFault) (b : Bool) (rest : List Cause) → b ≡ true → Some f ≡ first_of ((f, b) ∷ rest)
-here f b rest holds = sym (ap (λ t. option_map (λ (c : Cause). c.0) (cond t (Some (f, b)) (find (λ (c : Cause). c.1) rest))) holds)
 
 pub behind : (f : ApplyFault) (b : Bool) (rest : List Cause) (o : Option ApplyFault) → b ≡ false → o ≡ first_of rest → o ≡ first_of ((f, b) ∷ rest)
 behind f b rest o fails is = is ∙ sym (ap (λ t. option_map (λ (c : Cause). c.0) (cond t (Some (f, b)) (find (λ (c : Cause). c.1) rest))) fails)
@@ -28,19 +20,6 @@ or_mapped (Some c) b = refl
 pub joined_first : (xs ys : List Cause) → first_of (xs ++ ys) ≡ option_or (first_of xs) (first_of ys)
 joined_first xs ys = ap (option_map (λ (c : Cause). c.0)) (find-append (λ (c : Cause). c.1) xs ys)
     ∙ or_mapped (find (λ (c : Cause). c.1) xs) (find (λ (c : Cause). c.1) ys)
-
--- what is named is in range where the test for too great numbers fails
-pub ranged : (bound : ℕ) (o : Option ℕ) → map_or o false (nat_le bound) ≡ false → IfSome o (λ n. n < bound)
-ranged bound None small = tt
-ranged bound (Some n) small = leb-false bound n small
-
--- What the place of an event shows
-
-pub place_known : (r : Registers) (e : Event) → first_of (place_causes r e) ≡ None
-    → IfSome (device_of e) (λ d. d < length r.net.devices) × IfSome (link_of e) (λ l. l < length r.net.links)
-place_known r e none =
-    let all : NoneHolds (place_causes r e) = none_holds (place_causes r e) none in
-    (ranged (length r.net.devices) (device_of e) all.0, ranged (length r.net.links) (link_of e) all.1.0)
 
 -- All parts
 
@@ -93,12 +72,6 @@ module _ (r : Registers) (e : Event) where
   pub at_place : is_some place ≡ true → place ≡ refusal_in r e
   at_place some = some_or place (option_or message (option_or device (option_or window late))) some ∙ refusal_parts r e
 
-  pub at_message : is_some place ≡ false → is_some message ≡ true → message ≡ refusal_in r e
-  at_message none some =
-      some_or message (option_or device (option_or window late)) some
-      ∙ none_or place (option_or message (option_or device (option_or window late))) none
-      ∙ refusal_parts r e
-
   pub at_device : is_some place ≡ false → is_some message ≡ false → is_some device ≡ true → device ≡ refusal_in r e
   at_device none nor some =
       some_or device (option_or window late) some
@@ -121,10 +94,3 @@ module _ (r : Registers) (e : Event) where
       ∙ none_or message (option_or device (option_or window late)) nor
       ∙ none_or place (option_or message (option_or device (option_or window late))) none
       ∙ refusal_parts r e
-
-  pub known_after : is_some place ≡ false → IfSome (device_of e) (λ d. d < length r.net.devices) × IfSome (link_of e) (λ l. l < length r.net.links)
-  known_after none = place_known r e (none_of place none)
-    where
-      none_of : (o : Option ApplyFault) → is_some o ≡ false → o ≡ None
-      none_of None none' = refl
-      none_of (Some f) none' = cc

@@ -11,7 +11,7 @@ use Rattle.sd_history.specs.World.{Setting, Seen, window, window_is_open, staged
 use Rattle.sd_history.specs.Steps.{Told, Step, seen_of, epoch_in, acts_in, taken_by, acted_by, activated_by, has_turned, first_step, step_of}
 use Rattle.sd_history.specs.Lines.{asked_report}
 use Rattle.sd_world.specs.membership.Memberships as memberships
-use Rattle.sd_world.specs.membership.Memberships.{staged_number, is_of, acts_at, can_close_in}
+use Rattle.sd_world.specs.membership.Memberships.{staged_number, is_of, acts_at}
 use Rattle.sd_world.specs.membership.Standing as standing
 use Rattle.sd_world.proofs.membership.Queries.{is_of_is, acts_is, staged_number_is}
 use Rattle.sd_fleet.specs.declared.Reply.{Reply}

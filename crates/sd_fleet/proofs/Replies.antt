@@ -15,22 +15,10 @@ use Rattle.sd_world.specs.declared.membership.AnswerSummary.{AnswerSummary}
 use Rattle.sd_world.specs.membership.Memberships.{ends_below}
 use Rattle.sd_fleet.specs.declared.Reply.{Reply}
 use Rattle.sd_fleet.specs.Registers.{Registers}
-use Rattle.sd_fleet.specs.Sending.{Covers, flights_over, sent_by, sent_in}
-use Rattle.sd_fleet.specs.Sound.{IsSound}
+use Rattle.sd_fleet.specs.Sending.{sent_by, sent_in}
 use Rattle.sd_fleet.proofs.Adding.{length-over}
 
 module _ (r : Registers) (e : Event) (reply : Reply) where
-  pub sent_nobody : device_of e ≡ None → sent_in r e reply ≡ []
-  sent_nobody none = ap (λ o. map_or o [] (λ d. map_or reply.answers [] (λ (a : AnswerSummary). sent_by r (reference_of e) d a.epoch reply.effect))) none
-
-  pub sent_unanswered : reply.answers ≡ None → sent_in r e reply ≡ []
-  sent_unanswered none = ap (λ o. map_or (device_of e) [] (λ d. map_or o [] (λ (a : AnswerSummary). sent_by r (reference_of e) d a.epoch reply.effect))) none
-      ∙ by (device_of e)
-    where
-      by : (o : Option ℕ) → ◌≡◌ {A = List Flight} (map_or o [] (λ d. [])) []
-      by None = refl
-      by (Some d) = refl
-
   pub sent_quiet : reply.effect ≡ Quiet → sent_in r e reply ≡ []
   sent_quiet quiet = ap (λ x. map_or (device_of e) [] (λ d. map_or reply.answers [] (λ (a : AnswerSummary). sent_by r (reference_of e) d a.epoch x))) quiet
       ∙ by (device_of e) reply.answers
@@ -39,14 +27,6 @@ module _ (r : Registers) (e : Event) (reply : Reply) where
       by None a = refl
       by (Some d) None = refl
       by (Some d) (Some a) = refl
-
-  pub sent_over : (d : ℕ) (a : AnswerSummary) (m : Message) → device_of e ≡ Some d → reply.answers ≡ Some a → reply.effect ≡ Send m
-      → sent_in r e reply ≡ flights_over r.net r.membership.world (record { reference = reference_of e; sender = d; message = m }) (r.book.last + 1)
-      (ends_below r.membership a.epoch d)
-  sent_over d a m named answered sends =
-      ap (λ o. map_or o [] (λ d. map_or reply.answers [] (λ (a : AnswerSummary). sent_by r (reference_of e) d a.epoch reply.effect))) named
-      ∙ ap (λ o. map_or o [] (λ (a : AnswerSummary). sent_by r (reference_of e) d a.epoch reply.effect)) answered
-      ∙ ap (sent_by r (reference_of e) d a.epoch) sends
 
 -- what a device that answers sends
 pub sent_as : (r : Registers) (e : Event) (reply : Reply) (reference : ℕ) (device : Option ℕ) (d : ℕ) (a : AnswerSummary) → reference ≡ reference_of e

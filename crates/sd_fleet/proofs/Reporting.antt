@@ -1,13 +1,11 @@
 -- What an accepted event reports and sends stays within its limits.
-use Rattle.std.specs.Prelude.{◌≡◌, ℕ, ◌+◌, ◌*◌, ◌^◌, ◌≤◌, List, Option, Some, None, option_map, IfSome, refl}
-use Rattle.std.proofs.Common.{arith, sym, ◌∙◌, ap, subst}
+use Rattle.std.specs.Prelude.{◌≡◌, ℕ, ◌+◌, ◌*◌, ◌^◌, ◌≤◌, List, Option, Some, None, option_map, IfSome}
+use Rattle.std.proofs.Common.{arith, sym, ap, subst}
 use Rattle.sd_num.specs.declared.clock.Report.{Report}
 use Rattle.sd_device.specs.declared.node.Node.{Ghosts}
 use Rattle.sd_sched.specs.declared.Event.{Event}
 use Rattle.sd_sched.specs.declared.Event.TheVariants as event
 use Rattle.sd_sched.specs.Events.{is_ask}
-use Rattle.sd_world.specs.membership.Memberships as membership
-use Rattle.sd_plan.specs.topo.Network.{Network}
 use Rattle.sd_history.specs.Steps.{Act}
 use Rattle.sd_fleet.specs.declared.Reply.{Reply}
 use Rattle.sd_fleet.specs.declared.Outcome.{Outcome}
@@ -15,7 +13,7 @@ use Rattle.sd_fleet.specs.Registers.{Registers}
 use Rattle.sd_fleet.specs.Causes.{refusal_in}
 use Rattle.sd_fleet.specs.Doing.{act_in, IsReplyTo}
 use Rattle.sd_fleet.specs.Room.{most_sent_in}
-use Rattle.sd_fleet.specs.Stepping.{OnlyRoomGrew, outcome_in, report_in}
+use Rattle.sd_fleet.specs.Stepping.{outcome_in, report_in}
 use Rattle.sd_fleet.proofs.FabricKeeping.{sent_room}
 use Rattle.sd_fleet.specs.declared.nodes.CallContext.{CallContext}
 use Rattle.sd_fleet.specs.Calling.{rise, IsLimited}

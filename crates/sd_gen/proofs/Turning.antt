@@ -10,7 +10,7 @@ use Rattle.sd_gen.specs.declared.driven.Driven.{Ghosts}
 use Rattle.sd_gen.specs.declared.driver.Driver.{Driver}
 use Rattle.sd_gen.specs.declared.turns.Turn.{Turn}
 use Rattle.sd_gen.specs.declared.turns.Turn.TheVariants as turn
-use Rattle.sd_gen.specs.Drafts.{Draft, each, try, try_if_up, try_each_up, start_of, with_starts, word_of, behind_word, ask_of_word}
+use Rattle.sd_gen.specs.Drafts.{Draft, each, try, try_if_up, start_of, word_of, behind_word, ask_of_word}
 use Rattle.sd_gen.specs.Turns.{event_by}
 use Rattle.sd_gen.specs.Standing.{StandsFor, Becomes, HasDevices}
 use Rattle.sd_gen.proofs.Each.{each_below_more}
@@ -44,12 +44,6 @@ pub start_more : {D : Type 0} (g : Ghosts D) (first old new : Driver D) (d : ℕ
 start_more g first old new d before one setting x stands =
     subst (λ y. StandsFor g new setting y) (sym (each_below_more (λ k. try setting (start_of setting k)) d x))
     (one setting (some_started d setting x) (before setting x stands))
-
-pub start_all : {D : Type 0} (g : Ghosts D) (first new : Driver D) (n : ℕ) → HasDevices g first n
-    → ((setting : Setting) (x : Draft) → StandsFor g first setting x → StandsFor g new setting (some_started n setting x))
-    → (setting : Setting) (x : Draft) → StandsFor g first setting x → StandsFor g new setting (with_starts setting x)
-start_all g first new n is done setting x stands =
-    subst (λ (k : ℕ). StandsFor g new setting (some_started k setting x)) (is setting x stands) (done setting x stands)
 
 -- a word is drawn
 drawn_on : {D : Type 0} (g : Ghosts D) (old : Driver D) (random : Lcg) (word : ℕ) (setting : Setting) (x : Draft)

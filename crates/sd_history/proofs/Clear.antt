@@ -7,7 +7,7 @@ use Rattle.sd_history.specs.World.{Setting}
 use Rattle.sd_history.specs.Steps.{Step, seen_of}
 use Rattle.sd_history.specs.Refusals.{causes, refusal, too_many, unknown_device, unknown_link, dead_device, dead_link, unknown_message, spent_message, wrong_device, time_falls, counter_falls, not_started, started_twice, no_plan_left, window_order, after_end, not_failed, not_member}
 use Rattle.sd_history.specs.Admitted.{Admits}
-use Rattle.sd_history.proofs.Among.{Among, first, later}
+use Rattle.sd_history.proofs.Among.{first, later}
 use Rattle.sd_history.proofs.Admitted.{rule_holds, accepted_is_admitted}
 use Rattle.sd_history.proofs.Shared.{none_passes}
 

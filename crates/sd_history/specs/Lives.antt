@@ -2,7 +2,6 @@
 use Rattle.std.specs.Prelude.{ℕ, List, ◌∷◌, nat_eq, Option, Some, None, option_map, if◌then◌else◌, []}
 use Rattle.sd_num.specs.declared.clock.Report.{Report}
 use Rattle.sd_device.specs.declared.Effect.TheVariants.{Quiet}
-use Rattle.sd_device.specs.Calls as calls
 use Rattle.sd_device.specs.Living.{Life}
 use Rattle.sd_history.specs.Steps.{Act, Told, Step, Makes, Calls, Asks, Passes}
 

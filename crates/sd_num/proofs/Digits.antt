@@ -1,14 +1,13 @@
 -- How far the digits of a text go and what they mean, one byte after the other.
-use Rattle.std.proofs.Common.{◌≡◌, ℕ, ◌+◌, ◌-◌, ◌*◌, ◌^◌, ◌<◌, ◌≤◌, Bool, true, false, not, cond, ◌&&◌, List, [], ◌∷◌, Some, None, Err, length, take, drop, get_or, ◌++◌, refl, ap, ◌∙◌, arith, add-one, drop-cons, suc}
+use Rattle.std.proofs.Common.{◌≡◌, ℕ, ◌+◌, ◌-◌, ◌*◌, ◌^◌, ◌<◌, ◌≤◌, Bool, true, false, not, cond, ◌&&◌, List, [], ◌∷◌, Some, None, length, take, drop, get_or, ◌++◌, refl, ap, ◌∙◌, arith, add-one, drop-cons, suc}
 use Rattle.std.proofs.Math.Nat.{pow-suc, pow-le-pow_right, one-le-pow}
 use Rattle.std.proofs.lemmas.Bool.{le-ltb, lt-ltb, cond-true, cond-false, and_parts, leb-true, ltb-false}
 use Rattle.std.proofs.lemmas.List.{drop_all, take_more, length_push}
 use Rattle.std.proofs.lemmas.List.Folds.{list_all-append}
 use Rattle.std.specs.Prelude.{nat_lt, nat_le}
-use Rattle.std.specs.List.{position, position_or_len, list_all}
-use Rattle.sd_num.specs.Decimals.{is_digit, value, number, number_of_digits}
+use Rattle.std.specs.List.{position, list_all}
+use Rattle.sd_num.specs.Decimals.{is_digit, value}
 use Rattle.sd_num.specs.Digits.{leading_digits}
-use Rattle.sd_num.specs.declared.NumFault.TheVariants.{NotDigit}
 
 digit_first : (t : Bool) (i n : ℕ) → t ≡ true → i + cond (not (not t)) (1 + n) 0 ≡ suc i + n
 digit_first true i n h = omega arith
@@ -18,10 +17,6 @@ digit_first false i n h = cc
 pub leading_digits-drop : (bs : List ℕ) (i : ℕ) → i < length bs → is_digit (get_or bs i 0) ≡ true
     → i + leading_digits (drop i bs) ≡ (i + 1) + leading_digits (drop (i + 1) bs)
 leading_digits-drop bs i h t = rw (add-one, drop-cons bs i 0) (digit_first (is_digit (get_or bs i 0)) i (leading_digits (drop (suc i) bs)) t)
-
-other_first : (t : Bool) (n : ℕ) → t ≡ false → cond (not (not t)) (1 + n) 0 ≡ 0
-other_first true n h = cc
-other_first false n h = refl
 
 regroup : (v d p w : ℕ) → v * (p * 10) + (d * p + w) ≡ (v * 10 + d) * p + w
 regroup v d p w = omega arith
@@ -61,10 +56,6 @@ pub digits_fit : (v i : ℕ) → i ≤ 18 → v < 10 ^ i → v * 10 + 9 < 2 ^ 64
 digits_fit v i h k =
     let most : 10 ^ i ≤ 10 ^ 18 = pow-le-pow_right (omega arith) h in
     omega (arith, most, k)
-
--- of digits alone
-pub number_of_all : (b : ℕ) (bs : List ℕ) → leading_digits (b ∷ bs) ≡ length (b ∷ bs) → number (b ∷ bs) ≡ number_of_digits (b ∷ bs)
-number_of_all b bs e = rw (e, le-ltb (length (b ∷ bs)) (length (b ∷ bs)) (omega arith)) refl
 
 -- a digit counts for less than ten
 pub digit_small : (b : ℕ) → is_digit b ≡ true → b - 48 < 10

@@ -1,4 +1,3 @@
-pub mod Versions
 mod Rows
 pub mod Steps
 pub mod Fitting

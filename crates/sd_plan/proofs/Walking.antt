@@ -33,7 +33,3 @@ walks_on plan (suc n) here hop some other primary =
     ap (end_of here) (no_root (is_root plan here) [] (hops (is_root plan) plan (suc n) here) other)
     ∙ step (is_root plan) (primary_of plan here) (hops (is_root plan) plan n) here hop primary
     ∙ ap (λ (m : ℕ). end_of hop.parent (hops_left plan m hop.parent)) (less_one n)
-
--- at the root a walk ends
-pub ends_at_root : (plan : Plan) (left here : ℕ) → is_root plan here ≡ true → end_of here (hops_left plan left here) ≡ here
-ends_at_root plan left here root = subst (λ (c : Bool). end_of here (if c then [] else hops (is_root plan) plan left here) ≡ here) (sym root) refl

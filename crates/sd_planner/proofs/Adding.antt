@@ -1,14 +1,11 @@
 -- Flags that are added step by step.
-use Rattle.std.proofs.Common.{◌≡◌, ℕ, zero, suc, ◌+◌, ◌<◌, ◌≤◌, Bool, true, false, ◌&&◌, ◌||◌, List, [], ◌∷◌, length, nat_eq, replicate, Some, None, slice_get, if◌then◌else◌, ◌⊎◌, refl, sym, ap, ◌∙◌, subst, arith, add-one, inl, inr}
+use Rattle.std.proofs.Common.{◌≡◌, ℕ, zero, suc, ◌+◌, ◌<◌, ◌≤◌, Bool, true, false, ◌||◌, List, [], ◌∷◌, length, nat_eq, replicate, Some, None, slice_get, ◌⊎◌, refl, sym, ap, ◌∙◌, subst, arith, inl, inr}
 use Rattle.std.specs.Prelude.{option_and_then}
-use Rattle.std.specs.List.{list_any}
 use Rattle.std.proofs.lemmas.Bool.{cases_lt}
 use Rattle.std.proofs.lemmas.List.{length-replicate, get_or-replicate, get_or_past}
-use Rattle.std.proofs.lemmas.List.Folds.{list_any-append}
 use Rattle.std.proofs.lemmas.Option.{same_Some}
-use Rattle.sd_num.specs.Lists.{below, has}
+use Rattle.sd_num.specs.Lists.{has}
 use Rattle.sd_plan.specs.topo.Network.{Network}
-use Rattle.sd_plan.specs.topo.Places.{domain_of}
 use Rattle.sd_plan.specs.declared.Absent.{Absent}
 use Rattle.sd_plan.specs.declared.Hop.{Hop}
 use Rattle.sd_plan.specs.Walks.{links_of}
@@ -17,8 +14,8 @@ use Rattle.sd_planner.specs.declared.placement.Placed.{Placed}
 use Rattle.sd_planner.specs.Spreading.{placed_at}
 use Rattle.sd_planner.specs.Trees.{Grows}
 use Rattle.sd_planner.specs.Climbs.{way_up}
-use Rattle.sd_planner.specs.Flags.{is_set, AreSet}
-use Rattle.sd_planner.specs.Things.{AddsAll, meets, met_device, met_link, parents_of}
+use Rattle.sd_planner.specs.Flags.{is_set}
+use Rattle.sd_planner.specs.Things.{AddsAll, parents_of}
 use Rattle.sd_planner.specs.declared.backups.things.Things.{Things}
 use Rattle.sd_planner.proofs.Growing.{found_own}
 use Rattle.sd_planner.proofs.Trees.{stands, behind, way_step, way_none}
@@ -34,9 +31,6 @@ unset n x = by_less (cases_lt x n)
     by_less : (x < n) ⊎ (n ≤ x) → is_set (replicate n false) x ≡ false
     by_less (inl less) = get_or-replicate n x false false less
     by_less (inr past) = get_or_past (replicate n false) x false (rw (length-replicate n false) past)
-
-any_more : (test : ℕ → Bool) (n : ℕ) → list_any test (below (n + 1)) ≡ (list_any test (below n) || test n)
-any_more test n = rw add-one (list_any-append test (below n) (n ∷ []) ∙ ap (λ t. list_any test (below n) || t) (or_none (test n)))
 
 -- what is seen from a placed device that has a hop
 pub record GoesUp (net : Network) (list : List Placed) (p : Placed) (hop : Hop) : Type 0 where

@@ -8,13 +8,13 @@ use Rattle.std.proofs.lemmas.List.{append-nil}
 use Rattle.std.proofs.lemmas.List.Elements.{All-append, All-map, All-cons, All-nil, filter-append}
 use Rattle.std.proofs.lemmas.List.Folds.{find-append}
 use Rattle.sd_num.specs.Lists.{below, has}
-use Rattle.sd_plan.specs.topo.Network.{Network, device_numbers, link_numbers, link_of, joins}
+use Rattle.sd_plan.specs.topo.Network.{Network, link_numbers, link_of, joins}
 use Rattle.sd_planner.specs.declared.present.Neighbour.{Neighbour}
 use Rattle.sd_plan.specs.declared.Absent.{Absent}
 use Rattle.sd_plan.proofs.Numbered.{get_or-numbered, length-numbered}
 use Rattle.sd_planner.specs.Usable.{takes_part, is_usable, links_between, link_between, neighbours_of}
 use Rattle.sd_planner.specs.Neighbours.{all_neighbours}
-use Rattle.sd_planner.proofs.Turned.{neighbour_over, all_numbers}
+use Rattle.sd_planner.proofs.Turned.{neighbour_over}
 
 -- there are neighbours of each device
 pub neighbours_count : (net : Network) (absent : Absent) → length (all_neighbours net absent) ≡ length net.devices
@@ -61,14 +61,6 @@ neighbours_are net absent d =
     let (usable, joined) = and_parts (is_usable net absent l) (joins net l d y) passes in
     record { device = within; link = inside; usable = usable; joined = joined })))
 
--- over links
-pub links_within : (net : Network) (absent : Absent) → All (λ list. All (λ neighbour. neighbour.link < length net.links) list) (all_neighbours net absent)
-unfolding all_neighbours
-links_within net absent =
-    All-map (λ (list : List Neighbour). All (λ (neighbour : Neighbour). neighbour.link < length net.links) list) (neighbours_of net absent) (device_numbers net)
-    (all_numbers (λ d. All (λ (neighbour : Neighbour). neighbour.link < length net.links) (neighbours_of net absent d)) (length net.devices) (λ d within.
-    (λ k neighbour inside. (neighbours_are net absent d k neighbour inside).link)))
-
 -- both ends of a usable link take part
 pub usable_ends : (net : Network) (absent : Absent) (l d y : ℕ) → is_usable net absent l ≡ true → joins net l d y ≡ true
     → (takes_part net absent d ≡ true) × (takes_part net absent y ≡ true)
@@ -91,17 +83,6 @@ usable_ends net absent l d y usable joined =
                 (eqb-true (link_of net l).end_a y p) first,
           ))
     ]
-
--- a device that is absent has no neighbours
-pub no_neighbours : (net : Network) (absent : Absent) (d : ℕ) → takes_part net absent d ≡ false → neighbours_of net absent d ≡ []
-no_neighbours net absent d out = by_list (neighbours_of net absent d) (neighbours_are net absent d)
-  where
-    by_list : (neighbours : List Neighbour) → All (IsNeighbourOf net absent d) neighbours → neighbours ≡ []
-    by_list [] are = refl
-    by_list (neighbour ∷ neighbours) are =
-        let is : IsNeighbourOf net absent d neighbour = are 0 neighbour (omega arith) in
-        let there = (usable_ends net absent neighbour.link d neighbour.device is.usable is.joined).0 in
-        cc
 
 -- a neighbour to another device
 other_first : (y z : ℕ) → (y ≡ z → ⊥) → (links : List ℕ) → find (λ (neighbour : Neighbour). nat_eq neighbour.device z) (map (neighbour_over y) links) ≡ None

@@ -14,10 +14,6 @@ use Rattle.sd_planner.proofs.Trees.{behind, over_step, over_first}
 
 module _ (net : Network) (root : ℕ) (absent : Absent) (list : List Placed) (tree : Grows net root absent list) (devices links : List Bool)
     (sized : length devices ≡ length net.devices) where
-  -- nothing is known of none
-  pub over_none : (flags : List Bool) → length flags ≡ length devices → AreOver devices links list 0 flags
-  over_none flags size = record { size = size; each = λ i p before at. absurd (omega arith) }
-
   regroup : (a b c : Bool) → (a || (b || c)) ≡ ((a || b) || c)
   regroup true b c = refl
   regroup false b c = refl

@@ -1,12 +1,11 @@
 -- Lists of domains, a domain at a time.
-use Rattle.std.proofs.Common.{◌≡◌, ℕ, ◌+◌, ◌<◌, ◌≤◌, Bool, true, false, ◌&&◌, ◌||◌, List, [], ◌∷◌, ◌++◌, length, take, nat_eq, get_or, set, refl, sym, ap, ◌∙◌, arith, inl, inr}
-use Rattle.std.proofs.lemmas.Bool.{cases_lt, cases_eq, lt-ltb, le-ltb, ne_eqb, eq-eqb}
+use Rattle.std.proofs.Common.{◌≡◌, ℕ, ◌+◌, ◌<◌, Bool, true, false, ◌&&◌, ◌||◌, List, [], ◌∷◌, ◌++◌, length, take, nat_eq, get_or, set, refl, sym, ap, ◌∙◌, inl, inr}
+use Rattle.std.proofs.lemmas.Bool.{cases_eq, ne_eqb, eq-eqb}
 use Rattle.std.proofs.lemmas.List.{get_or-set_same, get_or-set_other, take_more}
 use Rattle.sd_num.specs.Lists.{has}
 use Rattle.sd_num.proofs.Places.{has_more}
 use Rattle.sd_plan.specs.Subtrees.{listed}
 use Rattle.sd_plan.proofs.Forest.{or_none}
-use Rattle.sd_planner.specs.Listed.{ListUnder}
 
 -- a thing more has the domain
 pub thing_more : (lists old : List (List ℕ)) (more : List ℕ) (domain : ℕ) (things : List ℕ) (i : ℕ) → i < length things → get_or things i 0 < length lists

@@ -1,7 +1,6 @@
 -- A greedy plan that was worked out by hand.
 use Rattle.std.specs.Prelude.{◌≡◌, ◌+◌, ◌*◌, [], ◌∷◌, Some, true, false, nat_le, refl}
 use Rattle.sd_plan.specs.topo.Network.{least_low, greatest_up}
-use Rattle.sd_plan.specs.declared.Absent.{Absent}
 use Rattle.sd_checker.specs.check_root.Timing.{silence}
 use Rattle.sd_plan.specs.Examples.{fabric, fabric_rows, hop}
 use Rattle.sd_plan.specs.Plans.{nothing_absent}

@@ -5,15 +5,9 @@ use Rattle.sd_plan.specs.topo.Network.{Network}
 use Rattle.sd_plan.proofs.topo.Versions.{with_version}
 use Rattle.sd_plan.specs.declared.Absent.{Absent}
 use Rattle.sd_plan.specs.declared.Plan.{Plan}
-use Rattle.sd_plan.proofs.Versions.{Fits-with_version}
-use Rattle.sd_checker.specs.declared.Verdict.TheVariants.{Accepted, Refused}
-use Rattle.sd_checker.proofs.Versions.{IsVerdict-with_version}
 use Rattle.sd_planner.specs.Placing.{placed}
 use Rattle.sd_planner.specs.Serving.{primaries, walk_up, greedy_rows}
 use Rattle.sd_planner.specs.Greedy.{IsLeastWait, IsGreedy}
-use Rattle.sd_planner.specs.Planning.{IsPlanned}
-use Rattle.sd_planner.specs.declared.Planned.{Planned}
-use Rattle.sd_planner.specs.declared.Planned.TheVariants as planned
 
 module _ (v w : ℕ) (net : Network) where
   pub IsLeastWait-with_version : (long x : ℕ) → IsLeastWait (with_version v net) long x → IsLeastWait (with_version w net) long x
@@ -35,9 +29,3 @@ module _ (v w : ℕ) (net : Network) where
           second = IsLeastWait-with_version _ plan.wait_second greedy.second;
           ordinary = IsLeastWait-with_version _ plan.wait greedy.ordinary;
         }
-
-    pub IsPlanned-with_version : (answer : Planned) → IsPlanned (with_version v net) root absent answer → IsPlanned (with_version w net) root absent answer
-    IsPlanned-with_version (planned.Plan plan) holds =
-        (IsGreedy-with_version plan holds.0, Fits-with_version v w net plan holds.1, IsVerdict-with_version v w net plan Accepted holds.2)
-    IsPlanned-with_version (planned.NoPlan plan breach) holds =
-        (IsGreedy-with_version plan holds.0, Fits-with_version v w net plan holds.1, IsVerdict-with_version v w net plan (Refused breach) holds.2)

@@ -1,5 +1,5 @@
 -- Which listed domains have a thing.
-use Rattle.std.specs.Prelude.{◌≡◌, ℕ, ◌&&◌, List, [], nat_lt}
+use Rattle.std.specs.Prelude.{◌≡◌, ℕ, ◌&&◌, List, nat_lt}
 use Rattle.sd_num.specs.Lists.{has}
 use Rattle.sd_plan.specs.topo.Network.{Network}
 use Rattle.sd_plan.specs.topo.Places.{domain_of}

@@ -1,7 +1,7 @@
 -- Which hops serve as backups of the placed devices, and the rows that this makes.
 use Rattle.std.specs.Prelude.{ℕ, Bool, ◌&&◌, ◌||◌, not, List, [], length, map, find, nat_eq, nat_lt, Option, None, option_map, option_and_then, if◌then◌else◌}
 use Rattle.std.specs.List.{list_any}
-use Rattle.sd_num.specs.Lists.{below, has}
+use Rattle.sd_num.specs.Lists.{has}
 use Rattle.sd_plan.specs.topo.Network.{Network, device_numbers}
 use Rattle.sd_plan.specs.domain.Domains.{domains, holds_device, holds_link, hits, listed_domains}
 use Rattle.sd_plan.specs.declared.domain.DomainId.{DomainId}

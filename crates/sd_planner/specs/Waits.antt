@@ -1,5 +1,5 @@
 -- The devices that wait for their place, as a set of numbers.
-use Rattle.std.specs.Prelude.{◌≡◌, ℕ, ◌≤◌, Bool, true, false, ◌&&◌, not, List, [], nat_eq, Option, Some, None}
+use Rattle.std.specs.Prelude.{◌≡◌, ℕ, ◌≤◌, Bool, true, false, ◌&&◌, not, List, nat_eq, Option, Some, None}
 use Rattle.std.specs.List.{list_any}
 use Rattle.sd_num.specs.Lists.{has}
 use Rattle.sd_plan.specs.topo.Network.{Network}

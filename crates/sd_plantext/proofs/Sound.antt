@@ -23,7 +23,7 @@ use Rattle.sd_plantext.specs.declared.fault.PlanKey.TheVariants as keys
 use Rattle.sd_plantext.specs.declared.fault.PlanFault.{PlanFault}
 use Rattle.sd_plantext.specs.declared.fault.PlanFault.TheVariants.{Range, TwiceNamed}
 use Rattle.sd_plantext.specs.Then.{◌>>=◌}
-use Rattle.sd_plantext.specs.Meaning.{place, value, allowed, there, of_kind, an_object, number, version_in, wait_in, known, referred, named, array, one_more_name, names_from, names_in, absent_in, hop_in, backup_in, row_in, is_free, device_in, one_more_row, rows_from, no_rows, rows_in, plan_in}
+use Rattle.sd_plantext.specs.Meaning.{place, value, allowed, there, of_kind, an_object, number, version_in, wait_in, known, referred, named, array, one_more_name, names_from, names_in, absent_in, hop_in, backup_in, row_in, device_in, one_more_row, rows_from, no_rows, rows_in, plan_in}
 
 -- what goes on without a fault had none before
 pub bind_ok : {A B : Type 0} (r : Result A PlanFault) (f : A → Result B PlanFault) (y : B) → (r >>= f) ≡ Ok y → (x : A) × (r ≡ Ok x) × (f x ≡ Ok y)
@@ -183,16 +183,6 @@ row_ok net entry d row h =
     let good : IfSome backup (IsHop net) = backup_ok net entry d backup b in
     subst (λ (r : PlanRow). IsRow net (Some r)) (ok_inside (made primary backup) row h2)
     (hop_ok net keys.RowsParent keys.RowsLink entry d primary a, λ hop is. subst (λ (o : Option Hop). IfSome o (IsHop net)) is good)
-
--- a row's device is there, and free
-pub device_ok : (net : Network) (entry : ℕ) (rows : List (Option PlanRow)) (d : Data) (n : ℕ) → device_in net entry rows d ≡ Ok n
-    → (n < length net.devices) × (is_free rows n ≡ true)
-unfolding device_in
-device_ok net entry rows d n h =
-    let fault = TwiceNamed (place keys.RowsDevice entry) in
-    let (device, a, last) = bind_ok (named keys.RowsDevice entry (device_names net) d) (λ device. allowed (is_free rows device) fault device) n h in
-    let (free, same) = allowed_ok (is_free rows device) fault device n last in
-    subst (λ (k : ℕ). (k < length net.devices) × (is_free rows k ≡ true)) same (device_named net keys.RowsDevice entry d device a, free)
 
 -- one row for each device, whose hops are there
 record AreRows (net : Network) (rows : List (Option PlanRow)) : Type 0 where

@@ -10,7 +10,6 @@ use Rattle.sd_num.specs.Lists.{map_or, same_number, ascends, greatest}
 use Rattle.sd_plan.specs.topo.Network.{delay_of}
 use Rattle.sd_device.specs.declared.msg.Flight.{Flight}
 use Rattle.sd_sched.specs.declared.Event.{Event}
-use Rattle.sd_sched.specs.declared.Event.TheVariants as event
 use Rattle.sd_sched.specs.Events.{reference_of, device_of, message_of, received, is_stage, is_commit}
 use Rattle.sd_history.specs.World.{Setting, Seen, window, has_commit, latest_reference}
 use Rattle.sd_history.specs.Steps.{Step, seen_of, flights, flight_numbered, flight_count, first_step, taken_by, has_turned}
@@ -28,7 +27,7 @@ use Rattle.sd_history.proofs.flights.Places.{IsOfNetwork, flights_of_network}
 use Rattle.sd_history.proofs.Shared.{received_message}
 use Rattle.sd_monitors.specs.loss.rounds.Order.{last_sent}
 use Rattle.sd_monitors.proofs.loss.rounds.InOrder.{last_sent_with}
-use Rattle.sd_premise.specs.Order.{IsSentAt, IsOnTheWay, CanFollow, ComesInOrder}
+use Rattle.sd_premise.specs.Order.{IsSentAt, IsOnTheWay, CanFollow}
 
 -- Lists
 

@@ -1,17 +1,14 @@
 -- An entry is recorded: what it shows to be lost, then its event.
-use Rattle.std.specs.Prelude.{◌≡◌, ℕ, ◌≤◌, ◌^◌, List, [], ◌++◌, Option, Some, None, IsTrue}
+use Rattle.std.specs.Prelude.{◌≡◌, ℕ, List, [], ◌++◌, Option, Some, None}
 use Rattle.std.proofs.Common.{sym, ◌∙◌, ap, subst}
 use Rattle.std.proofs.lemmas.List.{append-nil}
 use Rattle.sd_num.specs.Lists.{map_or}
 use Rattle.sd_sched.specs.declared.Event.{Event}
-use Rattle.sd_sched.specs.Spelled.{is_within}
 use Rattle.sd_history.specs.World.{Setting}
 use Rattle.sd_history.specs.Chronicle.{chronicle}
 use Rattle.sd_history.specs.declared.ApplyFault.{ApplyFault}
-use Rattle.sd_fleet.proofs.FabricKeeping.{reference_few}
 use Rattle.sd_record.specs.logs.Entries.{event_with, name_of, reference_in}
 use Rattle.sd_record.specs.declared.logs.Entry.{Entry}
-use Rattle.sd_record.specs.declared.logs.Entry.TheVariants.{Loss, Plain, Receipt}
 use Rattle.sd_record.specs.Laws.{HasRecorded}
 use Rattle.sd_record.specs.Naming.{event_in, number_named}
 use Rattle.sd_record.specs.Printed.{schedule_text}
@@ -21,12 +18,6 @@ use Rattle.sd_record.specs.declared.recorder.Recorder.{Recorder}
 use Rattle.sd_record.proofs.Laws.{recorded}
 use Rattle.sd_record.proofs.Losing.{still_holds}
 use Rattle.sd_record.proofs.Standing.{is_history}
-
--- an entry's reference is within its limit
-pub reference_within : (entry : Entry) → IsTrue (is_within (event_with entry 0)) → reference_in entry ≤ 2 ^ 60
-reference_within (Plain e) within = reference_few e within
-reference_within (Receipt reference counter name) within = reference_few (event_with (Receipt reference counter name) 0) within
-reference_within (Loss reference name) within = reference_few (event_with (Loss reference name) 0) within
 
 -- a recorder whose text was cleared holds nothing since the events for which it stands
 pub cleared : (r : Recorder) (setting : Setting) (events : List Event) → r.text.items ≡ [] → StandsFor r setting events → HoldsSince r setting events events

@@ -1,13 +1,10 @@
 -- The loops of counted devices, computed by a history and as a relation. A device that is up is one of the topology's, so only those have parents.
 use Rattle.std.specs.Prelude.{◌≡◌, ◌↔◌, ℕ, ◌<◌, Bool, true, false, ◌||◌, List, length, refl, Option, Some, None, MatchOption, if◌then◌else◌}
 use Rattle.std.proofs.lemmas.Bool.{and_parts}
-use Rattle.sd_sched.specs.declared.Event.{Event}
 use Rattle.sd_plan.specs.Plans.{is_member}
 use Rattle.sd_history.specs.World.{Setting, is_up, is_counted, in_force, joined_in_window}
 use Rattle.sd_history.specs.Steps.{Step, seen_of, parent_in}
-use Rattle.sd_history.specs.Chronicle.{chronicle, IsHistory}
 use Rattle.sd_history.specs.Lines.{counted_parent, is_on_loop, first_on_loop}
-use Rattle.sd_history.proofs.Known.{up_is_known}
 use Rattle.sd_replay.specs.watch.Watch.{IsOnLoop, HasNoLoop, IsFirstOnLoop}
 use Rattle.sd_replay.proofs.watch.Counted.{comes_back_on_loop, first_back}
 

@@ -1,14 +1,14 @@
 -- Registers that agree differ in none of them, and duties of which one is not the other, raised.
-use Rattle.std.specs.Prelude.{◌≡◌, ◌≢◌, ℕ, Option, Some, None, option_map, IfSome}
-use Rattle.std.proofs.Common.{sym, refl, ◌∙◌, ap}
+use Rattle.std.specs.Prelude.{◌≡◌, ◌≢◌, ℕ, Option, Some, None, IfSome}
+use Rattle.std.proofs.Common.{refl, ap}
 use Rattle.sd_plan.specs.declared.Duty.{Duty}
 use Rattle.sd_device.specs.declared.registers.Registers.{Registers}
 use Rattle.sd_device.specs.Rebases.{normal_at}
-use Rattle.sd_resume.specs.law.Shifts.{Shift, raised_epoch, raised_duty, raised_stamp}
+use Rattle.sd_resume.specs.law.Shifts.{Shift, raised_stamp}
 use Rattle.sd_resume.specs.declared.differences.Register.{Register}
 use Rattle.sd_resume.specs.declared.differences.Register.TheVariants as register
 use Rattle.sd_resume.specs.Duties.{SameTimes}
-use Rattle.sd_resume.specs.Devices.{OtherDiffers, RegistersAgree, RegisterDiffers, NodesAgree, NodesDiffer}
+use Rattle.sd_resume.specs.Devices.{RegistersAgree, RegisterDiffers, NodesAgree, NodesDiffer}
 
 -- Duties
 

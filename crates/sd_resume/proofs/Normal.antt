@@ -1,6 +1,6 @@
 -- What a rebase lowers is raised again: it is the normal form.
 use Rattle.std.specs.Prelude.{◌≡◌, ℕ, ◌+◌, ◌-◌, ◌*◌, ◌/◌, ◌≤◌, Bool, true, false, min, max, refl, if◌then◌else◌}
-use Rattle.std.proofs.Common.{arith, sym, ◌∙◌, ap, subst}
+use Rattle.std.proofs.Common.{arith}
 use Rattle.sd_device.specs.declared.registers.Registers.{Registers}
 use Rattle.sd_device.specs.Rules.{is_acting_mode, floor_in}
 use Rattle.sd_device.specs.Rebases.{waits_in, normal_at, least_in, lowered, lowering, rebased}

@@ -13,20 +13,13 @@
 -- | No. | In words | Names | Module |
 -- |---|---|---|---|
 -- | 8 | an accepted message is traced to its emission; each hop has its flight, its age within the bounds, and a link and a receiver that did not fail while it
--- was under way. The sender may have failed meanwhile | `accepted_traced`, `place_at`, `hop_parent` | `Tracing`, `Chains`, `Parents` |
+-- was under way. The sender may have failed meanwhile | `accepted_traced`, `hop_parent` | `Tracing`, `Parents` |
 -- | 9 | stamps rise; the next emission of an acting life is the next round of its term; the stamp of a device that does not act is (0, 0) or was emitted in its
 -- epoch | `stamps_rise`, `next_round`, `stamp_emitted` | `Rising`, `Consecutive`, `Latest` |
 -- | 9 | where each term is of one acting life no two emissions have one stamp, and they are spaced | `terms_distinct`, `terms_spaced` | `Terms` |
--- | 10 | what is received after at most 2(H + 1) hops comes before the next round | `no_overlap`, `newest_in_time` | `Overlap`, `Newest` |
--- | 11 | a clean round goes along a whole way, hop i by s + i * D | `hop_on`, `flows`, `round_flows` | `Flowing`, `Opening` |
--- | 12 | of K + 1 rounds one is clean; so one of them is heard | `one_is_clean`, `one_heard` | `Cleans`, `Heard` |
---
--- `Example` is a history of two devices that meets all premises and each condition of 11.
---
--- # What is only stated
---
--- `Wanted`: that each term is of one acting life while all premises but start hold, which the invariant has
--- to give, and lemma 6 in the form that is taken here. No proof uses them.
+-- | 10 | what is received after at most 2(H + 1) hops comes before the next round | `newest_in_time` | `Newest` |
+-- | 11 | a clean round goes along a whole way, hop i by s + i * D | `hop_on`, `flows` | `Flowing` |
+-- | 12 | of K + 1 rounds one is clean | `one_is_clean` | `Cleans` |
 --
 -- # Why some things are as they are
 --
@@ -60,7 +53,5 @@ pub mod Ends
 pub mod Newest
 pub mod Opening
 pub mod Chains
-pub mod Heard
 pub mod Prefixes
 pub mod Terms
-mod Example

@@ -22,8 +22,7 @@
 -- | No. | Names | Module |
 -- |---|---|---|
 -- | 1, 2 | `timer_low`, `timer_high`; `low_between`, `high_between`; `readings_low`, `readings_high` | `Spans`; `Readings`; `Histories` |
--- | 3 | `tick_soon`; `soon` | `TickSoon`; `Histories` |
--- | 4 | `primary_deadline`, `silent_at_most`, `rested_at_most`; `silence_ends`, `rest_ends` | `Deadlines`; `Histories` |
+-- | 4 | `primary_deadline`, `rested_at_most`; `silence_ends`, `rest_ends` | `Deadlines`; `Histories` |
 -- | 4, since when a device is sealed | `sealed_from_start`, `sealed_by_seal`, `sealed_since` | `Sealed` |
 -- | 5 | `move_not_early`, `takeover_not_early`; `move_waits`, `takeover_waits` | `NotEarly`; `Histories` |
 -- | 6 | `emissions_apart`, `emission_not_early`; `sent_lately`, `sends_soon` | `Emissions`, `NotEarly`; `Deadlines`, `Histories` |
@@ -53,7 +52,6 @@ pub mod NotEarly
 pub mod Onward
 pub mod Periods
 pub mod Deadlines
-pub mod TickSoon
 pub mod OneWay
 pub mod Turns
 pub mod Emissions

@@ -6,7 +6,7 @@
 -- |---|---|---|
 -- | `heard_at`, `moved_at`, `sent_at` are `heard_in`, `moved_in`, `sent_in` | `heard_is`, `moved_is`, `sent_is` | `SameReferences` |
 -- | 4, 6: of an old member, at most | `backup_root_silence`, `ordinary_silence`, `backup_root_rest`, `root_sends` | `Waits` |
--- | 5, 6: at a move, a takeover, an emission, at least | `backup_root_moves`, `ordinary_moves`, `backup_root_takes_over`, `root_emits` | `Waits` |
+-- | 5, 6: at a move, a takeover, an emission, at least | `backup_root_moves`, `ordinary_moves`, `backup_root_takes_over` | `Waits` |
 -- | 7: how a device stood before each event later than it heard or moved | `was_on_primary`, `was_on_backup` | `LookingBack` |
 -- | C0 | `quiet`, `still`, `touched` | `Beginning` |
 --

@@ -4,4 +4,3 @@ pub mod Moments
 pub mod Traces
 pub mod Rounds
 pub mod Stamping
-pub mod Wanted

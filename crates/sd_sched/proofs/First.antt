@@ -1,8 +1,8 @@
 -- What stands before the first space is the first field, by which a line is known or unknown.
-use Rattle.std.proofs.Common.{◌≡◌, ℕ, ◌+◌, Bool, true, false, cond, not, eqb, List, [], ◌∷◌, length, get_or, take, drop, Some, None, Err, refl, sym, ap, ◌∙◌, one-add, take_all, ltb-false}
+use Rattle.std.proofs.Common.{◌≡◌, ℕ, ◌+◌, Bool, true, false, cond, not, eqb, List, [], ◌∷◌, length, take, drop, Some, None, Err, refl, sym, ap, ◌∙◌, one-add, take_all, ltb-false}
 use Rattle.std.specs.Prelude.{nat_lt}
 use Rattle.std.specs.List.{position, position_or_len}
-use Rattle.sd_sched.specs.Lines.{fields, first_field, event_of_fields, event_of_line}
+use Rattle.sd_sched.specs.Lines.{first_field, event_of_fields, event_of_line}
 use Rattle.sd_sched.specs.Spelled.{is_word}
 use Rattle.sd_sched.specs.Reading.{fields_behind}
 use Rattle.sd_sched.specs.declared.LineFault.TheVariants.{UnknownWord}

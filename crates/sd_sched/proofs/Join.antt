@@ -1,6 +1,6 @@
 -- What is read of the fields one after the other is what is read of them all.
 use Rattle.std.proofs.Common.{◌≡◌, ◌≢◌, ℕ, suc, below_more, ◌+◌, ◌<◌, ◌≤◌, List, [], ◌∷◌, length, get_or, set, take, drop, Option, None, Some, Result, Ok, Err, refl, sym, ap, ◌∙◌, arith, append_assoc}
-use Rattle.std.proofs.lemmas.List.{get_or-set_same, get_or-set_other, length-set, take_more_set, drop_more, drop_all, append-nil}
+use Rattle.std.proofs.lemmas.List.{get_or-set_same, get_or-set_other, length-set, take_more_set, drop_more, drop_all}
 use Rattle.sd_num.specs.Lists.{map_or}
 use Rattle.sd_sched.specs.Lines.{fields, first_field, field_number, limit}
 use Rattle.sd_sched.specs.Reading.{◌then◌, fault_of, reported_first, read_of, numbers_from, so_far, fields_behind, WithinFrom}
@@ -30,11 +30,6 @@ then_assoc (Err f) (Err g) (Err h) = ap Err (reported_first_assoc f g h)
 pub count_wins : (a : Result (List ℕ) LineFault) → a then Err FieldCount ≡ Err FieldCount
 count_wins (Ok xs) = refl
 count_wins (Err f) = refl
-
--- nothing after adds nothing
-pub then_none : (a : Result (List ℕ) LineFault) → a then Ok [] ≡ a
-then_none (Ok xs) = ap Ok (append-nil xs)
-then_none (Err f) = refl
 
 -- with a number read there is one more, unless there was a fault
 number_read : (fault : Option LineFault) (numbers : List ℕ) (place n : ℕ) → place < length numbers
@@ -134,14 +129,6 @@ pub ReadTo-long : (shape : List Field) (behind numbers : List ℕ) (fault : Opti
     → ReadTo shape behind numbers fault left place → length shape ≤ place → left ≢ [] → numbers_from 1 shape (fields_behind behind) ≡ Err FieldCount
 ReadTo-long shape behind numbers fault left place read all more =
     read.further ∙ rw (drop_all place shape all, some_field left more (place + 1)) (count_wins (so_far fault (take place numbers)))
-
--- all fields were read
-pub ReadTo-all : (shape : List Field) (behind numbers : List ℕ) (fault : Option LineFault) (left : List ℕ) (place : ℕ)
-    → ReadTo shape behind numbers fault left place → place ≡ length shape → left ≡ []
-    → numbers_from 1 shape (fields_behind behind) ≡ so_far fault (take (length shape) numbers)
-ReadTo-all shape behind numbers fault left place read all none =
-    let past : length shape ≤ place = omega arith in
-    read.further ∙ rw (drop_all place shape past, none, all) (then_none (so_far fault (take (length shape) numbers)))
 
 within_at : (shape : List Field) (numbers : List ℕ) (place : ℕ) → ((k : ℕ) → k < length shape → get_or numbers (place + k) 0 ≤ limit (get_or shape k Amount))
     → WithinFrom place shape numbers

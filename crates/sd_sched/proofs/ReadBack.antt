@@ -1,5 +1,5 @@
 -- The line of an event, read again, is the event.
-use Rattle.std.proofs.Common.{◌≡◌, ℕ, ◌^◌, ◌<◌, Bool, true, false, ◌&&◌, nat_le, List, [], ◌∷◌, ◌++◌, Some, Ok, map, refl, sym, ap, ◌∙◌, suc, ◌+◌, ◌-◌, length, nat_eq, arith, append_assoc, eq-eqb, leb-true}
+use Rattle.std.proofs.Common.{◌≡◌, ℕ, ◌^◌, ◌<◌, Bool, true, false, ◌&&◌, nat_le, List, [], ◌∷◌, Some, Ok, map, refl, ap, ◌∙◌, suc, ◌+◌, ◌-◌, length, nat_eq, arith, eq-eqb, leb-true}
 use Rattle.std.specs.Prelude.{codes}
 use Rattle.std.specs.Fmt.{decimal}
 use Rattle.std.specs.List.{list_all, join_with_byte}
@@ -10,7 +10,6 @@ use Rattle.sd_sched.specs.Lines.{Word, word, start_word, tick_word, recv_word, l
 use Rattle.sd_sched.specs.Spelled.{line_of_event, is_within}
 use Rattle.sd_sched.specs.declared.words.Field.{Field}
 use Rattle.sd_sched.specs.declared.words.Field.TheVariants.{Amount, Which, Kind}
-use Rattle.sd_sched.specs.Printing.{terminated}
 use Rattle.sd_sched.specs.declared.Event.{Event}
 use Rattle.sd_sched.specs.declared.Event.TheVariants.{Start, Tick, Recv, Lose, FailDevice, FailLink, Fix, Ask, Stage, Give, Commit, Seal, Join, MendDevice, MendLink, End}
 use Rattle.sd_sched.proofs.Decimals.{decimal_digits, number-decimal}

@@ -1,11 +1,10 @@
 -- A name that is sought in a table by hashing, and in the list of the table's names.
-use Rattle.std.proofs.Common.{◌≡◌, ℕ, Bool, true, false, cond, is_some, ◌||◌, nat_eq, List, [], ◌∷◌, ◌++◌, map, subst, Some, refl, ap, sym, ◌∙◌, String, Global, string_bytes}
+use Rattle.std.proofs.Common.{◌≡◌, ℕ, Bool, true, false, cond, is_some, ◌||◌, List, [], ◌∷◌, map, Some, refl, String, Global, string_bytes}
 use Rattle.std.specs.List.{list_any}
 use Rattle.std.specs.Str.{bytes_eq}
 use Rattle.std.specs.Map.{keys_of, lookup}
-use Rattle.indexmap.specs.IndexMap.{IndexMap, get_by, index_of_by, insert_entry}
-use Rattle.std.specs.Cmp.Lexicographic.{pointwise}
-use Rattle.sd_plan.specs.topo.Seen.{names_seen, Adds}
+use Rattle.indexmap.specs.IndexMap.{IndexMap, get_by, index_of_by}
+use Rattle.sd_plan.specs.topo.Seen.{names_seen}
 use Rattle.sd_plan.specs.topo.Network.{number_in}
 use Rattle.sd_plan.proofs.topo.Tables.{position-map}
 

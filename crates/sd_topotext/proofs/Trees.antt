@@ -1,15 +1,10 @@
 -- The tree of bytes that are text, and the greatest delay of the links so far.
-use Rattle.std.proofs.Common.{◌≡◌, ℕ, zero, suc, ◌+◌, max, List, [], ◌∷◌, length, map, take, Option, Some, String, Global, eq-eqb, add-one, arith}
-use Rattle.std.specs.List.{slice_get, flat_map}
+use Rattle.std.proofs.Common.{◌≡◌, ℕ, List, length, Option, eq-eqb}
 use Rattle.std.specs.Str.{IsUtf8}
 use Rattle.std.specs.Str.Lossy.{utf8_valid_len}
 use Rattle.std.proofs.lemmas.Str.{utf8_valid_len-IsUtf8}
 use Rattle.toml.specs.Data.{Members}
 use Rattle.toml.specs.Parse.{parse_document}
-use Rattle.sd_num.specs.Lists.{greatest}
-use Rattle.sd_plan.specs.declared.topo.LinkEntry.{LinkEntry}
-use Rattle.sd_plan.specs.topo.Network.{Link}
-use Rattle.sd_plan.specs.topo.Seen.{link_seen}
 use Rattle.sd_topotext.specs.Reading.{tree_of}
 
 -- bytes that are text have the tree that was parsed

@@ -1,5 +1,5 @@
 -- Spans in the order of their first places, merged one by one.
-use Rattle.std.proofs.Common.{◌≡◌, ℕ, ◌+◌, ◌<◌, ◌≤◌, Bool, true, false, ◌||◌, List, [], ◌++◌, length, take, get_or, max, refl, sym, ap, ◌∙◌, inl, inr, arith, nat_le, nat_lt}
+use Rattle.std.proofs.Common.{◌≡◌, ℕ, ◌+◌, ◌<◌, ◌≤◌, Bool, true, false, ◌||◌, List, ◌++◌, length, take, get_or, max, refl, sym, ap, ◌∙◌, inl, inr, arith, nat_le, nat_lt}
 use Rattle.std.specs.List.{slice_range}
 use Rattle.std.specs.List.Sorted.{IsNonDecreasingBy}
 use Rattle.std.proofs.lemmas.Bool.{cases_Bool, and_parts, or_cases, or_left, or_right, false_from_ne_true, leb-true, ltb-true}

@@ -1,5 +1,5 @@
 -- The places of numbers in a list that ascends.
-use Rattle.std.proofs.Common.{◌≡◌, ◌≢◌, ℕ, zero, suc, ◌+◌, ◌<◌, ◌≤◌, Bool, true, false, cond, ◌⊎◌, List, [], ◌∷◌, length, get_or, filter, nat_eq, Option, Some, None, option_map, refl, sym, subst, inl, inr, arith}
+use Rattle.std.proofs.Common.{◌≡◌, ◌≢◌, ℕ, zero, suc, ◌<◌, Bool, true, false, cond, ◌⊎◌, List, [], ◌∷◌, length, get_or, filter, nat_eq, Option, Some, None, option_map, refl, sym, subst, inl, inr, arith}
 use Rattle.std.proofs.lemmas.Bool.{eq-eqb, ne_eqb, eqb-true, or_cases, or_left, or_right, cond-true, both_ways}
 use Rattle.std.proofs.lemmas.List.Elements.{All-get_or, filter_passes}
 use Rattle.std.proofs.lemmas.List.Folds.{list_any_at}

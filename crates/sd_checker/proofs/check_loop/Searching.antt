@@ -341,26 +341,9 @@ module _ (graph : List Successors) (marks after : List Mark) (stack : List ℕ) 
       entered_ends : mark.Entered ≡ mark.Ending → ⊥
       entered_ends same = cc
 
--- which places of a step are there, and what they are marked with
-to_new : (marks : List Mark) (o : Option ℕ) (j : ℕ) → step_to marks o ≡ step.Enter j → (o ≡ Some j) × (mark_at marks j ≡ mark.New)
-to_new marks None j is = cc
-to_new marks (Some i) j is = by_mark (mark_at marks i) refl is
-  where
-    by_mark : (m : Mark) → mark_at marks i ≡ m → step_by i m ≡ step.Enter j → (Some i ≡ Some j) × (mark_at marks j ≡ mark.New)
-    by_mark mark.New at same = let equal : i ≡ j = cc in (ap Some equal, ap (mark_at marks) (sym equal) ∙ at)
-    by_mark mark.Entered at same = cc
-    by_mark mark.Ending at same = cc
-    by_mark mark.Endless at same = cc
-
 to_condemn : (marks : List Mark) (o : Option ℕ) → step_to marks o ≡ step.Condemn → (j : ℕ) × (o ≡ Some j) × (step_by j (mark_at marks j) ≡ step.Condemn)
 to_condemn marks None is = cc
 to_condemn marks (Some i) is = (i, refl, is)
-
--- which of two steps the first is
-is_entered_by : (a b : Step) (j : ℕ) → first_step a b ≡ step.Enter j → (a ≡ step.Enter j) ⊎ (b ≡ step.Enter j)
-is_entered_by step.Finish b j is = inr is
-is_entered_by (step.Enter i) b j is = inl is
-is_entered_by step.Condemn b j is = cc
 
 is_condemned_by : (a b : Step) → first_step a b ≡ step.Condemn → (a ≡ step.Condemn) ⊎ (b ≡ step.Condemn)
 is_condemned_by step.Finish b is = inr is
@@ -373,16 +356,6 @@ leads_first graph i j is = or_left (same_number (successors_at graph i).primary 
 
 pub leads_second : (graph : List Successors) (i j : ℕ) → (successors_at graph i).backup ≡ Some j → leads graph i j ≡ true
 leads_second graph i j is = or_right (same_number (successors_at graph i).primary j) (same_number (successors_at graph i).backup j) (rw is (eq-eqb j j refl))
-
--- what a step at a place says
-pub enters : (graph : List Successors) (marks : List Mark) (i j : ℕ) → step_at graph marks i ≡ step.Enter j
-    → (leads graph i j ≡ true) × (mark_at marks j ≡ mark.New)
-enters graph marks i j is =
-    let s = successors_at graph i in
-    elim (is_entered_by (step_to marks s.primary) (step_to marks s.backup) j is) [
-      | inl here ↦ (let new = to_new marks s.primary j here in (leads_first graph i j new.0, new.1))
-      | inr here ↦ (let new = to_new marks s.backup j here in (leads_second graph i j new.0, new.1))
-    ]
 
 pub is_condemned : (graph : List Successors) (marks : List Mark) (i : ℕ) → step_at graph marks i ≡ step.Condemn
     → (j : ℕ) × (leads graph i j ≡ true) × (step_by j (mark_at marks j) ≡ step.Condemn)

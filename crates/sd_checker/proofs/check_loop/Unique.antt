@@ -1,15 +1,14 @@
 -- At most one cycle is shown.
 -- A cycle with what leads to it is a run: each device leads to the least endless one, and the last to one that was there before.
 -- Runs that begin alike are the same, and the device that comes again says where the cycle begins.
-use Rattle.std.proofs.Common.{◌≡◌, ℕ, ◌<◌, Bool, true, false, ◌||◌, not, ◌⊎◌, List, [], ◌∷◌, ◌++◌, nat_eq, refl, sym, ap, ◌∙◌, subst, inl, inr, arith}
+use Rattle.std.proofs.Common.{◌≡◌, ℕ, Bool, true, false, ◌||◌, ◌⊎◌, List, [], ◌∷◌, ◌++◌, nat_eq, refl, sym, ap, ◌∙◌, subst, inl, inr, arith}
 use Rattle.std.proofs.lemmas.Bool.{eq-eqb, eqb-true, or_cases, or_left, or_right, not-true, cases_lt}
-use Rattle.std.proofs.lemmas.List.Folds.{list_any-append}
 use Rattle.sd_num.specs.Lists.{has}
 use Rattle.sd_num.proofs.Runs.{IsRun, SeenWith, same_run}
 use Rattle.sd_plan.specs.topo.Network.{Network}
 use Rattle.sd_plan.specs.declared.domain.DomainId.{DomainId}
 use Rattle.sd_plan.specs.declared.Plan.{Plan}
-use Rattle.sd_checker.specs.check_loop.ShownCycles.{IsLeast, IsEndless, IsNextShown, IsChain, IsFirstOf, AreDifferent, IsShownCycle, ShowsCycle}
+use Rattle.sd_checker.specs.check_loop.ShownCycles.{IsLeast, IsEndless, IsNextShown, IsChain, IsFirstOf, AreDifferent, ShowsCycle}
 
 -- there is at most one least number with a property
 pub one_least : (P : ℕ → Type 0) (x y : ℕ) → IsLeast P x → IsLeast P y → x ≡ y

@@ -116,9 +116,6 @@ module _ (net : Network) (plan : Plan) (domain : DomainId) where
         | inr same ↦ both_ways (has (e ∷ es) next) new (or_left (nat_eq next e) (has es next) (eq-eqb next e (sym same ∙ sym (eqb-true e first parts.0))))
       ])))
 
-  pub chain_first : (first : ℕ) → IsChainTo net plan domain first first (first ∷ [])
-  chain_first first = record { begins = and_from (nat_eq first first) true (eq-eqb first first refl) refl; along = refl; ends = refl }
-
   pub chain_more : (first here next : ℕ) (chain : List ℕ) → IsChainTo net plan domain first here chain → onward net plan domain here ≡ Some next
       → has chain next ≡ false → IsChainTo net plan domain first next (chain ++ next ∷ [])
   chain_more first here next chain known is new =

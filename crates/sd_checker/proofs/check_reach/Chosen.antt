@@ -30,9 +30,6 @@ use Rattle.sd_checker.proofs.check_reach.Turning.{hit_sound}
 use Rattle.sd_checker.proofs.check_reach.Walked.{hit_device}
 
 module _ (hit : List ℕ) (passes : ℕ → ℕ → Bool) where
-  pub chooses_none : Chooses hit passes 0 []
-  chooses_none = record { each = λ i d at. cc; all = λ j d less at pass. absurd (omega arith); rises = λ i j d e less at later. cc }
-
   pub chooses_not : (k d : ℕ) (chosen : List ℕ) → slice_get hit k ≡ Some d → passes k d ≡ false → Chooses hit passes k chosen
       → Chooses hit passes (k + 1) chosen
   chooses_not k d chosen at fails known =

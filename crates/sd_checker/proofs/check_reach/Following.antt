@@ -1,5 +1,5 @@
 -- Marks while a trail of next hops is followed.
-use Rattle.std.specs.Prelude.{◌≡◌, ℕ, ◌+◌, ◌<◌, ◌≤◌, Bool, true, false, List, [], ◌∷◌, ◌++◌, length, slice_get, Option, Some, ◌⊎◌}
+use Rattle.std.specs.Prelude.{◌≡◌, ℕ, ◌+◌, ◌<◌, ◌≤◌, true, false, List, [], ◌∷◌, ◌++◌, length, slice_get, Option, Some, ◌⊎◌}
 use Rattle.std.proofs.Common.{refl, sym, ap, ◌∙◌, ◌≢◌, subst, arith, inl, inr, get_or, set, take}
 use Rattle.std.proofs.lemmas.Bool.{cases_eq, cases_lt, both_ways, false_from_ne_true, cases_Bool}
 use Rattle.std.proofs.lemmas.List.{take_more, take-append-le, take_all}
@@ -57,16 +57,6 @@ module _ (net : Network) (plan : Plan) (domain : DomainId) (hit : List ℕ) wher
         fed = right.fed;
         unfed = λ i d at unfed. held_more (λ e. IsUnfed hit marks e ⊎ S e) (λ e. IsUnfed hit marks e ⊎ T e) d
             (λ e side. elim side [ inl a ↦ inl a | inr b ↦ inr (more e b) ]) (right.unfed i d at unfed);
-      }
-
-  -- no marks are wrong where all are unseen
-  pub unseen_right : (marks : List Mark) → length marks ≡ length hit → ((i : ℕ) → i < length hit → slice_get marks i ≡ Some mark.Unseen)
-      → AreMarks net plan domain hit (λ e. ⊥) marks
-  unseen_right marks size unseen =
-      record {
-        size = size;
-        fed = λ i d at fed. two_marks (slice_get marks i) fed (unseen i (slice_get_within hit i d at)) (λ same. cc);
-        unfed = λ i d at unfed. two_marks (slice_get marks i) unfed (unseen i (slice_get_within hit i d at)) (λ same. cc);
       }
 
   module _ (place d : ℕ) (marks : List Mark) (at : slice_get hit place ≡ Some d) (unseen : slice_get marks place ≡ Some mark.Unseen) where
@@ -191,30 +181,6 @@ module _ (net : Network) (plan : Plan) (domain : DomainId) (hit : List ℕ) wher
           false_from_ne_true (has trail was.place)
           (λ there. two_marks (slice_get old was.place) was.marked (followed.followed.was_unseen was.place there) (λ same. cc)) in
           record { place = was.place; at = was.at; marked = marked.off was.place out ∙ followed.followed.rest was.place out ∙ was.marked }
-
-  -- what was marked before a trail stands
-  pub trail_settles : (start : ℕ) (old marks : List Mark) (trail : List ℕ) (fed : Bool) → IsFollowed net plan domain hit start old marks trail fed
-      → AreSettled start old marks
-  trail_settles start old marks trail fed followed =
-      record {
-        stands = λ i m was seen. followed.followed.rest i
-            (false_from_ne_true (has trail i) (λ there. seen (same_Some m mark.Unseen (sym was ∙ followed.followed.was_unseen i there)))) ∙ was;
-        marked = followed.marked;
-      }
-
-  pub fed_settles : (start : ℕ) (old marks new : List Mark) (trail : List ℕ) → IsFollowed net plan domain hit start old marks trail true
-      → IsMarkedFed trail marks new → AreSettled start old new
-  fed_settles start old marks new trail followed marked =
-      record {
-        stands = λ i m was seen.
-            let out : has trail i ≡ false =
-            false_from_ne_true (has trail i) (λ there. seen (same_Some m mark.Unseen (sym was ∙ followed.followed.was_unseen i there))) in
-            marked.off i out ∙ followed.followed.rest i out ∙ was;
-        marked = λ unseen. elim (cases_Bool (has trail start)) [
-          | inl there ↦ two_marks (slice_get new start) unseen (marked.on start there) (λ same. cc)
-          | inr out ↦ followed.marked (sym (marked.off start out) ∙ unseen)
-        ];
-      }
 
 -- places before the next one are marked
 pub seen_more : (old new : List Mark) (k : ℕ) → AreSettled k old new → k < length old → ((i : ℕ) → i < k → slice_get old i ≡ Some mark.Unseen → ⊥) → (i : ℕ)

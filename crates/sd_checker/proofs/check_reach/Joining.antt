@@ -94,19 +94,6 @@ module _ (net : Network) (plan : Plan) (domain : DomainId) where
       → LeadsInto net plan domain new d
   leads_into_more old new d more leads = record { into = λ e l in_range crosses joined passes. more e (leads.into e l in_range crosses joined passes) }
 
-  -- no search has visited anybody yet
-  pub nobody_dry : (visited : List ℕ) → visited ≡ [] → IsDry net plan domain visited
-  nobody_dry visited none =
-      let lost : (x : ℕ) → has visited x ≡ true → ⊥ = λ x there. absent x (subst (λ (xs : List ℕ). has xs x ≡ true) none there) in
-      record {
-        within = λ d there. absurd (lost d there);
-        lacks = subst (λ (xs : List ℕ). has xs (acting_end net plan domain) ≡ false) (sym none) refl;
-        closed = λ d there. absurd (lost d there);
-      }
-    where
-      absent : (x : ℕ) → has [] x ≡ true → ⊥
-      absent x there = cc
-
 -- a list grows into itself
 pub grows_same : (xs : List ℕ) (P : ℕ → Type 0) → Grows xs xs P
 grows_same xs P = record { kept = λ i x at. at; had = λ x there. there; added = λ x there. inl there }

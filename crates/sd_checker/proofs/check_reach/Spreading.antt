@@ -1,11 +1,11 @@
 -- What a search from the acting end finds out.
-use Rattle.std.specs.Prelude.{◌≡◌, ℕ, zero, suc, ◌+◌, ◌<◌, ◌≤◌, Bool, true, false, ◌&&◌, List, [], length, nat_eq, slice_get, Some, if◌then◌else◌}
+use Rattle.std.specs.Prelude.{◌≡◌, ℕ, zero, suc, ◌+◌, ◌<◌, ◌≤◌, Bool, true, false, ◌&&◌, List, length, nat_eq, slice_get, Some, if◌then◌else◌}
 use Rattle.std.proofs.Common.{refl, sym, ap, ◌∙◌, subst, arith, inl, inr, get_or}
 use Rattle.std.proofs.lemmas.Bool.{or_cases, or_left, or_right, cases_lt, both_ways, false_from_ne_true}
 use Rattle.std.proofs.lemmas.Option.{slice_get-get_or, slice_get_within, same_Some}
 use Rattle.sd_plan.specs.domain.NumberSets.{with_number}
 use Rattle.sd_num.specs.Lists.{has}
-use Rattle.sd_num.proofs.Places.{has_at, at_has}
+use Rattle.sd_num.proofs.Places.{at_has}
 use Rattle.sd_plan.specs.topo.Network.{Network, joins, link_of}
 use Rattle.sd_plan.specs.domain.Domains.{holds_device}
 use Rattle.sd_plan.specs.declared.domain.DomainId.{DomainId}

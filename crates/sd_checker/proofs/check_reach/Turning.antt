@@ -2,7 +2,7 @@
 use Rattle.std.specs.Prelude.{◌≡◌, ℕ, ◌<◌, true, false, ◌&&◌, not, length, Option, Some, None, IfSome}
 use Rattle.std.specs.Option.{option_or}
 use Rattle.std.proofs.Common.{sym, ap, ◌∙◌, subst}
-use Rattle.std.proofs.lemmas.Bool.{and_parts, and_from, both_ways, not_from_false}
+use Rattle.std.proofs.lemmas.Bool.{and_parts, and_from, not_from_false}
 use Rattle.std.proofs.lemmas.Option.{same_Some}
 use Rattle.sd_plan.specs.topo.Network.{Network, joins}
 use Rattle.sd_plan.specs.domain.Domains.{holds_device, holds_link}
@@ -75,16 +75,3 @@ module _ (net : Network) (plan : Plan) (domain : DomainId) (fits : Fits net plan
   pub held_by : (hop : Hop) (e : ℕ) → (d ≡ plan.backup_root → ⊥) → next_hop plan d ≡ Some hop → hop.parent ≡ e → IsHeld net plan domain (λ x. x ≡ e) d
   held_by hop e other is leads =
       record { held = λ sound. (other, λ h there left. ap (λ (x : Hop). x.parent) (same_Some h hop (sym there ∙ is)) ∙ leads) }
-
-  -- a device whose hop the domain takes is held
-  pub held_over : (hop : Hop) → (d ≡ plan.backup_root → ⊥) → next_hop plan d ≡ Some hop → is_left net domain hop.link hop.parent ≡ false
-      → IsHeld net plan domain (λ x. ⊥) d
-  held_over hop other is taken =
-      record {
-        held =
-            λ sound. (
-              other,
-              λ h there left. both_ways (is_left net domain hop.link hop.parent) taken
-                  (subst (λ (x : Hop). is_left net domain x.link x.parent ≡ true) (same_Some h hop (sym there ∙ is)) left),
-            );
-      }

@@ -1,11 +1,11 @@
 -- What is fed, cut off and shown is the same over a network with each version.
-use Rattle.std.specs.Prelude.{ℕ, List, ◌⊎◌}
+use Rattle.std.specs.Prelude.{ℕ, List}
 use Rattle.std.proofs.Common.{inl, inr}
 use Rattle.sd_plan.specs.topo.Network.{Network}
 use Rattle.sd_plan.proofs.topo.Versions.{with_version, Joined-with_version}
 use Rattle.sd_plan.specs.declared.domain.DomainId.{DomainId}
 use Rattle.sd_plan.specs.declared.Plan.{Plan}
-use Rattle.sd_checker.specs.check_reach.Reach.{acting_end, is_sound, is_sound_link, CanReach, IsCut, Fed, acts, stands_by, spared, turns, LosesBackup, DomainHolds, ReachHolds}
+use Rattle.sd_checker.specs.check_reach.Reach.{is_sound, is_sound_link, CanReach, IsCut, Fed, acts, stands_by, spared, turns, LosesBackup, DomainHolds, ReachHolds}
 use Rattle.sd_checker.specs.check_reach.ShownChains.{ShowsDevice, IsStarved, IsShownChain}
 
 -- what is said of a network is carried over ..

@@ -1,10 +1,10 @@
 -- The least and the greatest reference time, a device at a time.
 use Rattle.std.proofs.Common.{◌≡◌, ℕ, ◌+◌, ◌*◌, ◌/◌, ◌^◌, ◌<◌, ◌≤◌, List, [], ◌∷◌, ◌++◌, length, map, take, get_or, min, max, refl, sym, ap, ◌∙◌, arith}
-use Rattle.std.proofs.lemmas.List.{map_more, take_all, length-map, length-take-le}
+use Rattle.std.proofs.lemmas.List.{map_more, length-map, length-take-le}
 use Rattle.std.proofs.Math.Nat.{mul-le-mul_right}
-use Rattle.sd_num.specs.Lists.{least, greatest, at_place}
+use Rattle.sd_num.specs.Lists.{least, greatest}
 use Rattle.sd_num.specs.Numbers.{low, up}
-use Rattle.sd_plan.specs.topo.Network.{Network, Device, rates_of, no_rates, least_low, greatest_up}
+use Rattle.sd_plan.specs.topo.Network.{Network, rates_of, no_rates}
 use Rattle.sd_plan.specs.topo.Limits.{IsNetwork, IsRates}
 use Rattle.sd_plan.specs.topo.Places.{no_device}
 use Rattle.sd_plan.proofs.topo.Laws.{found_at, rates_law}
@@ -28,14 +28,6 @@ lows net x k = map (λ device. low device.rates x) (take k net.devices)
 
 abbrev pub ups : Network → ℕ → ℕ → List ℕ
 ups net x k = map (λ device. up device.rates x) (take k net.devices)
-
-first_low : (devices : List Device) (x : ℕ) → 1 ≤ length devices
-    → least (map (λ device. low device.rates x) (take 1 devices)) ≡ low (at_place devices 0 no_rates (λ device. device.rates)) x
-first_low [] x some = absurd (omega arith)
-first_low (v ∷ vs) x some = refl
-
-pub least_first : (net : Network) (x : ℕ) → IsNetwork net → least (lows net x 1) ≡ low (rates_of net 0) x
-least_first net x law = first_low net.devices x law.devices.0
 
 counted : (net : Network) (x k : ℕ) → k < length net.devices → 1 ≤ k → 1 ≤ length (lows net x k)
 counted net x k within some = omega (arith, length-map (take k net.devices) (λ device. low device.rates x), length-take-le k net.devices (omega arith))

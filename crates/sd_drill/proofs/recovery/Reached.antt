@@ -55,9 +55,6 @@ module _ (A B C : List Hop → Type 0) (left : (hs : List Hop) → A hs → C hs
         bound = omega (arith, x.bound, y.bound);
       }
 
-abbrev hop_of : ℕ → ℕ → Hop
-hop_of parent link = record { parent = parent; link = link }
-
 wrong : {X : Type 0} → false ≡ true → X
 wrong same = cc
 

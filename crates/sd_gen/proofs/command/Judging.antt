@@ -19,7 +19,6 @@ use Rattle.sd_files.specs.declared.Status.{Status}
 use Rattle.sd_files.specs.declared.Status.TheVariants.{PlanRefused}
 use Rattle.sd_files.specs.declared.command_error.Answer.{Answer}
 use Rattle.sd_files.specs.declared.command_error.CommandError.{CommandError}
-use Rattle.sd_files.specs.declared.command_error.CommandError.TheVariants as ended
 use Rattle.sd_files.specs.planfiles.SetupError.{made_of}
 use Rattle.sd_files.specs.planfiles.Refusing.{Nothing}
 use Rattle.sd_files.specs.declared.planfiles.setup_error.SetupError.{SetupError}
@@ -46,22 +45,6 @@ module _ (net : Network) where
   plan_refused place root absent what plan breach answer is same printed answered =
       let (greedy, fits, says) = subst (IsPlanned net root absent) same is in
       (plan, greedy, fits, (Refused breach, says, (printed, answered)))
-
-  -- the line of the first plan, or of the second after the first
-  pub first_refused : (early : SetupError) → IsAllowed (AfterGreedy net 1 0 nothing_absent Nothing) (made_of early)
-      → IsAllowed (AfterBoth net Nothing) (made_of early)
-  first_refused early =
-      makes_more (AfterGreedy net 1 0 nothing_absent Nothing) (AfterBoth net Nothing) (made_of early) (λ bytes status.
-      greedy_more 1 0 nothing_absent Nothing (λ first. AfterGreedy net 2 1 second_absent (λ second. Nothing (first ∷ second ∷ []))) bytes status
-      (λ plan none. absurd none))
-
-  pub second_refused : (first : Plan) (early : SetupError) → IsMade net 0 nothing_absent first
-      → IsAllowed (AfterGreedy net 2 1 second_absent Nothing) (made_of early)
-      → IsAllowed (AfterBoth net Nothing) (made_of early)
-  second_refused first early made =
-      makes_more (AfterGreedy net 2 1 second_absent Nothing) (AfterBoth net Nothing) (made_of early) (λ bytes status written.
-      goes_on 1 0 nothing_absent (λ one. AfterGreedy net 2 1 second_absent (λ second. Nothing (one ∷ second ∷ []))) first bytes status made
-      (greedy_more 2 1 second_absent Nothing (λ second. Nothing (first ∷ second ∷ [])) bytes status (λ plan none. absurd none) written))
 
   -- a case whose plans are not both accepted ends before its schedule
   pub case_early : (number : ℕ) (early : SetupError) → IsAllowed (AfterBoth net Nothing) (made_of early) → IsAllowed (IsCaseOver net number) (made_of early)

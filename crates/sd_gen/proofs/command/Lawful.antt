@@ -10,7 +10,6 @@ use Rattle.sd_checker.specs.Conditions.{IsAccepted}
 use Rattle.sd_checker.specs.declared.Verdict.{Verdict}
 use Rattle.sd_checker.specs.declared.Verdict.TheVariants.{Accepted, Refused}
 use Rattle.sd_checker.proofs.Exclusive.{accepted_unbroken}
-use Rattle.sd_checker.proofs.Unique.{one_verdict}
 use Rattle.sd_planner.specs.Greedy.{IsGreedy}
 use Rattle.sd_planner.proofs.Single.{same_greedy}
 use Rattle.sd_gen.specs.fabric.Fabrics.{fabric, second_absent}

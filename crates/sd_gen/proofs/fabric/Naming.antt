@@ -1,5 +1,5 @@
 -- The names of a fabric are within the limits of names, and no two of a kind are equal.
-use Rattle.std.specs.Prelude.{◌≡◌, ◌≢◌, ℕ, ◌+◌, ◌-◌, ◌^◌, ◌<◌, ◌≤◌, Bool, true, false, ◌&&◌, ◌%◌, List, [], ◌∷◌, ◌++◌, length, nat_le, nat_lt, codes, decimal, refl, if◌then◌else◌}
+use Rattle.std.specs.Prelude.{◌≡◌, ◌≢◌, ℕ, ◌+◌, ◌-◌, ◌^◌, ◌<◌, ◌≤◌, Bool, true, false, ◌%◌, List, [], ◌∷◌, ◌++◌, length, nat_le, nat_lt, codes, decimal, refl, if◌then◌else◌}
 use Rattle.std.specs.List.{list_all}
 use Rattle.std.specs.Str.{bytes_eq}
 use Rattle.std.proofs.Common.{arith, ap, sym, ◌∙◌, append_assoc}

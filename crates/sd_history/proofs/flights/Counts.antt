@@ -15,7 +15,7 @@ use Rattle.sd_device.specs.declared.msg.Message.{Message}
 use Rattle.sd_device.specs.declared.Effect.{Effect}
 use Rattle.sd_device.specs.declared.Effect.TheVariants.{Quiet, Send}
 use Rattle.sd_sched.specs.Events.{reference_of}
-use Rattle.sd_history.specs.World.{Setting, Seen}
+use Rattle.sd_history.specs.World.{Setting}
 use Rattle.sd_history.specs.Steps.{Answers, Step, seen_of, changed, act_by, flight_count, flights_to, flights_by, ends_at}
 use Rattle.sd_history.specs.World as world
 use Rattle.sd_history.specs.Accepted.{AreSteps}

@@ -134,9 +134,3 @@ numbered_itself setting (s ∷ earlier) f is a = find-append (has_number f.numbe
         (beyond (flight_count earlier) (flight_count (s ∷ earlier)) f.number s.sent (step_given setting s earlier is)
         (numbers_within setting earlier f is.0 b).1)
         ∙ rest b
-
--- no two flights have one number
-pub one_flight : (setting : Setting) (steps : List Step) (f g : Flight) → AreSteps setting steps → Among f (flights steps) → Among g (flights steps)
-    → f.number ≡ g.number → f ≡ g
-one_flight setting steps f g is a b same =
-    let both : Some f ≡ Some g = sym (numbered_itself setting steps f is a) ∙ ap (flight_numbered steps) same ∙ numbered_itself setting steps g is b in cc

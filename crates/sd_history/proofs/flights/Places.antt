@@ -1,30 +1,23 @@
 -- Where a flight goes: from a device of the network over one of its links to another device, in a plan that is in force or staged. Where the
 -- plans break no rule of structure, its receiver is an end of the link. And it was sent no later than the latest event.
-use Rattle.std.specs.Prelude.{◌≡◌, ℕ, zero, suc, ◌-◌, ◌<◌, ◌≤◌, Bool, true, false, List, [], ◌∷◌, length, filter_map, find, nat_eq, slice_get, Option, Some, None, option_map, refl, if◌then◌else◌}
+use Rattle.std.specs.Prelude.{◌≡◌, ℕ, zero, suc, ◌<◌, Bool, true, false, List, [], ◌∷◌, length, filter_map, find, nat_eq, Option, Some, None, option_map, refl, if◌then◌else◌}
 use Rattle.std.specs.List.{cons_option}
-use Rattle.std.proofs.Common.{arith, sym, ap, subst, inl, inr}
-use Rattle.std.proofs.lemmas.Bool.{or_cases}
+use Rattle.std.proofs.Common.{arith, sym, subst, inl, inr}
 use Rattle.sd_num.specs.Lists.{map_or, below}
-use Rattle.sd_plan.specs.topo.Network.{Network, Each, device_numbers, link_numbers, link_of, joins}
-use Rattle.sd_plan.specs.topo.Places.{is_end_of}
-use Rattle.sd_plan.proofs.topo.Laws.{joined_end}
+use Rattle.sd_plan.specs.topo.Network.{Network, device_numbers, link_numbers}
 use Rattle.sd_plan.specs.declared.Plan.{Plan}
 use Rattle.sd_plan.specs.declared.End.{End}
-use Rattle.sd_plan.specs.Plans.{primary_of, backup_of}
-use Rattle.sd_plan.specs.Structure.{structure_breach}
-use Rattle.sd_plan.specs.Duties.{duty_of, ends_of, leads_to, follows_over}
+use Rattle.sd_plan.specs.Duties.{duty_of, ends_of, follows_over}
 use Rattle.sd_device.specs.Calls.{Receive, Give}
 use Rattle.sd_plan.proofs.Numbered.{found_passes}
-use Rattle.sd_plan.proofs.Rules.{keeps_rules, both_led}
 use Rattle.sd_device.specs.declared.msg.Flight.{Flight}
 use Rattle.sd_sched.specs.declared.Event.{Event}
 use Rattle.sd_sched.specs.declared.Event.TheVariants as event
-use Rattle.sd_sched.specs.Events.{reference_of, device_of}
-use Rattle.sd_history.specs.World.{Setting, Seen, window, epoch_in_force, staged_epoch, in_force, staged, plan_numbered, no_plan, latest_reference}
+use Rattle.sd_sched.specs.Events.{device_of}
+use Rattle.sd_history.specs.World.{Setting, Seen, window, epoch_in_force, staged_epoch, in_force, staged, plan_numbered}
 use Rattle.sd_history.specs.Steps.{Calls, Passes, Step, seen_of, changed, act_by, flights, flight_numbered, ends_at}
 use Rattle.sd_history.specs.Accepted.{AreSteps}
 use Rattle.sd_history.proofs.Among.{Among, first, later, either_side}
-use Rattle.sd_history.proofs.Contained.{time_goes_on}
 use Rattle.sd_history.proofs.Known.{named_is_known}
 use Rattle.sd_history.proofs.flights.Sending.{WasSent, was_sent}
 
@@ -162,18 +155,3 @@ pub flights_of_network : (setting : Setting) (steps : List Step) (f : Flight) �
 flights_of_network setting = each_flight setting (λ steps f. IsOfNetwork setting.net f) (sent_of_network setting) (λ s earlier f is rest. rest)
 
 -- Receivers
-
--- no plan of the setting breaks a rule of structure
-abbrev pub AreStructured : Setting → Type 0
-AreStructured setting = Each (λ plan. structure_breach setting.net plan ≡ None) setting.plans
-
--- a device that follows another in one of them is joined to it
-follower_joined : (setting : Setting) (n d l c : ℕ) → AreStructured setting → c < length setting.net.devices
-    → follows_over (plan_numbered setting n) d l c ≡ true → joins setting.net l c d ≡ true
-follower_joined setting n d l c right within follows = by (slice_get setting.plans (n - 1)) refl follows
-  where
-    by : (o : Option Plan) → slice_get setting.plans (n - 1) ≡ o → follows_over (map_or o no_plan (λ plan. plan)) d l c ≡ true → joins setting.net l c d ≡ true
-    by None none follows' = cc
-    by (Some plan) there follows' =
-        let both = both_led setting.net plan d l c (keeps_rules setting.net plan (right (n - 1) plan there)) within in
-        elim (or_cases (leads_to d l (primary_of plan c)) (leads_to d l (backup_of plan c)) follows') [ inl one ↦ both.0 one | inr two ↦ both.1 two ]

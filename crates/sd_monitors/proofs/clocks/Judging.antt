@@ -8,13 +8,12 @@ use Rattle.std.proofs.lemmas.List.{get_or_default}
 use Rattle.std.proofs.lemmas.List.Folds.{list_all-append}
 use Rattle.std.proofs.lemmas.List.Sums.{AllPass-from_list_all, list_all-from_AllPass}
 use Rattle.sd_history.proofs.Shared.{up_made}
-use Rattle.sd_num.specs.Lists.{below, map_or}
+use Rattle.sd_num.specs.Lists.{below}
 use Rattle.sd_num.proofs.Shared.{all_below}
 use Rattle.sd_plan.specs.topo.Network.{device_numbers}
-use Rattle.sd_plan.specs.declared.topo.Thing.TheVariants as thing
 use Rattle.sd_plan.specs.Plans.{is_member, members}
 use Rattle.sd_sched.specs.Events.{reference_of}
-use Rattle.sd_history.specs.World.{Setting, Seen, makes, fails, is_up, was_made, has_ever_failed, is_untouched, plan_numbered}
+use Rattle.sd_history.specs.World.{Setting, Seen, is_up, was_made, has_ever_failed, is_untouched, plan_numbered}
 use Rattle.sd_history.specs.Premises.{latest_tick, is_current_member, first_reference, ticks_in_time}
 use Rattle.sd_monitors.specs.clocks.Owing.{is_awaited, first_of, owed_at}
 use Rattle.sd_monitors.specs.clocks.Tickings.{AreOwed}

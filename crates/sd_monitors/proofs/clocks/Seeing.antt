@@ -4,8 +4,8 @@ use Rattle.std.proofs.lemmas.Bool.{or_parts, not-true, not-false, ltb-false}
 use Rattle.sd_num.specs.Lists.{map_or}
 use Rattle.sd_sched.specs.declared.Event.{Event}
 use Rattle.sd_sched.specs.declared.Event.TheVariants.{Tick, Recv}
-use Rattle.sd_sched.specs.Events.{reference_of, device_of, counter_of}
-use Rattle.sd_history.specs.World.{Setting, Seen, is_up, latest_reference, latest_reading}
+use Rattle.sd_sched.specs.Events.{device_of, counter_of}
+use Rattle.sd_history.specs.World.{Setting, Seen, is_up, latest_reading}
 use Rattle.sd_history.specs.Refusals.{makes_some, unknown_device, unknown_link, dead_device, dead_link, time_falls, counter_falls, not_started, started_twice, no_plan_left, window_order_seen, after_end, not_failed, not_member, too_many}
 use Rattle.sd_history.specs.Open.{may_be_seen}
 

@@ -1,10 +1,9 @@
 -- What the latest event does to the ticks of a device, and to since when it owes one.
-use Rattle.std.proofs.Common.{◌≡◌, ℕ, ◌+◌, ◌<◌, Bool, true, false, not, ◌&&◌, ◌||◌, cond, List, [], ◌∷◌, length, get_or, set, Option, Some, None, ◌⊎◌, inl, inr, refl, sym, ap, ◌∙◌, subst, arith, ◌-◌, ◌^◌, get_or-set_same, get_or-set_other}
-use Rattle.std.specs.Prelude.{option_map, unwrap_or, count_by}
+use Rattle.std.proofs.Common.{◌≡◌, ℕ, ◌+◌, ◌<◌, Bool, true, false, not, ◌&&◌, ◌||◌, cond, List, [], ◌∷◌, length, get_or, set, Option, Some, None, ◌⊎◌, inl, inr, refl, sym, ap, ◌∙◌, subst, ◌-◌, ◌^◌, get_or-set_same, get_or-set_other}
+use Rattle.std.specs.Prelude.{option_map, unwrap_or}
 use Rattle.std.proofs.Math.ListN.{length-set}
 use Rattle.std.proofs.lemmas.Bool.{eq-eqb, ne_eqb, cases_eq}
 use Rattle.std.proofs.lemmas.Option.{same_Some}
-use Rattle.std.proofs.lemmas.List.Sums.{sum_by-cons}
 use Rattle.sd_history.proofs.Shared.{epoch_kept}
 use Rattle.sd_num.specs.Lists.{map_or, same_number}
 use Rattle.sd_plan.specs.declared.topo.Thing.TheVariants as thing
@@ -193,9 +192,6 @@ ticks_stand setting kept s earlier stands = record {
         none_some d h = cc
     by (Some x) names d within = at (cases_eq d x)
       where
-        here : (k : ℕ) → k ≡ x → device_of s.event ≡ Some k
-        here k same = names ∙ ap Some (sym same)
-
         at : (d ≡ x) ⊎ (d ≡ x → ⊥)
             → TicksStandAt setting (get_or (set kept.states x (state_after s.event (get_or kept.states x no_state))) d no_state) (s ∷ earlier) d
         at (inl same) =

@@ -145,15 +145,3 @@ domain_begins setting kept nothing holds = record {
   room = record { devices = ap (λ f. f.device_room) nothing; links = ap (λ f. f.link_room) nothing };
   failed = λ x. ap (λ f. has_thing f x) nothing ∙ has_thing-nothing_of (length setting.net.devices) (length setting.net.links) x;
 }
-
--- room for what fails stays
-pub room_after : (net : Network) (s : Seen) (kept : DomainKept) → HasRoomFor net kept.failed → HasRoomFor net (domain_after net s kept).failed
-room_after net s kept room = closing s.closed (with_failure net (failure_of s.event) kept) (failing (failure_of s.event))
-  where
-    failing : (o : Option Thing) → HasRoomFor net (with_failure net o kept).failed
-    failing None = room
-    failing (Some x) = room_with net kept.failed x room
-
-    closing : (closed : Bool) (k : DomainKept) → HasRoomFor net k.failed → HasRoomFor net (if_closed closed k).failed
-    closing true k has = record { devices = has.devices; links = has.links }
-    closing false k has = has

@@ -6,11 +6,11 @@ use Rattle.std.proofs.lemmas.Bool.{eq-eqb, ne_eqb}
 use Rattle.sd_num.specs.Lists.{map_or, same_number, find_map_or, leading}
 use Rattle.sd_sched.specs.Events.{joined, given, is_stage, is_seal}
 use Rattle.sd_history.specs.Things.{mended}
-use Rattle.sd_history.specs.World.{Seen, window, window_is_open, has_entered}
+use Rattle.sd_history.specs.World.{Seen, window, window_is_open}
 use Rattle.sd_history.specs.Premises.{has_mend, has_seal, was_given}
 use Rattle.sd_monitors.specs.declared.renewal.mark.Mark.{Mark}
 use Rattle.sd_monitors.specs.renewal.Marks.{is_marked, mark_after, MarkStands}
-use Rattle.sd_monitors.specs.renewal.Windowed.{came_about, so_if, tells_mended, tells_sealed, tells_given, tells_entered}
+use Rattle.sd_monitors.specs.renewal.Windowed.{came_about, so_if, tells_mended, tells_sealed, tells_given}
 
 -- The words on the open window
 

@@ -1,30 +1,18 @@
 -- Whether an event keeps the order of renewals, kind by kind.
-use Rattle.std.proofs.Common.{◌≡◌, ℕ, ◌<◌, Bool, true, false, not, ◌&&◌, ◌||◌, List, ◌∷◌, length, Option, Some, None, is_some, option_map, refl, sym, ap, ◌∙◌, subst}
+use Rattle.std.proofs.Common.{◌≡◌, ℕ, ◌<◌, Bool, true, false, not, ◌&&◌, ◌||◌, List, ◌∷◌, length, refl, sym, ap, ◌∙◌, subst}
 use Rattle.std.specs.List.{list_all}
 use Rattle.std.proofs.lemmas.Bool.{and_parts, not-true}
-use Rattle.sd_num.specs.Lists.{map_or}
-use Rattle.sd_plan.specs.declared.Plan.{Plan}
 use Rattle.sd_plan.specs.Plans.{is_member, members}
-use Rattle.sd_sched.specs.Events.{is_commit, is_seal}
-use Rattle.sd_history.specs.World.{Setting, Seen, window, window_is_open, is_up, has_entered, joined_in_window, in_force, staged, staged_epoch, plan_numbered}
-use Rattle.sd_history.specs.Premises.{was_given, is_prepared, leaves_out_failed, leaves_out_cleanly, commits_orderly, has_seal, seals_orderly}
+use Rattle.sd_history.specs.World.{Setting, Seen, window_is_open, is_up, has_entered, joined_in_window, in_force}
+use Rattle.sd_history.specs.Premises.{was_given, is_prepared, leaves_out_failed}
 use Rattle.sd_history.specs.Open.{may_be_seen}
 use Rattle.sd_monitors.specs.renewal.Moments.{staged_plan, IsReady}
 use Rattle.sd_monitors.specs.renewal.Progressing.{ProgressKept, HasDevices, progress_after, ProgressStands}
 use Rattle.sd_monitors.specs.renewal.Renewals.{RenewalKept, IsPlanned, RenewalStands}
-use Rattle.sd_monitors.specs.renewal.Judging.{is_orderly, lacks, lags, is_ready, is_met}
+use Rattle.sd_monitors.specs.renewal.Judging.{is_orderly, lacks, lags, is_ready}
 use Rattle.sd_monitors.proofs.renewal.Belows.{members_pass, member_passes, member_fails}
 use Rattle.sd_monitors.proofs.renewal.Progressing.{progress_stands, devices_after}
-use Rattle.sd_monitors.proofs.renewal.Allowed.{commit_opened, planned_next}
-
--- the staged plan of an open window
-staged_is : (setting : Setting) (seen : List Seen) → window_is_open seen ≡ true → staged setting seen ≡ Some (staged_plan setting seen)
-staged_is setting seen = by (window seen)
-  where
-    by : (o : Option (List Seen)) → is_some o ≡ true
-        → option_map (λ (w : List Seen). plan_numbered setting (staged_epoch seen)) o ≡ Some (plan_numbered setting (staged_epoch seen))
-    by None opened = cc
-    by (Some w) opened = refl
+use Rattle.sd_monitors.proofs.renewal.Allowed.{planned_next}
 
 -- a staged plan whose members are prepared, and which leaves out what failed
 pub ready_so : (setting : Setting) (seen : List Seen) → window_is_open seen ≡ true → IsPlanned setting seen → is_ready setting seen ≡ true

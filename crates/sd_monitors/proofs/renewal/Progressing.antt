@@ -1,5 +1,5 @@
 -- What is kept of the open window stands for what was seen: at first, and after an event.
-use Rattle.std.proofs.Common.{◌≡◌, ℕ, zero, suc, ◌+◌, ◌<◌, ◌||◌, Bool, true, false, cond, List, [], ◌∷◌, length, nat_lt, replicate, refl, sym, ap, ◌∙◌, subst, arith}
+use Rattle.std.proofs.Common.{◌≡◌, ℕ, ◌+◌, ◌<◌, ◌||◌, Bool, true, false, cond, List, [], ◌∷◌, length, nat_lt, refl, sym, ap, ◌∙◌, subst, arith}
 use Rattle.std.specs.Prelude.{count_by, if◌then◌else◌}
 use Rattle.std.specs.List.{list_any}
 use Rattle.std.proofs.lemmas.List.Sums.{sum_by-cons}
@@ -8,21 +8,11 @@ use Rattle.sd_sched.specs.Events.{is_stage}
 use Rattle.sd_history.specs.World.{Seen, window_is_open, has_entered}
 use Rattle.sd_history.specs.Premises.{has_mend, has_seal, was_given}
 use Rattle.sd_monitors.specs.declared.renewal.mark.Mark.{Mark}
-use Rattle.sd_monitors.specs.renewal.Marks.{no_mark, MarkStands}
+use Rattle.sd_monitors.specs.renewal.Marks.{MarkStands}
 use Rattle.sd_monitors.specs.renewal.Windowed.{came_about, tells_mended, tells_sealed, tells_given, tells_entered}
 use Rattle.sd_monitors.specs.renewal.Progressing.{ProgressKept, HasDevices, progress_within, progress_after, ProgressStands}
 use Rattle.sd_monitors.proofs.renewal.Marking.{mend_came, seal_came, given_came, next_mark, next_windows, mark_next}
 use Rattle.sd_monitors.proofs.renewal.Slots.{at, given_slot, entered_slot, length_given, length_entered}
-
--- At first
-
-unmarked : MarkStands false 0 no_mark false
-unmarked = record { is = refl; before = tt }
-
-none_of : (count d : ℕ) → at (replicate count no_mark) d ≡ no_mark
-none_of zero d = refl
-none_of (suc n) zero = refl
-none_of (suc n) (suc d) = none_of n d
 
 -- One event more
 

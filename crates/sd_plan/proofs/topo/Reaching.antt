@@ -27,10 +27,6 @@ any_below p (suc n) some = by_side (any_append (below n) some) (any_below p n)
     by_side (inr h) rest = (n, omega arith, h)
 
 module _ (net : Network) (may_pass may_cross : ℕ → Bool) where
-  -- a link that may be crossed joins the two
-  has_link : ℕ → ℕ → Bool
-  has_link d e = list_any (λ l. may_cross l && joins net l d e) (link_numbers net)
-
   -- a walk of at most n links joins
   pub walk_joins : (n d x : ℕ) → joined_within net may_pass may_cross n d x ≡ true → Joined net may_pass may_cross d x
   walk_joins zero d x within = subst (λ y. Joined net may_pass may_cross d y) (eqb-true d x within) here

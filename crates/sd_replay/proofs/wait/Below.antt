@@ -30,12 +30,6 @@ filter_more p n = filter-append p (below n) (n ∷ []) ∙ by (p n)
     by true = refl
     by false = append-nil (filter p (below n))
 
-pub same_filter : (p q : ℕ → Bool) (n : ℕ) → Agree p q n → filter p (below n) ≡ filter q (below n)
-same_filter p q zero agree = refl
-same_filter p q (suc n) agree =
-    filter-append p (below n) (n ∷ []) ∙ ap (λ xs. xs ++ filter p (n ∷ [])) (same_filter p q n (fewer p q n agree))
-    ∙ ap (λ b. filter q (below n) ++ cond b (n ∷ []) []) (agree n (omega arith)) ∙ sym (filter-append q (below n) (n ∷ []))
-
 pub same_any : (p q : ℕ → Bool) (n : ℕ) → Agree p q n → list_any p (below n) ≡ list_any q (below n)
 same_any p q zero agree = refl
 same_any p q (suc n) agree =

@@ -44,10 +44,6 @@ module _ (before after : ℕ → Option ℕ) (d : ℕ) (others : (e : ℕ) → e
       let there = through_change before after (λ x. nat_eq x d) (λ x apart. others x (eqb-false x d apart)) none e loop in
       subst (λ x. IsOnLoop after x) (eqb-true there.0 d there.1) there.2
 
-  -- so there is none where it is on none
-  pub none_by_one : HasNoLoop before → (IsOnLoop after d → ⊥) → HasNoLoop after
-  none_by_one none apart e loop = apart (through_one none e loop)
-
 -- one entry of a list that is written
 pub through_written : (parents : List (Option ℕ)) (d : ℕ) (entry : Option ℕ) → HasNoLoop (parent_in parents) → (e : ℕ)
     → IsOnLoop (parent_in (set parents d entry)) e → IsOnLoop (parent_in (set parents d entry)) d

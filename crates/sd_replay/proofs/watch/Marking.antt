@@ -41,12 +41,6 @@ fewer_new marks d mark new some =
     none (suc m) some = ap (λ b. if b then 1 else 0) (ne_eqb (suc m) 0 (λ same. omega arith))
 
 module _ (parent : ℕ → Option ℕ) (before : List ℕ) where
-  pub walk_begins : (start here : ℕ) → AreAtMost start before → IsWalk parent before before (start + 1) here
-  walk_begins start here older = record {
-    leads = λ d at. let most : mark_at before d ≤ start = older d in absurd (omega arith);
-    others = λ d apart. refl;
-  }
-
   module _ (now : List ℕ) (walk here : ℕ) (is : IsWalk parent before now walk here) where
     pub walk_goes_on : (next : ℕ) → has_mark now here 0 ≡ true → parent here ≡ Some next → IsWalk parent before (set now here walk) walk next
     walk_goes_on next new follows =
@@ -95,19 +89,6 @@ module _ (parent : ℕ → Option ℕ) (before : List ℕ) where
     -- and in the first case on a loop
     pub on_loop_when_met : has_mark now here walk ≡ true → IsOnLoop parent here
     on_loop_when_met mine = let back = is.leads here (marked_parts now here walk mine).1 in record { steps = back.0; back = back.1 }
-
-    -- marks that were there stay, and none is greater than that of the walk
-    pub walk_keeps : 0 < walk → (d : ℕ) → mark_at before d ≢ 0 → mark_at now d ≢ 0
-    walk_keeps some d marked none = elim (cases_eq (mark_at now d) walk) [
-      | inl mine ↦ omega arith
-      | inr other ↦ marked (sym (is.others d other) ∙ none)
-    ]
-
-    pub walk_at_most : (start : ℕ) → walk ≡ start + 1 → AreAtMost start before → AreAtMost (start + 1) now
-    walk_at_most start last older d = elim (cases_eq (mark_at now d) walk) [
-      | inl mine ↦ omega arith
-      | inr other ↦ (let most : mark_at before d ≤ start = older d in omega (arith, is.others d other))
-    ]
 
 -- The device at which a walk begins has its mark once the walk has gone on.
 pub not_begun : (marks : List ℕ) (start here walk : ℕ) → 0 < walk → has_mark marks here 0 ≡ true → (has_mark marks start 0 ≡ true → here ≡ start)

@@ -1,5 +1,5 @@
 -- The lines of what is found of one event.
-use Rattle.std.specs.Prelude.{◌≡◌, ◌⊎◌, ℕ, ◌<◌, Bool, false, not, ◌||◌, ◌&&◌, is_some, List, [], ◌∷◌, ◌++◌, length, flat_map, Option, IfSome}
+use Rattle.std.specs.Prelude.{ℕ, ◌<◌, Bool, false, not, ◌||◌, ◌&&◌, is_some, List, [], ◌∷◌, ◌++◌, length, flat_map, Option, IfSome}
 use Rattle.sd_num.specs.Lists.{map_or}
 use Rattle.sd_num.specs.Texts.{text_of}
 use Rattle.sd_plan.specs.topo.Network.{Network}
@@ -7,9 +7,7 @@ use Rattle.sd_num.specs.declared.clock.Report.{Report}
 use Rattle.sd_num.specs.clock.Estimates.{contains}
 use Rattle.sd_history.specs.declared.BrokenSet.{BrokenSet}
 use Rattle.sd_history.specs.Lines.{Line, LoopAlarm, RootsAlarm, broken_lines, report_lines}
-use Rattle.sd_history.specs.World.{Setting}
-use Rattle.sd_history.specs.Steps.{Step}
-use Rattle.sd_history.specs.Text.{line_words, bytes_of}
+use Rattle.sd_history.specs.Text.{line_words}
 use Rattle.sd_replay.specs.declared.lines.findings.Findings.{Findings}
 
 -- all devices of what was found are of the network
@@ -55,11 +53,3 @@ line_bytes net n line = text_of (line_words net n line)
 -- all lines of the event with number n, as they are printed
 abbrev pub found_bytes : Network → ℕ → Findings → List ℕ
 found_bytes net n found = flat_map (line_bytes net n) (found_lines found)
-
--- nothing, or what ends with a newline
-abbrev pub AreWhole : List ℕ → Type 0
-AreWhole bytes = (bytes ≡ []) ⊎ ((front : List ℕ) × (bytes ≡ front ++ 10 ∷ []))
-
--- what is printed of each event is whole lines
-abbrev pub PrintsWhole : Type 0
-PrintsWhole = (setting : Setting) (steps : List Step) → AreWhole (bytes_of setting steps)

@@ -1,5 +1,5 @@
 -- Loops of parents and several roots.
-use Rattle.std.specs.Prelude.{◌≡◌, ℕ, zero, suc, ◌<◌, Bool, false, List, [], ◌∷◌, length, filter, Option, Some, None, option_and_then}
+use Rattle.std.specs.Prelude.{◌≡◌, ℕ, suc, ◌<◌, Bool, false, List, [], ◌∷◌, length, filter, Option, Some, None}
 use Rattle.sd_num.specs.Lists.{below, at_place, follow}
 
 -- the parent of a device in a list, and none past its end

@@ -33,7 +33,7 @@ use Rattle.sd_files.proofs.planfiles.Reading.{through}
 use Rattle.sd_resume.specs.command.Compared.{IsCompared}
 use Rattle.sd_resume.specs.command.Parts.{AfterLines, AfterPart, part_work}
 use Rattle.sd_replay.specs.Devices.{QuietReplay}
-use Rattle.sd_resume.specs.command.Played.{HasPlayed, HasRead, IsInputRefused}
+use Rattle.sd_resume.specs.command.Played.{HasPlayed, HasRead}
 use Rattle.sd_resume.specs.command.Resumes.{AfterBoth}
 
 -- the texts of a shelf

@@ -29,7 +29,7 @@ use Rattle.sd_files.specs.work.Steps.{Step, end_step, refused_step, step_for}
 use Rattle.sd_files.specs.work.Works.{Work}
 use Rattle.sd_resume.specs.command.Parts.{accepted, part_work, unless_refused}
 use Rattle.sd_replay.specs.Devices.{QuietReplay}
-use Rattle.sd_resume.specs.command.Played.{ComesTo, EndsWithLine, HasPlayed, IsInputRefused, IsTaken, StepsOn}
+use Rattle.sd_resume.specs.command.Played.{ComesTo, EndsWithLine, HasPlayed, IsTaken, StepsOn}
 
 -- the steps of a replay that has played events are their chronicle
 chronicled : (replay : QuietReplay) (setting : Setting) (events : List Event) (played : HasPlayed replay setting events)
@@ -132,11 +132,6 @@ module _ (word : List ℕ) (old new : QuietReplay) (result : Result Bool SetupEr
   on_refused why comes work events =
       λ setting is played. subst (λ (w : Work Event). ComesTo w setting new events (refused_step w events why) result) (sym is) (comes setting events played)
 
-  -- the reader has failed
-  pub on_fault : (work : Work Event) (events : List Event) (step : Step Event) → result ≡ Err (Stopped ended.Shelf) → StepsOn word old new result work events step
-  on_fault work events step is =
-      λ setting same played. subst (λ (r : Result Bool SetupError). ComesTo work setting new events step r) (sym is) tt
-
 -- a refusal at the next line
 pub refuses : (word why : List ℕ) (replay : QuietReplay) (setting : Setting) (events : List Event) (n : ℕ) (early : SetupError)
     → HasPlayed replay setting events → n ≡ length events → EndsWithLine (text_of (codes "input" ∷ word ∷ decimal (n + 1) ∷ why ∷ [])) early
@@ -150,12 +145,6 @@ refuses word why replay setting events n (Answered answer) played is ends = (
 refuses word why replay setting events n (Stopped (ended.Refused r)) played is ends = absurd ends
 refuses word why replay setting events n (Stopped ended.Shelf) played is ends = absurd ends
 refuses word why replay setting events n (Stopped ended.Memory) played is ends = tt
-
-pub never_shelf : (line : List ℕ) (early : SetupError) → EndsWithLine line early → early ≡ Stopped ended.Shelf → ⊥
-never_shelf line (Answered answer) ends is = cc
-never_shelf line (Stopped (ended.Refused why)) ends is = absurd ends
-never_shelf line (Stopped ended.Shelf) ends is = absurd ends
-never_shelf line (Stopped ended.Memory) ends is = cc
 
 -- a line that was taken
 pub takes_accepted : (word : List ℕ) (old new : QuietReplay) (setting : Setting) (events : List Event) (line : List ℕ) → IsTaken new setting events line true

@@ -18,7 +18,7 @@ use Rattle.sd_sched.specs.declared.Event.TheVariants as event
 use Rattle.sd_sched.specs.Events.{device_of, message_of, received}
 use Rattle.sd_history.specs.World.{setting_over, is_up, link_has_failed, epoch_in_force, staged_epoch, in_force, staged}
 use Rattle.sd_history.specs.Steps.{Act, Makes, Calls, Asks, Passes, Answers, Told, Step, seen_of, changed, live_answers, acts_in, epoch_in, has_settled, flight_count, flight_numbered, flight_to, flights_to, ends_at, flights_by, flights_of, act_by, taken_by, acted_by}
-use Rattle.sd_resume.specs.law.Shifts.{Shift, raised_epoch, raised_message, raised_duty, raised_flight, raised_effect, raised_event}
+use Rattle.sd_resume.specs.law.Shifts.{Shift, raised_epoch, raised_message, raised_flight, raised_effect, raised_event}
 use Rattle.sd_resume.specs.law.Law.{whole, NamesSome}
 use Rattle.sd_resume.specs.law.Agreement.{raised_answers, raised_told, raised_act, StepsAgree}
 use Rattle.sd_resume.proofs.law.Words.{same_words, raised_received}
@@ -26,10 +26,6 @@ use Rattle.sd_resume.proofs.law.Stamps.{same_epoch}
 use Rattle.sd_resume.proofs.law.Plans.{epoch_raised, staged_raised, in_force_same, staged_same, current_same}
 
 -- devices
-
-same_parent : (shift : Shift) (a : Option Answers) → option_and_then (λ (x : Answers). x.parent) (option_map (raised_answers shift) a) ≡ option_and_then (λ (x : Answers). x.parent) a
-same_parent shift None = refl
-same_parent shift (Some a) = refl
 
 same_acts : (shift : Shift) (a : Option Answers) → map_or (option_map (raised_answers shift) a) false (λ x. x.acts) ≡ map_or a false (λ x. x.acts)
 same_acts shift None = refl
@@ -85,9 +81,6 @@ reaching_raised shift (f ∷ fs) = go f.reaches (filter (λ g. g.reaches) fs) (r
 module _ (shift : Shift) (net : Network) (front plans : List Plan) (behind : shift.plans ≡ length front) (one other : List Step)
     (agree : StepsAgree shift one other) where
   -- The act
-
-  duty_raised : (plan : Plan) (epoch d : ℕ) → duty_of net plan (raised_epoch shift epoch) d ≡ raised_duty shift (duty_of net plan epoch d)
-  duty_raised plan epoch d = refl
 
   pub act_same : (e : Event) → NamesSome e → act_by (whole net front plans) one (raised_event shift e) ≡ raised_act shift (act_by (setting_over net plans) other e)
   act_same (event.Start reference device counter clock eps) some =

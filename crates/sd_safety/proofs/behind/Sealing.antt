@@ -1,19 +1,17 @@
 -- The backup root is sealed before its first wait is over: at its start, or by the closing, at which it had heard at most W ago. By induction on the history:
 -- in
 -- an era it takes up nothing, since a duty that waits is of the staged plan.
-use Rattle.std.specs.Prelude.{◌≡◌, ℕ, ◌+◌, ◌*◌, ◌≤◌, Bool, true, false, ◌&&◌, List, [], ◌∷◌, nat_eq, nat_le, nat_lt, length, Option, Some, None, is_some, option_map, option_and_then, refl, if◌then◌else◌}
+use Rattle.std.specs.Prelude.{◌≡◌, ℕ, ◌+◌, ◌*◌, ◌≤◌, Bool, true, false, ◌&&◌, List, [], ◌∷◌, nat_eq, nat_le, nat_lt, length, Option, Some, None, is_some, option_map, refl, if◌then◌else◌}
 use Rattle.std.proofs.Common.{arith, ◌∙◌, ap, sym, subst}
 use Rattle.std.proofs.lemmas.Bool.{and_parts, and_from, eqb-true, eq-eqb, leb-true, lt-ltb}
 use Rattle.sd_num.specs.Lists.{map_or, same_number}
 use Rattle.sd_plan.specs.declared.topo.Thing.TheVariants as thing
 use Rattle.sd_plan.specs.declared.Plan.{Plan}
 use Rattle.sd_plan.specs.declared.Duty.{Duty}
-use Rattle.sd_plan.specs.declared.Edge.{Edge}
 use Rattle.sd_plan.specs.Plans.{is_member, is_root}
 use Rattle.sd_checker.specs.check_root.Timing.{silence}
-use Rattle.sd_device.specs.declared.msg.Message.{Message}
-use Rattle.sd_device.specs.Calls.{Call, Transition, Entered, Accepted, Committed, Recommitted, Moved, TookOver, Emitted, Nothing, Past}
-use Rattle.sd_device.specs.Words.{after, transition_of, duty_now, given_now, taken_up, is_sealed, is_seal, over_link}
+use Rattle.sd_device.specs.Calls.{Call, Past}
+use Rattle.sd_device.specs.Words.{after, transition_of, duty_now, given_now, taken_up, is_sealed, is_seal}
 use Rattle.sd_sched.specs.declared.Event.{Event}
 use Rattle.sd_sched.specs.Events.{reference_of}
 use Rattle.sd_history.specs.World.{Setting, Seen, makes, fails, is_up, latest_reference, plan_numbered}
@@ -45,20 +43,6 @@ use Rattle.sd_safety.proofs.behind.Waiting.{waiting}
 use Rattle.sd_safety.proofs.waits.LookingBack.{all_three}
 use Rattle.sd_safety.proofs.moves.Ahead.{up_since}
 use Rattle.sd_safety.proofs.windows.Leading.{stands_by}
-
--- What is taken up was waiting
-
-commit_by : (g : Option Duty) (acts : Bool) (duty : Duty) → taken_up (map_or g Nothing (λ u. if acts then Recommitted u else Committed u)) ≡ Some duty
-    → g ≡ Some duty
-commit_by None acts duty is = cc
-commit_by (Some u) true duty is = is
-commit_by (Some u) false duty is = is
-
-tick_by : (a b c : Bool) (duty : Duty) → taken_up (if a then Emitted else if b then TookOver else if c then Moved else Nothing) ≡ Some duty → ⊥
-tick_by true b c duty is = cc
-tick_by false true c duty is = cc
-tick_by false false true duty is = cc
-tick_by false false false duty is = cc
 
 -- One step
 

@@ -106,9 +106,6 @@ module _ (setting : Setting) (x : Event) (h : List Event) (e : Event) (comes : I
   abbrev b : ℕ
   b = (plan_now setting (chronicle setting (x ∷ h))).backup_root
 
-  abbrev n : ℕ
-  n = era (chronicle setting (x ∷ h))
-
   clean : IsSteady setting (x ∷ h)
   clean = clean_before setting e (x ∷ h) comes.clean
 

@@ -83,9 +83,6 @@ backup_since setting (x ∷ y ∷ hs) e comes s0 b is old on put alive q (behind
     steps : List Step
     steps = chronicle setting (x ∷ y ∷ hs)
 
-    older : List Step
-    older = chronicle setting (y ∷ hs)
-
     parts : (moved (chronicle setting (x ∷ y ∷ hs)) b ≡ true) × (acts_in (chronicle setting (x ∷ y ∷ hs)) b ≡ false)
     parts = two_parts (moved (chronicle setting (x ∷ y ∷ hs)) b) (acts_in (chronicle setting (x ∷ y ∷ hs)) b) on
 

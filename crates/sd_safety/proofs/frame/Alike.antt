@@ -10,7 +10,7 @@ use Rattle.sd_history.specs.World.{Setting, is_up, link_has_failed, staged_epoch
 use Rattle.sd_history.specs.Steps.{Step, seen_of, parent_in, acts_in, given_in}
 use Rattle.sd_safety.specs.invariant.Bounds.{depth}
 use Rattle.sd_safety.specs.invariant.Eras.{plan_now, device_failed_now, link_failed_now, is_old, is_new, is_blank, is_past, on_primary, hit, hit_otherwise, path_hit, root_failed, root_lives}
-use Rattle.sd_safety.specs.invariant.Clauses.{member_follows, returned_is_joined, outsider_is_past, counted_is_current, blank_is_idle, link_is_sound, root_acts, failed_root_is_not_old, ordinary_follows, backup_root_acts, backup_is_caused, move_is_caused, takeover_is_caused, above_backup_root, backup_root_stays, path_stays, none_is_new, member_enters, staged_root, committer_is_root, committer_acts, leads_to_root, new_is_linked, left_out_is_hit, someone_untouched}
+use Rattle.sd_safety.specs.invariant.Clauses.{member_follows, returned_is_joined, outsider_is_past, counted_is_current, blank_is_idle, link_is_sound, root_acts, failed_root_is_not_old, ordinary_follows, backup_root_acts, backup_is_caused, move_is_caused, takeover_is_caused, above_backup_root, backup_root_stays, path_stays, none_is_new, member_enters, staged_root, committer_is_root, committer_acts, leads_to_root, new_is_linked}
 use Rattle.sd_safety.specs.frame.Frames.{IsAlike, IsAlikeAt}
 use Rattle.sd_safety.proofs.frame.Words as words
 
@@ -137,9 +137,6 @@ module _ (setting : Setting) (one two : List Step) (alike : IsAlike setting one 
   pub none_new_same : (d : ℕ) → none_is_new two d ≡ none_is_new one d
   none_new_same d = rw (alike.commit_is, new d) refl
 
-  pub untouched_same : (d : ℕ) → someone_untouched setting two d ≡ someone_untouched setting one d
-  untouched_same d = rw ((each d).untouched_is) refl
-
   -- C9, where the same plan is staged
   module _ (staged_is : staged setting (seen_of two) ≡ staged setting (seen_of one)) where
     pub staged_member : (d : ℕ) → is_staged_member setting (seen_of two) d ≡ is_staged_member setting (seen_of one) d
@@ -166,6 +163,3 @@ module _ (setting : Setting) (one two : List Step) (alike : IsAlike setting one 
 
     pub linked_same : (d : ℕ) → new_is_linked setting two d ≡ new_is_linked setting one d
     linked_same d = rw (new d, leads_same d, root_of_staged, primary_same d, parent_is_new d) refl
-
-    pub left_out_same : (d : ℕ) → left_out_is_hit setting two d ≡ left_out_is_hit setting one d
-    left_out_same d = rw (alike.commit_is, hits d, staged_member d, up d, plan) refl

@@ -1,6 +1,6 @@
 -- What a step that is elsewhere leaves alone of a device: its answers, its past, whether it is up, how it stands, and when it heard, moved and sent.
 -- By the word's own clauses, with no premise.
-use Rattle.std.specs.Prelude.{◌≡◌, ℕ, Bool, true, false, ◌&&◌, ◌||◌, not, List, ◌∷◌, nat_eq, Option, Some, None, is_some, option_map, option_and_then, refl, if◌then◌else◌}
+use Rattle.std.specs.Prelude.{◌≡◌, ℕ, Bool, true, false, ◌||◌, List, ◌∷◌, Option, Some, None, option_map, option_and_then, refl, if◌then◌else◌}
 use Rattle.std.proofs.Common.{◌∙◌, ap}
 use Rattle.sd_num.specs.Lists.{map_or, same_number}
 use Rattle.sd_plan.specs.declared.topo.Thing.TheVariants as thing
@@ -8,9 +8,9 @@ use Rattle.sd_device.specs.Calls.{CallDone, Past}
 use Rattle.sd_device.specs.Words.{after, transition_of, has_moved}
 use Rattle.sd_sched.specs.Events.{reference_of}
 use Rattle.sd_history.specs.World.{fails, is_up}
-use Rattle.sd_history.specs.Steps.{Act, Makes, Calls, Asks, Passes, Answers, Step, seen_of, changed, answers_in, live_answers, parent_in, acts_in, epoch_in, given_in, has_settled}
+use Rattle.sd_history.specs.Steps.{Act, Makes, Calls, Asks, Passes, Answers, Step, seen_of, changed, answers_in, live_answers, parent_in, acts_in, epoch_in, given_in}
 use Rattle.sd_history.specs.Chronicle.{past_in, past_after, new_past}
-use Rattle.sd_safety.specs.invariant.Eras.{live_past, moved, on_primary, on_backup, did_by, does, latest_such, hears, moves, sends, heard_at, moved_at, sent_at, heard_since_made}
+use Rattle.sd_safety.specs.invariant.Eras.{live_past, moved, did_by, does, latest_such, hears, heard_at}
 use Rattle.sd_safety.specs.frame.Frames.{IsElsewhere}
 
 past_elsewhere : (act : Act) (d : ℕ) (p : Option Past) → same_number (changed act) d ≡ false → past_after act d p ≡ p
@@ -49,9 +49,6 @@ module _ (earlier : List Step) (s : Step) (d : ℕ) (alone : IsElsewhere s d) wh
   pub given_alone : given_in (s ∷ earlier) d ≡ given_in earlier d
   given_alone = ap (λ (o : Option Answers). option_and_then (λ a. option_map (λ duty. duty.epoch) a.given) o) live_alone
 
-  pub settled_alone : (epoch : ℕ) → has_settled (s ∷ earlier) epoch d ≡ has_settled earlier epoch d
-  settled_alone epoch = ap (λ (o : Option Answers). map_or o false (λ a. nat_eq a.epoch epoch && a.sealed)) live_alone
-
   pub past_alone : past_in (s ∷ earlier) d ≡ past_in earlier d
   past_alone = past_elsewhere s.act d (past_in earlier d) alone.changes
 
@@ -60,14 +57,6 @@ module _ (earlier : List Step) (s : Step) (d : ℕ) (alone : IsElsewhere s d) wh
 
   pub moved_alone : moved (s ∷ earlier) d ≡ moved earlier d
   moved_alone = ap (λ (p : Option Past). map_or p false has_moved) live_past_alone
-
-  pub on_primary_alone : on_primary (s ∷ earlier) d ≡ on_primary earlier d
-  on_primary_alone =
-      ap (λ (p : Option Past). is_some p && not (map_or p false has_moved) && not (acts_in (s ∷ earlier) d)) live_past_alone
-      ∙ ap (λ b. is_some (live_past earlier d) && not (moved earlier d) && not b) acts_alone
-
-  pub on_backup_alone : on_backup (s ∷ earlier) d ≡ on_backup earlier d
-  on_backup_alone = ap (λ b. b && not (acts_in (s ∷ earlier) d)) moved_alone ∙ ap (λ b. moved earlier d && not b) acts_alone
 
   pub does_nothing : (test : CallDone → Bool) → does test earlier s d ≡ false
   does_nothing test = ap (λ (o : Option CallDone). map_or o false test) (did_elsewhere earlier s.act d alone.changes)
@@ -79,14 +68,3 @@ module _ (earlier : List Step) (s : Step) (d : ℕ) (alone : IsElsewhere s d) wh
 
   pub heard_alone : heard_at (s ∷ earlier) d ≡ heard_at earlier d
   heard_alone = such_alone hears
-
-  pub move_alone : moved_at (s ∷ earlier) d ≡ moved_at earlier d
-  move_alone = such_alone moves
-
-  pub sent_alone : sent_at (s ∷ earlier) d ≡ sent_at earlier d
-  sent_alone = such_alone sends
-
-  pub heard_since_alone : heard_since_made (s ∷ earlier) d ≡ heard_since_made earlier d
-  heard_since_alone =
-      ap (λ b. if b then false else does hears earlier s d || heard_since_made earlier d) alone.unmade
-      ∙ ap (λ b. b || heard_since_made earlier d) (does_nothing hears)

@@ -29,9 +29,6 @@ module _ {setting : Setting} (r d : ℕ) (history : List Event) (comes : IsNextE
   abbrev s : Step
   s = next_step setting (chronicle setting history) (event.FailDevice r d)
 
-  abbrev two : List Step
-  two = chronicle setting (event.FailDevice r d ∷ history)
-
   stays : s.seen.closed ≡ false
   stays = failed_device_closes_none setting history r d comes.clean
 

@@ -14,7 +14,7 @@ use Rattle.sd_device.specs.declared.msg.Flight.{Flight}
 use Rattle.sd_device.specs.declared.Effect.{Effect}
 use Rattle.sd_device.specs.declared.Effect.TheVariants.{Quiet, Send}
 use Rattle.sd_device.specs.Calls as calls
-use Rattle.sd_device.specs.Calls.{Call, Transition, CallDone, Past}
+use Rattle.sd_device.specs.Calls.{Call, Transition, Past}
 use Rattle.sd_device.specs.Words.{after, transition_of, effect_of, accepted_over, epoch_now}
 use Rattle.sd_sched.specs.declared.Event.{Event}
 use Rattle.sd_sched.specs.declared.Event.TheVariants as event

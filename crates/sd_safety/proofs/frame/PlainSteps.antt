@@ -1,6 +1,6 @@
 -- What a plain step leaves alone of the world: the plan in force, what failed in the era, the open window with its commit, joins and staged plan,
 -- and the state of links. Each word with the part of being plain that it needs.
-use Rattle.std.specs.Prelude.{◌≡◌, ℕ, ◌+◌, Bool, true, false, ◌&&◌, ◌||◌, not, List, [], ◌∷◌, cond, fold, filter_map, Option, Some, None, is_some, option_map, refl, if◌then◌else◌}
+use Rattle.std.specs.Prelude.{◌≡◌, ℕ, ◌+◌, Bool, true, false, ◌&&◌, ◌||◌, not, List, [], ◌∷◌, cond, fold, filter_map, Option, Some, None, option_map, refl, if◌then◌else◌}
 use Rattle.std.specs.List.{list_any, cons_option}
 use Rattle.std.proofs.Common.{◌∙◌, ap}
 use Rattle.sd_num.specs.Lists.{map_or, same_number, find_map_or, leading}
@@ -8,9 +8,9 @@ use Rattle.sd_plan.specs.declared.topo.Thing.{Thing}
 use Rattle.sd_plan.specs.declared.topo.Thing.TheVariants as thing
 use Rattle.sd_sched.specs.Events.{reference_of, joined, is_stage, is_commit}
 use Rattle.sd_history.specs.Things.{failure_of, mended}
-use Rattle.sd_history.specs.World.{Setting, Seen, makes, fails, is_thing, has_failed, was_made, has_ever_failed, is_untouched, latest_reference, window, window_is_open, in_window, has_commit, staged_epoch, plan_numbered, staged, joined_in_window}
+use Rattle.sd_history.specs.World.{Setting, Seen, makes, fails, is_thing, has_failed, was_made, has_ever_failed, is_untouched, window, in_window, has_commit, staged_epoch, plan_numbered, staged, joined_in_window}
 use Rattle.sd_history.specs.Steps.{Step, seen_of}
-use Rattle.sd_safety.specs.invariant.Eras.{era, plan_now, failed_now, beginning}
+use Rattle.sd_safety.specs.invariant.Eras.{era, plan_now, failed_now}
 use Rattle.sd_safety.specs.invariant.Clauses.{commit_at}
 
 module _ (setting : Setting) (earlier : List Step) (s : Step) (stays : s.seen.closed ≡ false) where
@@ -37,13 +37,6 @@ module _ (setting : Setting) (earlier : List Step) (s : Step) (stays : s.seen.cl
     window_goes_on =
         ap (λ b. if b then None else if is_stage s.seen.event then Some [] else option_map (λ w. s.seen ∷ w) (window (seen_of earlier))) stays
         ∙ ap (λ b. if b then Some [] else option_map (λ w. s.seen ∷ w) (window (seen_of earlier))) unstaged
-
-    pub window_open_kept : window_is_open (seen_of (s ∷ earlier)) ≡ window_is_open (seen_of earlier)
-    window_open_kept = ap (λ (o : Option (List Seen)). is_some o) window_goes_on ∙ go (window (seen_of earlier))
-      where
-        go : (o : Option (List Seen)) → is_some (option_map (λ w. s.seen ∷ w) o) ≡ is_some o
-        go None = refl
-        go (Some w) = refl
 
     -- and what passes a test in it is what passed before, where this step does not
     pub in_window_kept : (test : Seen → Bool) → test s.seen ≡ false → in_window test (seen_of (s ∷ earlier)) ≡ in_window test (seen_of earlier)
@@ -95,7 +88,3 @@ pub untouched_kept : (earlier : List Step) (s : Step) (d : ℕ) → makes d s.se
 untouched_kept earlier s d unmade unfailed =
     ap (λ b. not (b || was_made (seen_of earlier) d) && not (fails (thing.Device d) s.seen.event || has_ever_failed (seen_of earlier) d)) unmade
     ∙ ap (λ b. not (was_made (seen_of earlier) d) && not (b || has_ever_failed (seen_of earlier) d)) unfailed
-
--- the latest reference is the step's
-pub reference_is : (earlier : List Step) (s : Step) → latest_reference (seen_of (s ∷ earlier)) ≡ reference_of s.seen.event
-reference_is earlier s = refl

@@ -1,26 +1,17 @@
 -- The words of the invariant in two states that are alike: each is the same. By the words' clauses.
-use Rattle.std.specs.Prelude.{◌≡◌, ℕ, ◌+◌, false, not, List, filter, Option, option_map, option_and_then}
+use Rattle.std.specs.Prelude.{◌≡◌, ℕ, ◌+◌, not, List, filter, Option, option_map, option_and_then}
 use Rattle.std.proofs.Common.{◌∙◌, ap}
-use Rattle.sd_num.specs.Lists.{map_or, same_number}
+use Rattle.sd_num.specs.Lists.{same_number}
 use Rattle.sd_plan.specs.declared.topo.Thing.TheVariants as thing
 use Rattle.sd_plan.specs.domain.Things.{same_thing}
 use Rattle.sd_plan.specs.declared.Plan.{Plan}
 use Rattle.sd_plan.specs.Walks.{path, epath}
 use Rattle.sd_history.specs.World.{Setting, staged_epoch, plan_numbered}
-use Rattle.sd_history.specs.Steps.{Answers, Step, seen_of, live_answers, parent_in, acts_in, epoch_in, given_in}
+use Rattle.sd_history.specs.Steps.{Answers, Step, seen_of, live_answers, epoch_in, given_in}
 use Rattle.sd_safety.specs.invariant.Eras.{era, plan_now, failed_now, device_failed_now, link_failed_now, is_among, touches, is_old, is_new, is_blank, hit, hit_otherwise, path_hit, root_failed}
 
 -- of one device, from what it answers
 module _ (one two : List Step) (d : ℕ) (same : live_answers two d ≡ live_answers one d) where
-  pub parent_same : parent_in two d ≡ parent_in one d
-  parent_same = ap (λ (o : Option Answers). option_and_then (λ a. a.parent) o) same
-
-  pub acts_same : acts_in two d ≡ acts_in one d
-  acts_same = ap (λ (o : Option Answers). map_or o false (λ a. a.acts)) same
-
-  pub epoch_same : epoch_in two d ≡ epoch_in one d
-  epoch_same = ap (λ (o : Option Answers). option_map (λ a. a.epoch) o) same
-
   pub given_same : given_in two d ≡ given_in one d
   given_same = ap (λ (o : Option Answers). option_and_then (λ a. option_map (λ duty. duty.epoch) a.given) o) same
 

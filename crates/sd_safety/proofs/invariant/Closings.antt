@@ -15,7 +15,6 @@ use Rattle.sd_history.specs.Steps.{Step, seen_of, act_by, first_step, activated_
 use Rattle.sd_history.specs.Refusals.{past_preparing}
 use Rattle.sd_history.specs.Chronicle.{told_by, chronicle}
 use Rattle.sd_safety.specs.invariant.Clauses.{just_closed}
-use Rattle.sd_safety.specs.invariant.Invariant.{AtEach, IsPart, all, before}
 use Rattle.sd_safety.specs.invariant.Guarded.{IsSteady}
 use Rattle.sd_safety.proofs.invariant.Orders.{renews, orderly, staged_before}
 

@@ -1,5 +1,5 @@
 -- What failed in the era lies in one domain of the network, and what it hits that domain hits.
-use Rattle.std.specs.Prelude.{◌≡◌, ℕ, zero, suc, Bool, true, false, not, List, [], ◌∷◌, ◌++◌, find, filter_map, slice_get, Option, Some, None, option_to_list, refl, if◌then◌else◌}
+use Rattle.std.specs.Prelude.{◌≡◌, ℕ, Bool, true, false, not, List, [], ◌∷◌, ◌++◌, find, filter_map, Option, Some, None, option_to_list, refl, if◌then◌else◌}
 use Rattle.std.specs.List.{list_all, cons_option}
 use Rattle.std.proofs.Common.{sym, subst}
 use Rattle.std.proofs.lemmas.Bool.{and_parts}
@@ -20,19 +20,6 @@ use Rattle.sd_history.proofs.Given.{some_is}
 use Rattle.sd_history.proofs.Known.{has_some}
 use Rattle.sd_safety.specs.invariant.Eras.{failed_now, is_among, touches, plan_now, hit}
 use Rattle.sd_safety.proofs.invariant.Prefix.{Passing, some_passing}
-
--- an element has a place
-record Placed {A : Type 0} (x : A) (xs : List A) : Type 0 where
-  pub place : ℕ
-  pub at : slice_get xs place ≡ Some x
-
-placed_further : {A : Type 0} {x y : A} {xs : List A} → Placed x xs → Placed x (y ∷ xs)
-placed_further p = record { place = suc p.place; at = p.at }
-
-placed : {A : Type 0} (x : A) (xs : List A) → Among x xs → Placed x xs
-placed x [] a = elim a [ ]
-placed x (y ∷ xs) first = record { place = zero; at = refl }
-placed x (y ∷ xs) (later a) = placed_further (placed x xs a)
 
 found_when : {A : Type 0} (p : A → Bool) (x y : A) (xs : List A) (b : Bool) → p y ≡ b → (find p xs ≡ Some x → Among x xs × (p x ≡ true))
     → (if b then Some y else find p xs) ≡ Some x

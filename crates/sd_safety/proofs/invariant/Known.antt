@@ -1,15 +1,11 @@
 -- Who is old, has moved or acts is up; and a device that is up is one of the network's, as a test.
-use Rattle.std.specs.Prelude.{◌≡◌, ℕ, Bool, true, false, List, length, nat_lt, Option, None, option_map, refl, if◌then◌else◌}
-use Rattle.std.proofs.lemmas.Bool.{lt-ltb}
+use Rattle.std.specs.Prelude.{◌≡◌, ℕ, Bool, true, false, List, Option, None, option_map, refl, if◌then◌else◌}
 use Rattle.sd_num.specs.Lists.{map_or, same_number}
 use Rattle.sd_device.specs.Calls.{Past}
 use Rattle.sd_device.specs.Words.{has_moved}
-use Rattle.sd_sched.specs.declared.Event.{Event}
-use Rattle.sd_history.specs.World.{Setting, is_up}
+use Rattle.sd_history.specs.World.{is_up}
 use Rattle.sd_history.specs.Steps.{Step, Answers, seen_of, answers_in, acts_in}
-use Rattle.sd_history.specs.Chronicle.{past_in, chronicle}
-use Rattle.sd_history.specs.Admitted.{IsAdmitted}
-use Rattle.sd_history.proofs.Known.{admitted_up_is_known}
+use Rattle.sd_history.specs.Chronicle.{past_in}
 use Rattle.sd_safety.specs.invariant.Eras.{era, is_old, moved}
 
 -- Who is up

@@ -14,7 +14,6 @@ use Rattle.sd_history.specs.Chronicle.{next_step, chronicle}
 use Rattle.sd_history.specs.Admitted.{IsAdmitted}
 use Rattle.sd_history.specs.Refusals.{past_preparing, window_order_seen, window_order}
 use Rattle.sd_history.specs.Premises.{renew_holds, commits_orderly, seals_orderly, fails_orderly, begins_orderly, has_mend}
-use Rattle.sd_history.proofs.Among.{first}
 use Rattle.sd_history.proofs.Clear.{clear}
 use Rattle.sd_safety.specs.invariant.Eras.{none_after}
 use Rattle.sd_safety.specs.invariant.Clauses.{is_failure, is_mend, is_start, is_join, none_started_late, none_fails_after_mend, rests_after_commit, none_sealed_early}

@@ -3,7 +3,7 @@
 use Rattle.std.specs.Prelude.{◌≡◌, ℕ, ◌+◌, Bool, true, false, ◌&&◌, ◌||◌, not, List, [], ◌∷◌, filter, map, refl, if◌then◌else◌}
 use Rattle.std.specs.List.{list_any}
 use Rattle.std.proofs.Common.{◌∙◌, ap, sym, subst}
-use Rattle.std.proofs.lemmas.Bool.{and_parts, or_left, or_right}
+use Rattle.std.proofs.lemmas.Bool.{and_parts}
 use Rattle.sd_num.specs.Lists.{below}
 use Rattle.sd_device.specs.declared.msg.Stamp.{Stamp}
 use Rattle.sd_history.specs.World.{Setting, Seen}
@@ -77,10 +77,6 @@ to_image p g (x ∷ xs) x' first passed = subst (λ b. Among (g x) (map g (if b 
 to_image p g (y ∷ xs) x (later a) passed = image_past p g y xs (g x) (p y) (to_image p g xs x a passed)
 
 -- Loss
-
-overdue_by : (over : Bool) (before late fine : Bool) → (if over then before else late && fine) ≡ true → (late || over) ≡ true
-overdue_by true before late fine spoiled = or_right late true refl
-overdue_by false before late fine spoiled = or_left late false (and_parts late fine spoiled).0
 
 rounds_grow : (s : Seen) (seen : List Seen) → IsWithin (spoiled_rounds seen) (spoiled_rounds (s ∷ seen))
 rounds_grow s seen r a =

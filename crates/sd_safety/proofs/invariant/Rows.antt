@@ -1,9 +1,7 @@
 -- The invariant computes to true after each event of small histories in which no premise is broken: a whole round, a failure of the root with a
 -- takeover, a link's failure with a move, two renewals, a device that fails and joins, a commit of the backup root. And it computes to false
 -- after late ticks that make a loop, and after lost rounds that make two roots.
-use Rattle.std.specs.Prelude.{◌≡◌, ◌*◌, ◌+◌, Bool, true, false, ◌&&◌, not, List, [], ◌∷◌, ◌++◌, take, flat_map, Some, is_some, refl}
-use Rattle.sd_num.specs.Lists.{below}
-use Rattle.sd_sched.specs.declared.Event.{Event}
+use Rattle.std.specs.Prelude.{◌≡◌, ◌+◌, Bool, true, false, ◌&&◌, not, List, [], ◌∷◌, ◌++◌, take, Some, is_some, refl}
 use Rattle.sd_history.specs.World.{Setting, epoch_in_force}
 use Rattle.sd_history.specs.Steps.{Step, seen_of, acts_in, parent_in}
 use Rattle.sd_history.specs.Chronicle.{chronicle}

@@ -6,7 +6,7 @@ use Rattle.std.proofs.Common.{arith, ◌∙◌, ap}
 use Rattle.sd_num.specs.Lists.{map_or, same_number, follow}
 use Rattle.sd_plan.specs.topo.Network.{device_numbers}
 use Rattle.sd_device.specs.Calls as calls
-use Rattle.sd_device.specs.Calls.{Transition, Nothing, Emitted, TookOver, Moved, Past}
+use Rattle.sd_device.specs.Calls.{Nothing, Emitted, TookOver, Moved, Past}
 use Rattle.sd_device.specs.Words.{transition_of, emits_at, takes_over_at, moves_at}
 use Rattle.sd_sched.specs.declared.Event.{Event}
 use Rattle.sd_sched.specs.declared.Event.TheVariants as event
@@ -16,7 +16,7 @@ use Rattle.sd_history.specs.Lines.{counted_parent, is_on_loop}
 use Rattle.sd_safety.specs.invariant.Invariant.{Core, Invariant, AtEach}
 use Rattle.sd_safety.specs.invariant.Clauses.{just_closed}
 use Rattle.sd_safety.specs.invariant.Coming.{IsNextEvent}
-use Rattle.sd_safety.specs.invariant.Kept.{Keeps, transition_of_tick, EachKeeps, StaysInvariant, IsSafe, InvariantIsSafe, SafePhase, AlwaysSafe}
+use Rattle.sd_safety.specs.invariant.Kept.{Keeps, transition_of_tick, EachKeeps, StaysInvariant, IsSafe, InvariantIsSafe, AlwaysSafe}
 use Rattle.sd_safety.proofs.invariant.Prefix.{clean_before}
 use Rattle.sd_safety.proofs.invariant.Following.{invariant_of}
 

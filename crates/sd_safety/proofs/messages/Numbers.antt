@@ -81,8 +81,3 @@ on_left xs ys (later {y = y} {xs = zs} a) = later (on_left zs ys a)
 
 pub sent_at_moment : (p : Moment) (steps : List Step) (f : Flight) → IsIn p steps → Among f p.step.sent → Among f (flights steps)
 sent_at_moment p steps f t a = sent_in p steps f t (on_left p.step.sent (flights p.earlier) a)
-
--- the counts rise
-pub counts_rise : (p : Moment) (steps : List Step) → IsIn p steps → flight_count (upto p) ≤ flight_count steps
-counts_rise p steps whole = omega arith
-counts_rise p (s ∷ steps) (behind t) = let rest = counts_rise p steps t in omega (arith, rest, counted s steps)

@@ -1,5 +1,5 @@
--- Rounds do not overlap: what has gone this many hops from its emission is received within this many greatest delays, so before the next
--- round of an acting life is emitted, by the first timing rule.
+-- What has gone this many hops from its emission is received within this many greatest delays, and emissions lie further apart than that, by
+-- the first timing rule.
 use Rattle.std.specs.Prelude.{◌≡◌, ℕ, zero, suc, ◌+◌, ◌*◌, ◌-◌, ◌<◌, ◌≤◌, Bool, true, false, List, [], ◌∷◌, flat_map, find, max, nat_eq, nat_le, cond, drop, Some, None, refl, if◌then◌else◌}
 use Rattle.std.proofs.Common.{arith}
 use Rattle.std.proofs.lemmas.Bool.{and_parts, leb-true, leb-false}
@@ -13,11 +13,9 @@ use Rattle.sd_device.specs.declared.msg.Flight.{Flight}
 use Rattle.sd_checker.specs.check_root.Timing.{inequalities, is_broken, timing_breach}
 use Rattle.sd_checker.specs.declared.check_root.TimingBreach.{TimingBreach}
 use Rattle.sd_history.specs.World.{Setting}
-use Rattle.sd_history.specs.Steps.{Step}
 use Rattle.sd_history.specs.Premises.{is_in_time}
-use Rattle.sd_safety.specs.messages.Moments.{IsChronicle, Moment, when, IsIn, IsBefore}
-use Rattle.sd_safety.specs.messages.Traces.{Hop, Trace, begins, goes_on}
-use Rattle.sd_safety.proofs.messages.Tails.{earlier_is_before}
+use Rattle.sd_safety.specs.messages.Moments.{Moment, when}
+use Rattle.sd_safety.specs.messages.Traces.{Hop}
 
 -- No link's delay is past the greatest.
 
@@ -62,13 +60,6 @@ hop_time setting stamp epoch from to x d hop =
 pub one_more : (a b c m D : ℕ) → b ≤ a + m * D → c ≤ b + D → c ≤ a + suc m * D
 one_more a b c m D first second = omega (arith, first, second)
 
-pub trace_time : (setting : Setting) (stamp : Stamp) (epoch : ℕ) (first : Moment) (source m : ℕ) (p : Moment) (d : ℕ)
-    → Trace setting stamp epoch first source m p d → when p ≤ when first + m * greatest_delay setting.net
-trace_time setting stamp epoch first source zero p d (begins message emits stamp_is epoch_is) = omega arith
-trace_time setting stamp epoch first source (suc m) p d (goes_on {from = from} {x = x} trace hop) =
-    one_more (when first) (when from) (when p) m (greatest_delay setting.net) (trace_time setting stamp epoch first source m from x trace)
-    (hop_time setting stamp epoch from p x d hop)
-
 -- The first timing rule
 
 rule_holds : (a b : ℕ) (rest : List TimingBreach) → find is_broken (record { rule = 1; left = a; right = b } ∷ rest) ≡ None → b < a
@@ -87,25 +78,3 @@ apart_by_rule net plan none =
     rule_holds (least_low net net.params.period) (2 * (net.params.depth + 1) * greatest_delay net + net.params.tick) (drop 1 (inequalities net plan)) none
 
 -- Lemma 10
-
-few_hops : (m n D : ℕ) → m ≤ n → m * D ≤ n * D
-few_hops m n zero few = omega arith
-few_hops m n (suc D) few = let rest = few_hops m n D few in omega (arith, rest, few)
-
-pub no_overlap : (setting : Setting) (stamp : Stamp) (epoch : ℕ) (first : Moment) (source m : ℕ) (p : Moment) (d : ℕ) (next : Moment) → IsApart setting.net
-    → Trace setting stamp epoch first source m p d
-    → m ≤ 2 * (setting.net.params.depth + 1) → when first + least_low setting.net setting.net.params.period ≤ when next
-    → when p + setting.net.params.tick < when next
-no_overlap setting stamp epoch first source m p d next apart trace few spaced =
-    let took = trace_time setting stamp epoch first source m p d trace in
-    let most = few_hops m (2 * (setting.net.params.depth + 1)) (greatest_delay setting.net) few in
-    omega (arith, took, most, apart, spaced)
-
--- so the receipt comes before the next emission
-pub received_before : (setting : Setting) (steps : List Step) (stamp : Stamp) (epoch : ℕ) (first : Moment) (source m : ℕ) (p : Moment) (d : ℕ) (next : Moment)
-    → IsChronicle setting steps → IsIn p steps → IsIn next steps
-    → IsApart setting.net → Trace setting stamp epoch first source m p d → m ≤ 2 * (setting.net.params.depth + 1)
-    → when first + least_low setting.net setting.net.params.period ≤ when next → IsBefore p next
-received_before setting steps stamp epoch first source m p d next is here there apart trace few spaced =
-    let before = no_overlap setting stamp epoch first source m p d next apart trace few spaced in
-    earlier_is_before setting steps p next is here there (omega (arith, before))

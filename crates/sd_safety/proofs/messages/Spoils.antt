@@ -17,7 +17,7 @@ use Rattle.sd_history.proofs.Filters.{filter_in}
 use Rattle.sd_history.proofs.Shared.{stays_spoiled}
 use Rattle.sd_history.specs.Rounds.{is_spoiled}
 use Rattle.sd_safety.specs.messages.Moments.{Tail, whole, behind, Moment, upto, when, IsIn, IsBefore}
-use Rattle.sd_safety.proofs.invariant.Prefix.{Passing, some_passing}
+use Rattle.sd_safety.proofs.invariant.Prefix.{some_passing}
 use Rattle.sd_safety.proofs.invariant.Staying.{filter_out}
 
 -- Membership and tests
@@ -29,13 +29,6 @@ none_any test (x ∷ xs) each = both (test x) (list_any test xs) (each x first) 
     both : (a b : Bool) → a ≡ false → b ≡ false → (a || b) ≡ false
     both false b one two = two
     both true b one two = cc
-
-kept_by : {A : Type 0} (x y : A) (xs : List A) (test : A → Bool) (b : Bool) → test y ≡ b → test x ≡ true → Among x (y ∷ xs)
-    → (Among x xs → Among x (filter test xs)) → Among x (cond b (y ∷ filter test xs) (filter test xs))
-kept_by x y xs test true is holds first rest = first
-kept_by x y xs test true is holds (later a) rest = later (rest a)
-kept_by x y xs test false is holds first rest = let clash : true ≡ false = sym holds ∙ is in cc
-kept_by x y xs test false is holds (later a) rest = rest a
 
 -- Spoiled rounds
 

@@ -20,8 +20,8 @@ use Rattle.sd_device.specs.Words.{transition_of, duty_now, wait_to_move, moves_a
 use Rattle.sd_device.proofs.Reached.{added}
 use Rattle.sd_sched.specs.declared.Event.{Event}
 use Rattle.sd_sched.specs.declared.Event.TheVariants as event
-use Rattle.sd_history.specs.World.{Setting, has_commit}
-use Rattle.sd_history.specs.Steps.{Answers, Step, seen_of, acts_in, tells_nothing, tells_called, flights_by, flights}
+use Rattle.sd_history.specs.World.{Setting, is_up, has_commit}
+use Rattle.sd_history.specs.Steps.{Answers, Told, Step, seen_of, answers_in, acts_in, tells_nothing, tells_called, flights_by, flights}
 use Rattle.sd_history.specs.Chronicle.{answers_by, past_in, chronicle}
 use Rattle.sd_history.proofs.Given.{some_is}
 use Rattle.sd_history.proofs.Among.{any_passing}
@@ -43,8 +43,9 @@ use Rattle.sd_safety.proofs.moves.Ticks as ticks
 use Rattle.sd_safety.proofs.moves.Ticks.{tick_step}
 use Rattle.sd_safety.proofs.moves.Tickings as tickings
 use Rattle.sd_safety.proofs.moves.Tickings.{stays_on}
-use Rattle.sd_safety.proofs.moves.Movers.{timely_now, inv, live, answers, acts_is, known, with_duty_not_blank, from_primary, mover_is_not_new, not_beginning}
-use Rattle.sd_safety.proofs.moves.Happened.{HasRoots, root_up, roots_then, told, sent, reaching, activated, acted, told_is, now_is}
+use Rattle.sd_safety.proofs.moves.Movers.{timely_now, inv, acts_is, known, with_duty_not_blank, from_primary, mover_is_not_new, not_beginning}
+use Rattle.sd_safety.proofs.moves.Movers as movers
+use Rattle.sd_safety.proofs.moves.Happened.{HasRoots, root_up, roots_then, now_is}
 use Rattle.sd_safety.proofs.moves.Happened as happened
 use Rattle.sd_safety.proofs.moves.Ends.{backup_root_ends}
 use Rattle.sd_safety.proofs.waits.LookingBack.{all_three}
@@ -78,6 +79,30 @@ module _ (setting : Setting) (silent : AreSilent setting) (enters : AtNext Enter
   abbrev plan : Plan
   plan = plan_now setting (chronicle setting history)
 
+  abbrev told : Told
+  told = happened.told setting r d c history comes p there
+
+  abbrev sent : List Flight
+  sent = happened.sent setting r d c history comes p there
+
+  abbrev reaching : List Flight
+  reaching = happened.reaching setting r d c history comes p there
+
+  abbrev activated : Option ℕ
+  activated = happened.activated setting r d c history comes p there
+
+  abbrev acted : Bool
+  acted = happened.acted setting r d c history comes p there
+
+  live : is_up (seen_of steps) d ≡ true
+  live = movers.live setting r d c history comes p there
+
+  answers : answers_in steps d ≡ Some (answers_by p)
+  answers = movers.answers setting r d c history comes p there
+
+  told_is : told.answers ≡ Some (answers_by (added p (calls.Tick c) Moved))
+  told_is = happened.told_is setting r d c history comes p there Moved transition_is
+
   abbrev now : List Step
   now = happened.now setting r d c history comes p there Moved transition_is
 
@@ -100,48 +125,31 @@ module _ (setting : Setting) (silent : AreSilent setting) (enters : AtNext Enter
   roots = roots_then setting r d c history comes p there
 
   olds : (x : ℕ) → is_old now x ≡ is_old steps x
-  olds = ticks.old_kept setting (chronicle setting history) r d c (reaching setting r d c history comes p there) (activated setting r d c history comes p there)
-      (acted setting r d c history comes p there) (told setting r d c history comes p there) (sent setting r d c history comes p there) p Moved refl
-      (live setting r d c history comes p there) there (answers setting r d c history comes p there) transition_is
-      (told_is setting r d c history comes p there Moved transition_is)
+  olds = ticks.old_kept setting steps r d c reaching activated acted told sent p Moved refl live there answers transition_is told_is
 
   acts : (x : ℕ) → acts_in now x ≡ acts_in steps x
-  acts = ticks.word_kept setting (chronicle setting history) r d c (reaching setting r d c history comes p there)
-      (activated setting r d c history comes p there) (acted setting r d c history comes p there) (told setting r d c history comes p there)
-      (sent setting r d c history comes p there) p Moved refl (live setting r d c history comes p there) there
-      (answers setting r d c history comes p there) transition_is (told_is setting r d c history comes p there Moved transition_is)
+  acts = ticks.word_kept setting steps r d c reaching activated acted told sent p Moved refl live there answers transition_is told_is
       (λ o. map_or o false (λ a. a.acts)) refl
 
   moved_now : moved now d ≡ true
-  moved_now = ticks.moved_now setting (chronicle setting history) r d c (reaching setting r d c history comes p there)
-      (activated setting r d c history comes p there) (acted setting r d c history comes p there) (told setting r d c history comes p there)
-      (sent setting r d c history comes p there) p Moved refl (live setting r d c history comes p there) there
-      (answers setting r d c history comes p there) transition_is (told_is setting r d c history comes p there Moved transition_is)
+  moved_now = ticks.moved_now setting steps r d c reaching activated acted told sent p Moved refl live there answers transition_is told_is
 
   was_on_primary : on_primary steps d ≡ true
   was_on_primary =
       let from = from_primary setting r d c history comes p there goes in
       all_three (is_some (live_past steps d)) (moved steps d) (acts_in steps d)
-      (ap (λ b. is_some (if b then past_in steps d else None)) (live setting r d c history comes p there) ∙ ap (λ (o : Option Past). is_some o) there)
-      (ticks.moved_before setting (chronicle setting history) r d c (reaching setting r d c history comes p there)
-      (activated setting r d c history comes p there) (acted setting r d c history comes p there) (told setting r d c history comes p there)
-      (sent setting r d c history comes p there) p Moved refl (live setting r d c history comes p there) there
-      (answers setting r d c history comes p there) transition_is (told_is setting r d c history comes p there Moved transition_is) ∙ from.unmoved)
+      (ap (λ b. is_some (if b then past_in steps d else None)) live ∙ ap (λ (o : Option Past). is_some o) there)
+      (ticks.moved_before setting steps r d c reaching activated acted told sent p Moved refl live there answers transition_is told_is ∙ from.unmoved)
       (acts_is setting r d c history comes p there ∙ from.acts_not)
 
   off_primary : on_primary now d ≡ false
   off_primary = ap (λ b. is_some (live_past now d) && not b && not (acts_in now d)) moved_now ∙ put_there (is_some (live_past now d)) (acts_in now d)
 
   others_moved : (x : ℕ) → nat_eq d x ≡ false → moved now x ≡ moved steps x
-  others_moved =
-      ticks.other_moved setting (chronicle setting history) r d c (reaching setting r d c history comes p there) (activated setting r d c history comes p there)
-      (acted setting r d c history comes p there) (told setting r d c history comes p there) (sent setting r d c history comes p there) p Moved
+  others_moved = ticks.other_moved setting steps r d c reaching activated acted told sent p Moved
 
   others_on_primary : (x : ℕ) → nat_eq d x ≡ false → on_primary now x ≡ on_primary steps x
-  others_on_primary =
-      ticks.other_on_primary setting (chronicle setting history) r d c (reaching setting r d c history comes p there)
-      (activated setting r d c history comes p there) (acted setting r d c history comes p there) (told setting r d c history comes p there)
-      (sent setting r d c history comes p there) p Moved
+  others_on_primary = ticks.other_on_primary setting steps r d c reaching activated acted told sent p Moved
 
   -- an ordinary mover has been silent for its wait
   ordinary_long : is_old steps d ≡ true → is_root plan d ≡ false → is_backup_root plan d ≡ false → wait_low setting.net plan ≤ silent_for steps d r
@@ -164,10 +172,10 @@ module _ (setting : Setting) (silent : AreSilent setting) (enters : AtNext Enter
 
   caused : (x : ℕ) → IsTrue (backup_is_caused setting now x)
   caused =
-      tickings.by_device setting history r d c (reaching setting r d c history comes p there) (activated setting r d c history comes p there)
-      (acted setting r d c history comes p there) (told setting r d c history comes p there) (sent setting r d c history comes p there) p Moved refl refl
-      (live setting r d c history comes p there) there (answers setting r d c history comes p there) transition_is
-      (told_is setting r d c history comes p there Moved transition_is) core_then not_new not_blank started (λ x. IsTrue (backup_is_caused setting now x))
+      tickings.by_device setting history r d c reaching activated
+      acted told sent p Moved refl refl
+      live there answers transition_is
+      told_is core_then not_new not_blank started (λ x. IsTrue (backup_is_caused setting now x))
       (gives (is_old now d && is_ordinary plan d && moved now d) (hit setting now d && (hit_otherwise setting now d || backup_root_acts setting now))
       (λ is.
       let front = and_parts (is_old now d) (is_ordinary plan d) (and_parts (is_old now d && is_ordinary plan d) (moved now d) is).0 in
@@ -245,10 +253,10 @@ module _ (setting : Setting) (silent : AreSilent setting) (enters : AtNext Enter
 
   path_put : (x : ℕ) → IsTrue (path_stays setting now x)
   path_put =
-      tickings.by_device setting history r d c (reaching setting r d c history comes p there) (activated setting r d c history comes p there)
-      (acted setting r d c history comes p there) (told setting r d c history comes p there) (sent setting r d c history comes p there) p Moved refl refl
-      (live setting r d c history comes p there) there (answers setting r d c history comes p there) transition_is
-      (told_is setting r d c history comes p there Moved transition_is) core_then not_new not_blank started (λ x. IsTrue (path_stays setting now x))
+      tickings.by_device setting history r d c reaching activated
+      acted told sent p Moved refl refl
+      live there answers transition_is
+      told_is core_then not_new not_blank started (λ x. IsTrue (path_stays setting now x))
       (from_absurd (backup_root_stays setting now && has (above_backup_root setting steps) d && not (is_root plan d) && is_old now d) (moved now d)
       (λ all has_moved_.
       let three = and_parts (backup_root_stays setting now && has (above_backup_root setting steps) d && not (is_root plan d)) (is_old now d) all in
@@ -269,48 +277,40 @@ module _ (setting : Setting) (silent : AreSilent setting) (enters : AtNext Enter
 
   -- C8, C9
 
-  quiet_effect : (told setting r d c history comes p there).effect ≡ Quiet
+  quiet_effect : told.effect ≡ Quiet
   quiet_effect =
       ap (λ o. (map_or o tells_nothing
       (λ past. tells_called (effect_of past (calls.Tick c)) (answers_by (added past (calls.Tick c) (transition_of past (calls.Tick c)))))).effect) there
       ∙ ap (λ x. effect_of_latest (added p (calls.Tick c) x) (record { call = calls.Tick c; transition = x })) transition_is
 
-  none_sent : sent setting r d c history comes p there ≡ []
+  none_sent : sent ≡ []
   none_sent =
-      ap (λ e. map_or (told setting r d c history comes p there).answers [] (λ a. flights_by setting steps r d a.epoch e)) quiet_effect
-      ∙ ap (λ o. map_or o [] (λ (a : Answers). [])) (told_is setting r d c history comes p there Moved transition_is)
+      ap (λ e. map_or told.answers [] (λ a. flights_by setting steps r d a.epoch e)) quiet_effect
+      ∙ ap (λ o. map_or o [] (λ (a : Answers). [])) told_is
 
   messages : IsTrue (none_sent_ahead now)
   messages =
       subst (λ (fs : List Flight). (not (not (has_commit (seen_of now)))
       || list_all (λ f. nat_le f.message.epoch (era steps))
-      (flights (tick_step r d c (reaching setting r d c history comes p there) (activated setting r d c history comes p there)
-      (acted setting r d c history comes p there) (told setting r d c history comes p there) fs false ∷ steps))) ≡ true) (sym none_sent)
-      (rw (ticks.commit_kept setting (chronicle setting history) r d c (reaching setting r d c history comes p there)
-      (activated setting r d c history comes p there) (acted setting r d c history comes p there) (told setting r d c history comes p there)
-      (sent setting r d c history comes p there) p Moved) core_then.uncommitted.messages)
+      (flights (tick_step r d c reaching activated
+      acted told fs false ∷ steps))) ≡ true) (sym none_sent)
+      (rw (ticks.commit_kept setting steps r d c reaching activated acted told sent p Moved) core_then.uncommitted.messages)
 
   acting : (x : ℕ) → IsTrue (committer_acts setting now x)
   acting x = rw (
-    ticks.commit_kept setting (chronicle setting history) r d c (reaching setting r d c history comes p there)
-        (activated setting r d c history comes p there) (acted setting r d c history comes p there) (told setting r d c history comes p there)
-        (sent setting r d c history comes p there) p Moved,
-    ticks.joined_kept setting (chronicle setting history) r d c
-        (reaching setting r d c history comes p there) (activated setting r d c history comes p there) (acted setting r d c history comes p there)
-        (told setting r d c history comes p there) (sent setting r d c history comes p there) p Moved x,
-    ticks.staged_kept setting
-        (chronicle setting history) r d c (reaching setting r d c history comes p there) (activated setting r d c history comes p there)
-        (acted setting r d c history comes p there) (told setting r d c history comes p there) (sent setting r d c history comes p there) p Moved,
+    ticks.commit_kept setting steps r d c reaching activated acted told sent p Moved,
+    ticks.joined_kept setting steps r d c reaching activated acted told sent p Moved x,
+    ticks.staged_kept setting steps r d c reaching activated acted told sent p Moved,
     acts x,
   )
       (core_then.committed.acting x)
 
   core_now : Core setting now
   core_now =
-      tickings.core_turned setting history r d c (reaching setting r d c history comes p there) (activated setting r d c history comes p there)
-      (acted setting r d c history comes p there) (told setting r d c history comes p there) (sent setting r d c history comes p there) p Moved refl refl
-      (live setting r d c history comes p there) there (answers setting r d c history comes p there) transition_is
-      (told_is setting r d c history comes p there Moved transition_is) core_then not_new not_blank started
+      tickings.core_turned setting history r d c reaching activated
+      acted told sent p Moved refl refl
+      live there answers transition_is
+      told_is core_then not_new not_blank started
       (record {
         quiet = subst (λ n. IsTrue (nothing_emitted setting n)) (now_is setting r d c history comes p there Moved transition_is refl)
             (quiet setting (event.Tick r d c ∷ history) comes.fair comes.clean);

@@ -82,9 +82,6 @@ not_old_past true false new blank o = cc
 not_old_past false old new blank o = refl
 
 module _ (setting : Setting) (r d c clock eps : ℕ) (history : List Event) (comes : IsNextEvent setting history (event.Start r d c clock eps)) where
-  abbrev e : Event
-  e = event.Start r d c clock eps
-
   abbrev steps : List Step
   steps = chronicle setting history
 
@@ -217,9 +214,6 @@ module _ (setting : Setting) (r d c clock eps : ℕ) (history : List Event) (com
 
   old_here : is_old now d ≡ true
   old_here = ap (λ o. same_number o (era steps)) epoch_here ∙ eq-eqb (era steps) (era steps) refl
-
-  acts_other : (x : ℕ) → nat_eq d x ≡ false → acts_in now x ≡ acts_in steps x
-  acts_other x other = ap (λ (o : Option Answers). map_or o false (λ a. a.acts)) (live_other x other)
 
   acts_root : is_root plan d ≡ true → acts_in now d ≡ true
   acts_root root = ap (λ (o : Option Answers). map_or o false (λ a. a.acts)) live_here ∙ begins_root (is_root plan d) (is_backup_root plan d) root

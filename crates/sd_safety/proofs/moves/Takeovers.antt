@@ -23,7 +23,7 @@ use Rattle.sd_device.proofs.Reached.{added}
 use Rattle.sd_sched.specs.declared.Event.{Event}
 use Rattle.sd_sched.specs.declared.Event.TheVariants as event
 use Rattle.sd_history.specs.World.{Setting, is_up, has_commit, is_counted, joined_in_window}
-use Rattle.sd_history.specs.Steps.{Answers, Step, seen_of, acts_in, tells_nothing, tells_called, flights_by, flights_to, ends_at, flight_count, flights}
+use Rattle.sd_history.specs.Steps.{Answers, Told, Step, seen_of, answers_in, acts_in, tells_nothing, tells_called, flights_by, flights_to, ends_at, flight_count, flights}
 use Rattle.sd_history.specs.Chronicle.{answers_by, past_in, chronicle}
 use Rattle.sd_history.proofs.Given.{some_is}
 use Rattle.sd_safety.specs.invariant.Bounds.{second_low}
@@ -44,8 +44,9 @@ use Rattle.sd_safety.proofs.moves.Ticks as ticks
 use Rattle.sd_safety.proofs.moves.Tickings as tickings
 use Rattle.sd_safety.proofs.moves.Tickings.{stays_on}
 use Rattle.sd_safety.proofs.waits.Epochs.{IsNumbered, duty_numbered}
-use Rattle.sd_safety.proofs.moves.Movers.{timely_now, timely_then, inv, live, answers, acts_is, epoch_is, with_duty_not_blank, new_root_acts}
-use Rattle.sd_safety.proofs.moves.Happened.{HasRoots, root_up, roots_then, told, sent, reaching, activated, acted, told_is, now_is}
+use Rattle.sd_safety.proofs.moves.Movers.{timely_now, timely_then, inv, acts_is, epoch_is, with_duty_not_blank, new_root_acts}
+use Rattle.sd_safety.proofs.moves.Movers as movers
+use Rattle.sd_safety.proofs.moves.Happened.{HasRoots, root_up, roots_then, now_is}
 use Rattle.sd_safety.proofs.moves.Happened as happened
 use Rattle.sd_safety.proofs.moves.Moves.{put_there}
 use Rattle.sd_safety.proofs.invariant.Opening.{gives}
@@ -130,6 +131,30 @@ module _ (setting : Setting) (silent : AreSilent setting) (enters : AtNext Enter
   abbrev plan : Plan
   plan = plan_now setting (chronicle setting history)
 
+  abbrev told : Told
+  told = happened.told setting r d c history comes p there
+
+  abbrev sent : List Flight
+  sent = happened.sent setting r d c history comes p there
+
+  abbrev reaching : List Flight
+  reaching = happened.reaching setting r d c history comes p there
+
+  abbrev activated : Option ℕ
+  activated = happened.activated setting r d c history comes p there
+
+  abbrev acted : Bool
+  acted = happened.acted setting r d c history comes p there
+
+  live : is_up (seen_of steps) d ≡ true
+  live = movers.live setting r d c history comes p there
+
+  answers : answers_in steps d ≡ Some (answers_by p)
+  answers = movers.answers setting r d c history comes p there
+
+  told_is : told.answers ≡ Some (answers_by (added p (calls.Tick c) TookOver))
+  told_is = happened.told_is setting r d c history comes p there TookOver transition_is
+
   abbrev now : List Step
   now = happened.now setting r d c history comes p there TookOver transition_is
 
@@ -143,11 +168,7 @@ module _ (setting : Setting) (silent : AreSilent setting) (enters : AtNext Enter
   core_then = (inv setting r d c history comes p there).core
 
   moved_then : moved steps d ≡ true
-  moved_then =
-      ticks.moved_before setting (chronicle setting history) r d c (reaching setting r d c history comes p there)
-      (activated setting r d c history comes p there) (acted setting r d c history comes p there) (told setting r d c history comes p there)
-      (sent setting r d c history comes p there) p TookOver refl (live setting r d c history comes p there) there
-      (answers setting r d c history comes p there) transition_is (told_is setting r d c history comes p there TookOver transition_is) ∙ took.moved
+  moved_then = ticks.moved_before setting steps r d c reaching activated acted told sent p TookOver refl live there answers transition_is told_is ∙ took.moved
 
   not_new : is_new (chronicle setting history) d ≡ false
   not_new = false_from_ne_true (is_new (chronicle setting history) d) (λ new. by new (nat_eq d (staged_root setting (chronicle setting history))) refl)
@@ -181,49 +202,33 @@ module _ (setting : Setting) (silent : AreSilent setting) (enters : AtNext Enter
   roots = roots_then setting r d c history comes p there
 
   olds : (x : ℕ) → is_old now x ≡ is_old steps x
-  olds = ticks.old_kept setting (chronicle setting history) r d c (reaching setting r d c history comes p there) (activated setting r d c history comes p there)
-      (acted setting r d c history comes p there) (told setting r d c history comes p there) (sent setting r d c history comes p there) p TookOver refl
-      (live setting r d c history comes p there) there (answers setting r d c history comes p there) transition_is
-      (told_is setting r d c history comes p there TookOver transition_is)
+  olds = ticks.old_kept setting steps r d c reaching activated acted told sent p TookOver refl live there answers transition_is told_is
 
   others_act : (x : ℕ) → nat_eq d x ≡ false → acts_in now x ≡ acts_in steps x
   others_act x other =
       ap (λ (o : Option Answers). map_or o false (λ a. a.acts))
-      (ticks.others_kept setting (chronicle setting history) r d c (reaching setting r d c history comes p there)
-      (activated setting r d c history comes p there) (acted setting r d c history comes p there) (told setting r d c history comes p there)
-      (sent setting r d c history comes p there) p TookOver x other)
+      (ticks.others_kept setting steps r d c reaching activated acted told sent p TookOver x other)
 
   acts_now : acts_in now d ≡ true
-  acts_now = ticks.acts_now setting (chronicle setting history) r d c (reaching setting r d c history comes p there)
-      (activated setting r d c history comes p there) (acted setting r d c history comes p there) (told setting r d c history comes p there)
-      (sent setting r d c history comes p there) p TookOver refl (live setting r d c history comes p there) there
-      (answers setting r d c history comes p there) transition_is (told_is setting r d c history comes p there TookOver transition_is)
+  acts_now = ticks.acts_now setting steps r d c reaching activated acted told sent p TookOver refl live there answers transition_is told_is
       ∙ or_true (map_or (later_entry p) (starts_as_root p.making) (λ entry. is_commit entry.transition))
       (list_any (λ x. is_takeover x.transition) (since_entry p))
 
   acts_grow : (x : ℕ) → acts_in steps x ≡ true → acts_in now x ≡ true
-  acts_grow = tickings.by_device setting history r d c (reaching setting r d c history comes p there) (activated setting r d c history comes p there)
-      (acted setting r d c history comes p there) (told setting r d c history comes p there) (sent setting r d c history comes p there) p TookOver refl refl
-      (live setting r d c history comes p there) there (answers setting r d c history comes p there) transition_is
-      (told_is setting r d c history comes p there TookOver transition_is) core_then not_new not_blank started (λ x. acts_in steps x ≡ true
+  acts_grow = tickings.by_device setting history r d c reaching activated
+      acted told sent p TookOver refl refl
+      live there answers transition_is
+      told_is core_then not_new not_blank started (λ x. acts_in steps x ≡ true
       → acts_in now x ≡ true) (λ was. acts_now) (λ x other was. others_act x other ∙ was)
 
   moveds : (x : ℕ) → moved now x ≡ moved steps x
-  moveds = tickings.by_device setting history r d c (reaching setting r d c history comes p there) (activated setting r d c history comes p there)
-      (acted setting r d c history comes p there) (told setting r d c history comes p there) (sent setting r d c history comes p there) p TookOver refl refl
-      (live setting r d c history comes p there) there (answers setting r d c history comes p there) transition_is
-      (told_is setting r d c history comes p there TookOver transition_is) core_then not_new not_blank started (λ x. moved now x ≡ moved steps x)
-      (ticks.moved_now setting (chronicle setting history) r d c (reaching setting r d c history comes p there) (activated setting r d c history comes p there)
-      (acted setting r d c history comes p there) (told setting r d c history comes p there) (sent setting r d c history comes p there) p TookOver refl
-      (live setting r d c history comes p there) there (answers setting r d c history comes p there) transition_is
-      (told_is setting r d c history comes p there TookOver transition_is)
-      ∙ sym (ticks.moved_before setting (chronicle setting history) r d c (reaching setting r d c history comes p there)
-      (activated setting r d c history comes p there) (acted setting r d c history comes p there) (told setting r d c history comes p there)
-      (sent setting r d c history comes p there) p TookOver refl (live setting r d c history comes p there) there
-      (answers setting r d c history comes p there) transition_is (told_is setting r d c history comes p there TookOver transition_is)))
-      (λ x other. ticks.other_moved setting (chronicle setting history) r d c (reaching setting r d c history comes p there)
-      (activated setting r d c history comes p there) (acted setting r d c history comes p there) (told setting r d c history comes p there)
-      (sent setting r d c history comes p there) p TookOver x other)
+  moveds = tickings.by_device setting history r d c reaching activated
+      acted told sent p TookOver refl refl
+      live there answers transition_is
+      told_is core_then not_new not_blank started (λ x. moved now x ≡ moved steps x)
+      (ticks.moved_now setting steps r d c reaching activated acted told sent p TookOver refl live there answers transition_is told_is
+      ∙ sym (ticks.moved_before setting steps r d c reaching activated acted told sent p TookOver refl live there answers transition_is told_is))
+      (λ x other. ticks.other_moved setting steps r d c reaching activated acted told sent p TookOver x other)
 
   -- an old device that takes over is the backup root
   is_the_backup : is_old steps d ≡ true → (is_root plan d ≡ false) × (is_backup_root plan d ≡ true)
@@ -240,7 +245,7 @@ module _ (setting : Setting) (silent : AreSilent setting) (enters : AtNext Enter
       let same : d ≡ plan.backup_root = eqb-true d plan.backup_root is in
       let member : is_member plan d ≡ true = subst (λ y. is_member plan y ≡ true) (sym same) roots.backup_member in
       only_old (device_failed_now steps d) (is_up (seen_of steps) d) (is_old steps d) (is_new steps d) (is_blank steps d) (joined_in_window (seen_of steps) d)
-      (live setting r d c history comes p there) not_new not_blank
+      live not_new not_blank
       (rw member at (core_then.census.members_follow d)) (rw member at (core_then.census.returned d))
 
   root_was_failed : nat_eq d plan.backup_root ≡ true → root_failed setting steps ≡ true
@@ -267,10 +272,10 @@ module _ (setting : Setting) (silent : AreSilent setting) (enters : AtNext Enter
 
   ordinary_idle : (x : ℕ) → IsTrue (ordinary_follows setting now x)
   ordinary_idle =
-      tickings.by_device setting history r d c (reaching setting r d c history comes p there) (activated setting r d c history comes p there)
-      (acted setting r d c history comes p there) (told setting r d c history comes p there) (sent setting r d c history comes p there) p TookOver refl refl
-      (live setting r d c history comes p there) there (answers setting r d c history comes p there) transition_is
-      (told_is setting r d c history comes p there TookOver transition_is) core_then not_new not_blank started
+      tickings.by_device setting history r d c reaching activated
+      acted told sent p TookOver refl refl
+      live there answers transition_is
+      told_is core_then not_new not_blank started
       (λ x. IsTrue (ordinary_follows setting now x))
       (asks_nothing (is_old now d && is_ordinary plan d) _
       (false_from_ne_true (is_old now d && is_ordinary plan d)
@@ -313,9 +318,7 @@ module _ (setting : Setting) (silent : AreSilent setting) (enters : AtNext Enter
       go true is = absurd (both_ways (on_primary now d) off_primary (subst (λ y. on_primary now y ≡ true) (sym (eqb-true d plan.backup_root is)) parts.1))
       go false other =
           and_from (is_old steps plan.backup_root) (on_primary steps plan.backup_root) (sym (olds plan.backup_root) ∙ parts.0)
-          (sym (ticks.other_on_primary setting (chronicle setting history) r d c (reaching setting r d c history comes p there)
-          (activated setting r d c history comes p there) (acted setting r d c history comes p there) (told setting r d c history comes p there)
-          (sent setting r d c history comes p there) p TookOver plan.backup_root other) ∙ parts.1)
+          (sym (ticks.other_on_primary setting steps r d c reaching activated acted told sent p TookOver plan.backup_root other) ∙ parts.1)
 
   path_put : (x : ℕ) → IsTrue (path_stays setting now x)
   path_put x =
@@ -348,31 +351,29 @@ module _ (setting : Setting) (silent : AreSilent setting) (enters : AtNext Enter
   abbrev message : Message
   message = message_of (epoch_now after) (stamp_now after) (report_at after c)
 
-  effect_is : (told setting r d c history comes p there).effect ≡ Send message
+  effect_is : told.effect ≡ Send message
   effect_is =
       ap (λ o. (map_or o tells_nothing
       (λ past. tells_called (effect_of past (calls.Tick c)) (answers_by (added past (calls.Tick c) (transition_of past (calls.Tick c)))))).effect) there
       ∙ ap (λ x. effect_of_latest (added p (calls.Tick c) x) (record { call = calls.Tick c; transition = x })) transition_is
 
-  sent_is : sent setting r d c history comes p there ≡ flights_to setting steps r d message (flight_count steps + 1) (ends_at setting steps (epoch_now after) d)
+  sent_is : sent ≡ flights_to setting steps r d message (flight_count steps + 1) (ends_at setting steps (epoch_now after) d)
   sent_is =
-      ap (λ e. map_or (told setting r d c history comes p there).answers [] (λ a. flights_by setting steps r d a.epoch e)) effect_is
+      ap (λ e. map_or told.answers [] (λ a. flights_by setting steps r d a.epoch e)) effect_is
       ∙ ap (λ o. map_or o [] (λ (a : Answers). flights_to setting steps r d message (flight_count steps + 1) (ends_at setting steps a.epoch d)))
-      (told_is setting r d c history comes p there TookOver transition_is)
+      told_is
 
   messages : IsTrue (none_sent_ahead now)
   messages =
       gives (not (has_commit (seen_of now))) (list_all (λ f. nat_le f.message.epoch (era now)) (flights now))
       (λ none.
-      all_append (λ f. nat_le f.message.epoch (era steps)) (sent setting r d c history comes p there) (flights steps)
+      all_append (λ f. nat_le f.message.epoch (era steps)) sent (flights steps)
       (subst (λ fs. list_all (λ (f : Flight). nat_le f.message.epoch (era steps)) fs ≡ true) (sym sent_is)
       (all_to (era steps) setting steps r d message (flight_count steps + 1) (ends_at setting steps (epoch_now after) d)
       (le-leb (epoch_now p) (era steps) epoch_small)))
       (implied (not (has_commit (seen_of steps))) (list_all (λ f. nat_le f.message.epoch (era steps)) (flights steps)) core_then.uncommitted.messages
       (sym (ap not
-      (ticks.commit_kept setting (chronicle setting history) r d c (reaching setting r d c history comes p there)
-      (activated setting r d c history comes p there) (acted setting r d c history comes p there) (told setting r d c history comes p there)
-      (sent setting r d c history comes p there) p TookOver)) ∙ none)))
+      (ticks.commit_kept setting steps r d c reaching activated acted told sent p TookOver)) ∙ none)))
 
   -- who takes over after a commit is the staged root
   root_committed : has_commit (seen_of steps) ≡ true → is_counted setting (seen_of steps) d ≡ true → nat_eq d (staged_root setting steps) ≡ true
@@ -393,47 +394,34 @@ module _ (setting : Setting) (silent : AreSilent setting) (enters : AtNext Enter
 
   acting : (x : ℕ) → IsTrue (committer_acts setting now x)
   acting =
-      tickings.by_device setting history r d c (reaching setting r d c history comes p there) (activated setting r d c history comes p there)
-      (acted setting r d c history comes p there) (told setting r d c history comes p there) (sent setting r d c history comes p there) p TookOver refl refl
-      (live setting r d c history comes p there) there (answers setting r d c history comes p there) transition_is
-      (told_is setting r d c history comes p there TookOver transition_is) core_then not_new not_blank started (λ x. IsTrue (committer_acts setting now x))
+      tickings.by_device setting history r d c reaching activated
+      acted told sent p TookOver refl refl
+      live there answers transition_is
+      told_is core_then not_new not_blank started (λ x. IsTrue (committer_acts setting now x))
       (gives (has_commit (seen_of now) && is_counted setting (seen_of now) d)
       (if nat_eq d (staged_root setting now) then acts_in now d else not (acts_in now d))
       (λ both.
       let parts = and_parts (has_commit (seen_of now)) (is_counted setting (seen_of now) d) both in
       let is : nat_eq d (staged_root setting now) ≡ true =
       ap (λ z. nat_eq d z)
-      (ticks.staged_root_kept setting (chronicle setting history) r d c (reaching setting r d c history comes p there)
-      (activated setting r d c history comes p there) (acted setting r d c history comes p there) (told setting r d c history comes p there)
-      (sent setting r d c history comes p there) p TookOver)
+      (ticks.staged_root_kept setting steps r d c reaching activated acted told sent p TookOver)
       ∙ root_committed
-      (sym (ticks.commit_kept setting (chronicle setting history) r d c (reaching setting r d c history comes p there)
-      (activated setting r d c history comes p there) (acted setting r d c history comes p there) (told setting r d c history comes p there)
-      (sent setting r d c history comes p there) p TookOver) ∙ parts.0)
-      (sym (ticks.counted_kept setting (chronicle setting history) r d c (reaching setting r d c history comes p there)
-      (activated setting r d c history comes p there) (acted setting r d c history comes p there) (told setting r d c history comes p there)
-      (sent setting r d c history comes p there) p TookOver d) ∙ parts.1) in
+      (sym (ticks.commit_kept setting steps r d c reaching activated acted told sent p TookOver) ∙ parts.0)
+      (sym (ticks.counted_kept setting steps r d c reaching activated acted told sent p TookOver d) ∙ parts.1) in
       ap (λ b. if b then acts_in now d else not (acts_in now d)) is ∙ acts_now))
       (λ x other. rw (
-        ticks.commit_kept setting (chronicle setting history) r d c (reaching setting r d c history comes p there)
-            (activated setting r d c history comes p there) (acted setting r d c history comes p there) (told setting r d c history comes p there)
-            (sent setting r d c history comes p there) p TookOver,
-        ticks.joined_kept setting (chronicle setting history) r d c
-            (reaching setting r d c history comes p there) (activated setting r d c history comes p there) (acted setting r d c history comes p there)
-            (told setting r d c history comes p there) (sent setting r d c history comes p there) p TookOver x,
-        ticks.staged_kept setting
-            (chronicle setting history) r d c (reaching setting r d c history comes p there) (activated setting r d c history comes p there)
-            (acted setting r d c history comes p there) (told setting r d c history comes p there)
-            (sent setting r d c history comes p there) p TookOver,
+        ticks.commit_kept setting steps r d c reaching activated acted told sent p TookOver,
+        ticks.joined_kept setting steps r d c reaching activated acted told sent p TookOver x,
+        ticks.staged_kept setting steps r d c reaching activated acted told sent p TookOver,
         others_act x other,
       ) (core_then.committed.acting x))
 
   core_now : Core setting now
   core_now =
-      tickings.core_turned setting history r d c (reaching setting r d c history comes p there) (activated setting r d c history comes p there)
-      (acted setting r d c history comes p there) (told setting r d c history comes p there) (sent setting r d c history comes p there) p TookOver refl refl
-      (live setting r d c history comes p there) there (answers setting r d c history comes p there) transition_is
-      (told_is setting r d c history comes p there TookOver transition_is) core_then not_new not_blank started
+      tickings.core_turned setting history r d c reaching activated
+      acted told sent p TookOver refl refl
+      live there answers transition_is
+      told_is core_then not_new not_blank started
       (record {
         quiet = subst (λ n. IsTrue (nothing_emitted setting n)) (now_is setting r d c history comes p there TookOver transition_is refl)
             (quiet setting (event.Tick r d c ∷ history) comes.fair comes.clean);

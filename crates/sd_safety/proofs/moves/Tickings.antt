@@ -104,10 +104,6 @@ module _ (setting : Setting) (history : List Event) (r d c : ℕ) (reaching : Li
   blanks = ticks.blank_kept setting (chronicle setting history) r d c reaching activated acted told sent p transition none live there answers transition_is
       told_is
 
-  pasts : (x : ℕ) → is_past now x ≡ is_past steps x
-  pasts = ticks.past_kept setting (chronicle setting history) r d c reaching activated acted told sent p transition none live there answers transition_is
-      told_is
-
   heards : (x : ℕ) → heard_at now x ≡ heard_at steps x
   heards = ticks.heard_kept setting (chronicle setting history) r d c reaching activated acted told sent p transition none live there answers transition_is
       told_is deaf

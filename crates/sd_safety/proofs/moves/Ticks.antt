@@ -18,7 +18,7 @@ use Rattle.sd_sched.specs.Events.{reference_of, is_commit, joined}
 use Rattle.sd_history.specs.World.{Setting, Seen, is_up, window, has_commit, staged, staged_epoch, is_staged_member, joined_in_window, is_counted, plan_numbered}
 use Rattle.sd_history.specs.Steps.{Calls, Answers, Told, Step, seen_of, answers_in, live_answers, acts_in, epoch_in, given_in, has_settled, can_close}
 use Rattle.sd_history.specs.Chronicle.{answers_by, past_in}
-use Rattle.sd_safety.specs.invariant.Eras.{era, plan_now, live_past, moved, on_primary, is_old, is_new, is_blank, is_past, hears, heard_at}
+use Rattle.sd_safety.specs.invariant.Eras.{era, plan_now, live_past, moved, on_primary, is_old, is_new, is_blank, hears, heard_at}
 use Rattle.sd_safety.specs.invariant.Clauses.{commit_at, staged_root}
 
 -- a tick's step
@@ -100,9 +100,6 @@ module _ (setting : Setting) (steps : List Step) (r d c : ℕ) (reaching : List 
   pub commit_at_kept : commit_at now ≡ commit_at steps
   commit_at_kept = go (window (seen_of steps))
     where
-      test : Seen → Option ℕ
-      test s = if is_commit s.event then Some (reference_of s.event) else None
-
       go : (w : Option (List Seen))
           → map_or (option_map (λ v. (tick_step r d c reaching activated acted told sent false).seen ∷ v) w) 0
           (λ v. find_map_or (λ s. if is_commit s.event then Some (reference_of s.event) else None) v 0)
@@ -186,10 +183,6 @@ module _ (setting : Setting) (steps : List Step) (r d c : ℕ) (reaching : List 
     pub blank_kept : (x : ℕ) → is_blank now x ≡ is_blank steps x
     blank_kept x = ap (λ o. same_number o 0) (epoch_kept x)
 
-    pub past_kept : (x : ℕ) → is_past now x ≡ is_past steps x
-    past_kept x =
-        ap (λ o. is_up (seen_of steps) x && not (same_number o (era steps) || same_number o (staged_epoch (seen_of steps)) || same_number o 0)) (epoch_kept x)
-
     pub moved_now : moved now d ≡ has_moved (added p (calls.Tick c) transition)
     moved_now =
         ap (λ u. map_or (if u then (if nat_eq d d then option_map (λ past. after past (calls.Tick c)) (past_in steps d) else past_in steps d) else None) false
@@ -203,9 +196,6 @@ module _ (setting : Setting) (steps : List Step) (r d c : ℕ) (reaching : List 
 
     pub acts_now : acts_in now d ≡ is_acting (added p (calls.Tick c) transition)
     acts_now = ap (λ (o : Option Answers). map_or o false (λ a. a.acts)) now_answers
-
-    pub acts_before : acts_in steps d ≡ is_acting p
-    acts_before = ap (λ (o : Option Answers). map_or o false (λ a. a.acts)) was_answers
 
     module _ (deaf : accepted_over transition ≡ None) where
       pub heard_kept : (x : ℕ) → heard_at now x ≡ heard_at steps x

@@ -6,7 +6,6 @@ use Rattle.std.proofs.lemmas.Bool.{eq-eqb, false_from_ne_true}
 use Rattle.sd_num.specs.Lists.{map_or}
 use Rattle.sd_plan.specs.declared.topo.Thing.{Thing}
 use Rattle.sd_plan.specs.declared.topo.Thing.TheVariants as thing
-use Rattle.sd_plan.specs.declared.Plan.{Plan}
 use Rattle.sd_plan.specs.declared.Duty.{Duty}
 use Rattle.sd_plan.specs.Walks.{path}
 use Rattle.sd_sched.specs.declared.Event.{Event}
@@ -67,9 +66,6 @@ module _ (setting : Setting) (x : Event) (h : List Event) (e : Event) (comes : I
   abbrev steps : List Step
   steps = chronicle setting (x ∷ h)
 
-  abbrev plan : Plan
-  plan = plan_now setting (chronicle setting (x ∷ h))
-
   abbrev b : ℕ
   b = (plan_now setting (chronicle setting (x ∷ h))).backup_root
 
@@ -121,9 +117,6 @@ module _ (setting : Setting) (x : Event) (h : List Event) (e : Event) (comes : I
   -- it heard in the era where nothing was mended before
   module _ (heard : IsHeard setting (x ∷ h) b (era (chronicle setting (x ∷ h)))) (none : era (chronicle setting (x ∷ h)) ≤ era heard.moment.earlier
       → mended_now heard.moment.earlier ≡ false) (f : FirstFailure setting things (x ∷ h) found.0) where
-    abbrev n : ℕ
-    n = era (chronicle setting (x ∷ h))
-
     abbrev first : Moment
     first = (traced setting x h e comes old on heard).first
 

@@ -1,6 +1,6 @@
 -- Up a walk along a trace: where each device of the walk but the root took the round over its primary hop, the round crossed each link and each device of the
 -- walk at the moment at which it was emitted, or later.
-use Rattle.std.specs.Prelude.{◌≡◌, ℕ, zero, suc, Bool, true, false, ◌||◌, List, [], ◌∷◌, map, nat_eq, Option, Some, None, option_map, refl, if◌then◌else◌}
+use Rattle.std.specs.Prelude.{◌≡◌, ℕ, zero, suc, Bool, true, false, ◌||◌, List, [], ◌∷◌, map, nat_eq, Option, Some, None, option_map, refl}
 use Rattle.std.specs.List.{list_any}
 use Rattle.std.proofs.Common.{◌∙◌, ap, sym, subst}
 use Rattle.std.proofs.lemmas.Bool.{or_left, or_right, or_from, eq-eqb}
@@ -16,7 +16,7 @@ use Rattle.sd_plan.specs.Duties.{edge_of}
 use Rattle.sd_plan.specs.Walks.{things_of}
 use Rattle.sd_device.specs.declared.msg.Stamp.{Stamp}
 use Rattle.sd_device.specs.Calls.{Past}
-use Rattle.sd_device.specs.Words.{epoch_now, has_moved, is_acting, parent_edge, primary_now, backup_now}
+use Rattle.sd_device.specs.Words.{epoch_now, has_moved, is_acting}
 use Rattle.sd_history.specs.World.{Setting, link_has_failed, plan_numbered}
 use Rattle.sd_history.specs.Steps.{seen_of}
 use Rattle.sd_history.specs.Chronicle.{past_in}
@@ -32,11 +32,6 @@ use Rattle.sd_safety.proofs.messages.Flowing.{tail_rest}
 use Rattle.sd_safety.proofs.frame.Descending.{edge_above}
 
 -- The link over which a device that has neither moved nor acts accepts is that of its primary hop.
-
-primary_parent : (past : Past) → is_acting past ≡ false → has_moved past ≡ false → parent_edge past ≡ primary_now past
-primary_parent past idle unmoved =
-    ap (λ b. if b then None else if has_moved past then backup_now past else primary_now past) idle
-    ∙ ap (λ b. if b then backup_now past else primary_now past) unmoved
 
 link_of_edge : (net : Network) (y : ℕ) (h : declared.Hop) (o : Option declared.Hop) (edge : Edge) → o ≡ Some h → option_map (edge_of net y) o ≡ Some edge
     → h.link ≡ edge.link

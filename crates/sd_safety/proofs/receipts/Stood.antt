@@ -50,7 +50,7 @@ use Rattle.sd_safety.proofs.windows.Committing.{staged_some}
 use Rattle.sd_safety.proofs.windows.Closing.{commit_is_open}
 use Rattle.sd_safety.specs.frame.Descents.{StoodThen}
 use Rattle.sd_safety.proofs.frame.Standing.{stands_now}
-use Rattle.sd_safety.proofs.frame.Timely.{begins_before, first_era}
+use Rattle.sd_safety.proofs.frame.Timely.{begins_before}
 use Rattle.sd_safety.proofs.moves.Ahead.{IsAhead, always_ahead}
 use Rattle.sd_safety.proofs.moves.Started.{now_is, starts_by, unmade}
 use Rattle.sd_safety.proofs.receipts.Alive.{WasAlive, was_alive, IsOf, events_of_tail, Went, made, called, alone, went}
@@ -303,9 +303,6 @@ module _ (setting : Setting) (fair : AreGuarded setting) (b n : ℕ) (positive :
     back_starts : IsYetToStart setting b n (e ∷ history) → BackThen setting b n history
     back_starts now = by_closing (next_step setting (chronicle setting history) e).seen.closed refl
       where
-        first : era (chronicle setting (e ∷ history)) ≡ 1
-        first = first_era setting (chronicle setting (e ∷ history)) now.begins
-
         unmade_then : (a c : Bool) → (a || c) ≡ false → c ≡ false
         unmade_then true c h = cc
         unmade_then false c h = h

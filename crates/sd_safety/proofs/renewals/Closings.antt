@@ -21,7 +21,7 @@ use Rattle.sd_device.specs.Words.{epoch_now, has_moved, is_acting}
 use Rattle.sd_sched.specs.declared.Event.{Event}
 use Rattle.sd_sched.specs.declared.Event.TheVariants as event
 use Rattle.sd_sched.specs.Events.{joined, is_commit}
-use Rattle.sd_history.specs.World.{Setting, Seen, makes, fails, is_up, was_made, has_ever_failed, is_untouched, link_has_failed, window, has_commit, is_staged_member, is_counted, joined_in_window, plan_numbered}
+use Rattle.sd_history.specs.World.{Setting, Seen, is_up, has_ever_failed, is_untouched, link_has_failed, window, has_commit, is_staged_member, is_counted, joined_in_window, plan_numbered}
 use Rattle.sd_history.specs.Steps.{Step, seen_of, live_answers, acts_in, parent_in, epoch_in, has_settled}
 use Rattle.sd_history.specs.Chronicle.{past_in, chronicle, next_step}
 use Rattle.sd_history.proofs.Known.{admitted_up_is_known}

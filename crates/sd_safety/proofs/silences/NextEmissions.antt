@@ -2,7 +2,7 @@
 -- the words. By induction on the steps.
 use Rattle.std.specs.Prelude.{◌≡◌, ℕ, ◌<◌, ◌≤◌, Bool, true, false, ◌&&◌, ◌||◌, List, [], ◌∷◌, nat_eq, nat_lt, Option, Some, None, refl, if◌then◌else◌}
 use Rattle.std.proofs.Common.{arith, sym, ◌∙◌, ap, subst}
-use Rattle.std.proofs.lemmas.Bool.{and_parts, and_from, or_left, or_right, eqb-true, eq-eqb, ltb-true, lt-ltb}
+use Rattle.std.proofs.lemmas.Bool.{and_parts, and_from, or_left, or_right, eqb-true, ltb-true, lt-ltb}
 use Rattle.sd_num.specs.Lists.{map_or}
 use Rattle.sd_device.specs.declared.msg.Message.{Message}
 use Rattle.sd_device.specs.declared.msg.Stamp.{Stamp}

@@ -1,9 +1,8 @@
 -- No accepted event makes a device that is up and a member of the plan in force.
-use Rattle.std.specs.Prelude.{◌≡◌, ℕ, Bool, true, false, ◌&&◌, ◌||◌, List, [], nat_eq, Option, Some, None, refl}
+use Rattle.std.specs.Prelude.{◌≡◌, ℕ, Bool, true, false, ◌&&◌, ◌||◌, List, nat_eq, Option, Some, None, refl}
 use Rattle.std.proofs.Common.{subst}
 use Rattle.std.proofs.lemmas.Bool.{and_from, or_left, or_parts, or_from, eqb-true, false_from_ne_true}
 use Rattle.sd_num.specs.Lists.{map_or, same_number}
-use Rattle.sd_plan.specs.declared.topo.Thing.TheVariants as thing
 use Rattle.sd_plan.specs.Plans.{is_member}
 use Rattle.sd_history.specs.Admitted.{Admits}
 use Rattle.sd_sched.specs.declared.Event.{Event}

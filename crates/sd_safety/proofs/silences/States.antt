@@ -1,7 +1,7 @@
 -- How devices stand before an event, later than all have started, while the root did not fail: a device with a clear hop is up, and where it is not new, old,
 -- on its
 -- primary, and ready for what comes over that hop; and without a commit nobody is new, and the root is old, acts, and sent at most P ago. From the invariant.
-use Rattle.std.specs.Prelude.{◌≡◌, ℕ, ◌+◌, ◌≤◌, Bool, true, false, ◌&&◌, ◌||◌, not, List, ◌∷◌, Option, Some, None, option_map, refl, if◌then◌else◌}
+use Rattle.std.specs.Prelude.{◌≡◌, ℕ, ◌+◌, Bool, true, false, ◌&&◌, ◌||◌, not, List, ◌∷◌, Option, Some, None, option_map, refl, if◌then◌else◌}
 use Rattle.std.proofs.Common.{arith, sym, ◌∙◌, ap, subst}
 use Rattle.std.proofs.lemmas.Bool.{and_parts, and_from, not-true, eqb-true, false_from_ne_true}
 use Rattle.sd_num.specs.Lists.{map_or}
@@ -11,25 +11,23 @@ use Rattle.sd_plan.specs.declared.Plan.{Plan}
 use Rattle.sd_plan.specs.declared.Duty.{Duty}
 use Rattle.sd_plan.specs.Plans.{is_member, is_present, is_root, is_backup_root, primary_of}
 use Rattle.sd_plan.specs.Duties.{duty_of, edge_of}
-use Rattle.sd_checker.specs.check_root.Timing.{round_gap}
 use Rattle.sd_num.proofs.Shared.{same_number-some}
 use Rattle.sd_device.specs.Calls.{Past}
 use Rattle.sd_device.specs.Words.{is_acting, has_moved, duty_now, backup_now, primary_now}
 use Rattle.sd_sched.specs.declared.Event.{Event}
-use Rattle.sd_sched.specs.Events.{reference_of}
-use Rattle.sd_history.specs.World.{Setting, is_up, has_commit, link_has_failed}
+use Rattle.sd_history.specs.World.{Setting, is_up, link_has_failed}
 use Rattle.sd_history.specs.Steps.{Step, seen_of, acts_in, epoch_in}
 use Rattle.sd_history.specs.Chronicle.{past_in, chronicle}
 use Rattle.sd_history.proofs.Given.{some_is}
-use Rattle.sd_safety.specs.invariant.Eras.{era, plan_now, failed_now, device_failed_now, link_failed_now, is_old, is_new, moved, is_ordinary, hit, hit_otherwise, path_hit, root_failed, root_lives, sent_at}
+use Rattle.sd_safety.specs.invariant.Eras.{era, plan_now, failed_now, device_failed_now, link_failed_now, is_old, is_new, moved, is_ordinary, hit, hit_otherwise, path_hit, root_failed}
 use Rattle.sd_safety.specs.invariant.Clauses.{backup_root_acts}
 use Rattle.sd_safety.specs.invariant.Invariant.{Invariant}
 use Rattle.sd_safety.specs.invariant.Coming.{IsNextEvent}
 use Rattle.sd_safety.proofs.invariant.Sides.{implied, not_both}
 use Rattle.sd_safety.specs.messages.Rounds.{IsReady, follows_parent}
-use Rattle.sd_safety.proofs.waits.Waits.{Stands, old_stands, root_sends}
+use Rattle.sd_safety.proofs.waits.Waits.{Stands, old_stands}
 use Rattle.sd_safety.proofs.silences.Paths.{IsClear, path_misses_cut}
-use Rattle.sd_safety.proofs.waits.Standing.{now, times, sound, Early, is_up_then, lives}
+use Rattle.sd_safety.proofs.waits.Standing.{now, Early, is_up_then}
 
 pub ready_of : (net : Network) (plan : Plan) (epoch y : ℕ) (hop : Hop) (past : Past) → duty_now past ≡ Some (duty_of net plan epoch y) → has_moved past ≡ false
     → is_acting past ≡ false → primary_of plan y ≡ Some hop → IsReady past epoch hop.link
@@ -146,34 +144,3 @@ module _ (setting : Setting) (x : Event) (h : List Event) (e : Event) (comes : I
 
       pub ready_unless_new : (past : Past) → past_in (chronicle setting (x ∷ h)) y ≡ Some past → IsReady past (era (chronicle setting (x ∷ h))) hop.link
       ready_unless_new = ready_old y hop clear_old (unmoved_when (is_backup_root plan y) refl) (still_when (is_backup_root plan y) refl) clear.primary
-
-  -- where there was no commit
-  module _ (late : Early setting x h e comes → ⊥) (calm : has_commit (seen_of (chronicle setting (x ∷ h))) ≡ false)
-      (kept : root_failed setting (chronicle setting (x ∷ h)) ≡ false) where
-    pub none_new : (d : ℕ) → is_new (chronicle setting (x ∷ h)) d ≡ false
-    none_new d = not-true (is_new steps d) (implied (not (has_commit (seen_of steps))) (not (is_new steps d)) (inv.core.uncommitted.devices d) (ap not calm))
-
-    pub root_lives_ : root_lives setting (chronicle setting (x ∷ h)) ≡ true
-    root_lives_ = lives setting x h e comes kept late
-
-    pub root_up : is_up (seen_of (chronicle setting (x ∷ h))) (plan_now setting (chronicle setting (x ∷ h))).root ≡ true
-    root_up = (and_parts (is_up (seen_of steps) plan.root) (not (root_failed setting steps)) root_lives_).0
-
-    pub root_acts_ : acts_in (chronicle setting (x ∷ h)) (plan_now setting (chronicle setting (x ∷ h))).root ≡ true
-    root_acts_ = implied (root_lives setting steps) (acts_in steps plan.root) inv.core.roles.root root_lives_
-
-    pub root_member : is_member (plan_now setting (chronicle setting (x ∷ h))) (plan_now setting (chronicle setting (x ∷ h))).root ≡ true
-    root_member = (sound setting x h e comes).rules.root
-
-    pub root_old : is_old (chronicle setting (x ∷ h)) (plan_now setting (chronicle setting (x ∷ h))).root ≡ true
-    root_old = old_unless_new plan.root root_member kept root_up (none_new plan.root)
-
-    pub root_soon : reference_of e ≤ sent_at (chronicle setting (x ∷ h)) (plan_now setting (chronicle setting (x ∷ h))).root + round_gap setting.net
-    root_soon =
-        let less = root_sends setting e (x ∷ h) plan.root (times setting x h e comes) root_old root_member root_acts_ in
-        omega (arith, less)
-
-    pub clear_ready : (y : ℕ) (hop : Hop) → IsClear setting.net (plan_now setting (chronicle setting (x ∷ h))) (failed_now (chronicle setting (x ∷ h))) y hop
-        → (past : Past) → past_in (chronicle setting (x ∷ h)) y ≡ Some past
-        → IsReady past (era (chronicle setting (x ∷ h))) hop.link
-    clear_ready y hop clear = ready_unless_new late y hop clear kept (none_new y)

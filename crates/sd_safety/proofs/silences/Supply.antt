@@ -103,9 +103,6 @@ module _ (setting : Setting) (top : Moment) (x s0 : ℕ) (src : IsSource setting
   sent_later s le [] t less = absurd (omega (arith, less))
   sent_later s le (st ∷ earlier) t less = go (makes x st.seen.event) refl (does sends earlier st x) refl less (sent_later s le earlier (rest_of t))
     where
-      here : Moment
-      here = record { step = st; earlier = earlier }
-
       go : (m : Bool) → makes x st.seen.event ≡ m → (d : Bool) → does sends earlier st x ≡ d
           → s < (if m || d then reference_of st.seen.event else latest_such sends earlier x)
           → (s < sent_at earlier x → has_later x s earlier ≡ true) → has_later x s (st ∷ earlier) ≡ true

@@ -1,5 +1,5 @@
 -- How a device that acts after an event came to act: it was made, it acted before, or it took over.
-use Rattle.std.specs.Prelude.{◌≡◌, ℕ, ◌+◌, ◌≤◌, Bool, true, false, List, ◌∷◌, Option, Some, None, option_map, refl, ◌⊎◌, if◌then◌else◌}
+use Rattle.std.specs.Prelude.{◌≡◌, ℕ, ◌+◌, Bool, true, false, List, ◌∷◌, Option, Some, None, option_map, refl, ◌⊎◌, if◌then◌else◌}
 use Rattle.std.proofs.Common.{◌∙◌, ap, sym, inl, inr}
 use Rattle.std.proofs.lemmas.Bool.{eqb-true, eq-eqb, false_from_ne_true}
 use Rattle.sd_num.specs.Lists.{map_or, same_number}
@@ -24,7 +24,6 @@ use Rattle.sd_safety.proofs.invariant.Sides.{not_both}
 use Rattle.sd_safety.proofs.timers.Transitions.{Cases, by_case}
 use Rattle.sd_safety.proofs.timers.Pasts.{takeover_from_backup}
 use Rattle.sd_safety.proofs.timers.Turns.{BeganToAct, by_takeover, by_commit, began_to_act, IsTakeover, is_takeover}
-use Rattle.sd_safety.proofs.waits.Epochs.{era_rises}
 use Rattle.sd_safety.specs.messages.Moments.{whole, IsChronicle, Moment}
 use Rattle.sd_safety.specs.messages.Stamping.{EntersNot, enters, stays, calls as goes_on}
 use Rattle.sd_safety.proofs.messages.Tails.{history_chronicle}
@@ -61,9 +60,6 @@ module _ (setting : Setting) (e : Event) (history : List Event) (fair : AreGuard
   abbrev one : List Step
   one = chronicle setting history
 
-  abbrev two : List Step
-  two = chronicle setting (e ∷ history)
-
   abbrev here : Moment
   here = record { step = next_step setting (chronicle setting history) e; earlier = chronicle setting history }
 
@@ -72,9 +68,6 @@ module _ (setting : Setting) (e : Event) (history : List Event) (fair : AreGuard
 
   ends : IsChronicle setting (chronicle setting (e ∷ history))
   ends = history_chronicle setting (e ∷ history) clean.is
-
-  rises : era (chronicle setting history) ≤ era (chronicle setting (e ∷ history))
-  rises = era_rises (next_step setting (chronicle setting history) e) (chronicle setting history)
 
   -- it acted before
   pub record WentOn (a : ℕ) (past : Past) : Type 0 where

@@ -1,20 +1,20 @@
 -- Calm beginning: no device moves, takes over or emits before Low of its wait or period has passed since the first event, since what it counts from is no
 -- earlier. By induction on the steps.
-use Rattle.std.specs.Prelude.{◌≡◌, ℕ, ◌-◌, ◌≤◌, Bool, true, false, List, [], ◌∷◌, max, nat_eq, Option, Some, None, option_map, refl, if◌then◌else◌}
+use Rattle.std.specs.Prelude.{◌≡◌, ℕ, ◌-◌, ◌≤◌, Bool, true, false, List, [], ◌∷◌, nat_eq, Option, Some, None, option_map, refl, if◌then◌else◌}
 use Rattle.std.proofs.Common.{arith}
 use Rattle.sd_num.specs.Lists.{map_or}
 use Rattle.sd_num.specs.Numbers.{low}
 use Rattle.sd_plan.specs.topo.Network.{rates_of}
 use Rattle.sd_plan.specs.declared.Duty.{Duty}
 use Rattle.sd_device.specs.Calls.{CallDone, Past}
-use Rattle.sd_device.specs.Words.{after, duty_now, emits, emits_at, takes_over_at}
+use Rattle.sd_device.specs.Words.{after, duty_now, emits, emits_at}
 use Rattle.sd_sched.specs.Events.{reference_of}
 use Rattle.sd_history.specs.World.{Setting}
 use Rattle.sd_history.specs.Steps.{Act, Makes, Calls, Asks, Passes, Step, seen_of}
 use Rattle.sd_history.specs.Chronicle.{past_in, past_after, new_past}
 use Rattle.sd_history.specs.Premises.{first_reference}
-use Rattle.sd_safety.specs.timers.Times.{AreTimed, did_by, hears, reference_after, reference_by, heard_in, moved_in, sent_in}
-use Rattle.sd_safety.proofs.timers.NotEarly.{IsTick, Waited, move_not_early, takeover_not_early, emission_not_early}
+use Rattle.sd_safety.specs.timers.Times.{AreTimed, did_by, hears, reference_after, reference_by, heard_in, sent_in}
+use Rattle.sd_safety.proofs.timers.NotEarly.{IsTick, Waited, move_not_early, emission_not_early}
 
 -- the first event is no later than the latest
 pub first_within : (setting : Setting) (s : Step) (earlier : List Step) → AreTimed setting (s ∷ earlier)
@@ -74,13 +74,4 @@ module _ (setting : Setting) (s x : Step) (earlier : List Step) (d c : ℕ) (pas
       emission_not_early setting s (x ∷ earlier) d c past ppm tick duty has sends in
       let since : first_reference (seen_of earlier) x.seen ≤ sent_in (x ∷ earlier) d =
       counts_from_first emits setting x earlier tick.before d past tick.there in
-      omega (arith, apart, since)
-
-  pub calm_takeover : (duty : Duty) → duty_now past ≡ Some duty → takes_over_at past c ≡ true
-      → low (rates_of setting.net d) duty.wait_second ≤ reference_of s.seen.event - first_reference (seen_of earlier) x.seen
-  calm_takeover duty has takes =
-      let apart : low (rates_of setting.net d) duty.wait_second ≤ reference_of s.seen.event - max (heard_in (x ∷ earlier) d) (moved_in (x ∷ earlier) d) =
-      takeover_not_early setting s (x ∷ earlier) d c past ppm tick duty has takes in
-      let since : first_reference (seen_of earlier) x.seen ≤ heard_in (x ∷ earlier) d =
-      counts_from_first hears setting x earlier tick.before d past tick.there in
       omega (arith, apart, since)

@@ -165,16 +165,6 @@ module _ (setting : Setting) (s : Seen) (earlier : List Step) (d : ℕ) (past : 
       let gap : reference_of s.event ≤ latest_tick (seen_of earlier) d + setting.net.params.tick = ticked_lately setting s earlier d at in
       omega (arith, due, gap)
 
-  -- on its primary, and sealed before the wait was over
-  pub silent_at_most : (duty : Duty) (wait q : ℕ) → duty_now past ≡ Some duty → wait_to_move duty ≡ Some wait → has_moved past ≡ false → is_acting past ≡ false
-      → sealed_in earlier d ≡ Some q
-      → q ≤ heard_in earlier d + up (rates_of setting.net d) wait
-      → reference_of s.event ≤ heard_in earlier d + up (rates_of setting.net d) wait + setting.net.params.tick
-  silent_at_most duty wait q has waits still acts seal by =
-      let line : reference_of s.event ≤ max (heard_in earlier d + up (rates_of setting.net d) wait) q + setting.net.params.tick =
-      primary_deadline duty wait q has waits still acts seal in
-      omega (arith, line, by)
-
   -- the backup root on its backup
   pub rested_at_most : (duty : Duty) → duty_now past ≡ Some duty → is_backup_root_now past ≡ true → has_moved past ≡ true → is_acting past ≡ false
       → reference_of s.event ≤ max (heard_in earlier d) (moved_in earlier d) + up (rates_of setting.net d) duty.wait_second + setting.net.params.tick

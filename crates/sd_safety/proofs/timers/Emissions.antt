@@ -7,8 +7,8 @@ use Rattle.sd_num.specs.Lists.{map_or}
 use Rattle.sd_num.specs.Numbers.{low}
 use Rattle.sd_plan.specs.topo.Network.{rates_of}
 use Rattle.sd_plan.specs.declared.Duty.{Duty}
-use Rattle.sd_device.specs.Calls.{Commit, Committed, Recommitted, Nothing, CallDone, Past}
-use Rattle.sd_device.specs.Words.{duty_now, emits, emits_at, given_now, is_acting}
+use Rattle.sd_device.specs.Calls.{CallDone, Past}
+use Rattle.sd_device.specs.Words.{duty_now, emits, emits_at}
 use Rattle.sd_sched.specs.Events.{reference_of}
 use Rattle.sd_history.specs.World.{Setting, latest_reference}
 use Rattle.sd_history.specs.Steps.{Act, Makes, Calls, Asks, Passes, Step, seen_of}

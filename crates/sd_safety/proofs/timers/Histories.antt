@@ -2,36 +2,29 @@
 -- Each is the law over steps, at the event that is the newest.
 use Rattle.std.specs.Prelude.{◌≡◌, ℕ, ◌+◌, ◌-◌, ◌<◌, ◌≤◌, true, false, List, ◌∷◌, length, max, Some, refl}
 use Rattle.std.proofs.Common.{arith, sym, ◌∙◌, ap, subst}
-use Rattle.std.proofs.lemmas.Bool.{and_parts, false_from_ne_true}
+use Rattle.std.proofs.lemmas.Bool.{and_parts}
 use Rattle.sd_num.specs.Numbers.{low, up}
 use Rattle.sd_plan.specs.topo.Network.{rates_of, least_low, greatest_up}
 use Rattle.sd_plan.specs.topo.Limits.{IsNetwork}
 use Rattle.sd_plan.specs.declared.Duty.{Duty}
 use Rattle.sd_checker.specs.check_root.Timing.{round_gap}
 use Rattle.sd_device.specs.Calls.{Past}
-use Rattle.sd_device.specs.Words.{duty_now, has_moved, is_acting, is_backup_root_now, wait_to_move, emits, emits_at, takes_over_at, moves_at}
+use Rattle.sd_device.specs.Words.{duty_now, has_moved, is_acting, is_backup_root_now, wait_to_move, takes_over_at, moves_at}
 use Rattle.sd_sched.specs.declared.Event.{Event}
 use Rattle.sd_sched.specs.declared.Event.TheVariants as event
 use Rattle.sd_sched.specs.Events.{reference_of}
-use Rattle.sd_history.specs.World.{Setting, is_up, latest_reference}
-use Rattle.sd_history.specs.Steps.{Step, seen_of}
+use Rattle.sd_history.specs.World.{Setting, is_up}
+use Rattle.sd_history.specs.Steps.{seen_of}
 use Rattle.sd_history.specs.Chronicle.{past_in, chronicle, next_step}
 use Rattle.sd_history.specs.Admitted.{IsAdmitted}
-use Rattle.sd_history.specs.Premises.{readings, drift_holds, tick_holds, is_current_member}
+use Rattle.sd_history.specs.Premises.{drift_holds, tick_holds, is_current_member}
 use Rattle.sd_safety.specs.invariant.Guarded.{all_but_start_hold}
-use Rattle.sd_safety.specs.messages.Moments.{Tail}
-use Rattle.sd_safety.specs.timers.Times.{AreTimed, stays_after, heard_in, moved_in, sent_in, sealed_in}
+use Rattle.sd_safety.specs.timers.Times.{AreTimed, heard_in, moved_in, sent_in, sealed_in}
 use Rattle.sd_safety.specs.timers.Dues.{AtEvent}
-use Rattle.sd_safety.specs.timers.Since.{IsMarked, TicksWithin}
-use Rattle.sd_safety.proofs.timers.Readings.{Newer}
 use Rattle.sd_safety.proofs.timers.NetworkBounds.{least_is_low, up_is_within, rate_is_low}
 use Rattle.sd_safety.proofs.timers.Fitting.{history_is_timed}
-use Rattle.sd_safety.proofs.timers.NotEarly.{IsTick, move_waited, move_not_early, takeover_not_early, emission_not_early}
+use Rattle.sd_safety.proofs.timers.NotEarly.{IsTick, move_waited, move_not_early, takeover_not_early}
 use Rattle.sd_safety.proofs.timers.Deadlines.{primary_deadline, rested_at_most, sent_lately}
-use Rattle.sd_safety.proofs.timers.TickSoon.{tick_soon}
-use Rattle.sd_safety.proofs.timers.Emissions.{emissions_apart}
-use Rattle.sd_safety.proofs.timers.Periods.{periods_in}
-use Rattle.sd_safety.proofs.timers.Pasts.{acting_has_duty}
 use Rattle.sd_history.proofs.Known.{admitted_up_is_known, admitted_named_is_known}
 use Rattle.sd_history.proofs.Given.{some_is}
 use Rattle.sd_safety.proofs.invariant.Parts.{premises_of}
@@ -69,16 +62,6 @@ at_event setting e earlier d t is_up_ member =
       up = is_up_;
       member = member;
     }
-
--- Two readings of one life
-
--- Tick soon
-
-pub soon : (setting : Setting) (history : List Event) (d x : ℕ) → Timely setting history → d < length setting.net.devices
-    → stays_after setting x d (seen_of (chronicle setting history)) ≡ true
-    → x + setting.net.params.tick < latest_reference (seen_of (chronicle setting history))
-    → TicksWithin (chronicle setting history) d x (x + setting.net.params.tick)
-soon setting history d x t known stays lt = tick_soon setting (chronicle setting history) d x (timed setting history t) t.ticks known stays lt
 
 -- Deadlines, with the state before the newest event
 
@@ -157,49 +140,3 @@ module _ (setting : Setting) (r d c : ℕ) (earlier : List Event) (past : Past) 
       (chronicle setting earlier) d c past ppm the_tick duty has takes in
       let least : least_low setting.net duty.wait_second ≤ low (rates_of setting.net d) duty.wait_second = least_is_low setting.net d duty.wait_second known in
       omega (arith, low_, least)
-
-  -- an emission, and each one before it of the same device, lie at least Low of the period apart
-  pub emission_waits : (duty : Duty) → duty_now past ≡ Some duty → emits_at past c ≡ true → (first : Step) (older : List Step)
-      → Tail (first ∷ older) (chronicle setting earlier) → IsMarked emits first older d
-      → least_low setting.net setting.net.params.period ≤ r - reference_of first.seen.event
-  emission_waits duty has sends first older tail marked =
-      let low_ : low (rates_of setting.net d) setting.net.params.period ≤ r - reference_of first.seen.event =
-      emissions_apart setting (next_step setting (chronicle setting earlier) (event.Tick r d c))
-      (chronicle setting earlier) d c past ppm the_tick duty has sends first older tail marked in
-      let least : least_low setting.net setting.net.params.period ≤ low (rates_of setting.net d) setting.net.params.period =
-      least_is_low setting.net d setting.net.params.period known in
-      omega (arith, low_, least)
-
-  -- and it comes no sooner after the device began to act
-  pub emission_waits_since : emits_at past c ≡ true → is_acting past ≡ true
-      → least_low setting.net setting.net.params.period ≤ r - sent_in (chronicle setting earlier) d
-  emission_waits_since sends acts =
-      let duty : (duty : Duty) × (duty_now past ≡ Some duty) = acting_has_duty (chronicle setting earlier) d past is acts in
-      let period : duty.0.period ≡ setting.net.params.period = (periods_in setting (chronicle setting earlier) the_tick.before d past is).duty duty.0 duty.1 in
-      let low_ : low (rates_of setting.net d) duty.0.period ≤ r - sent_in (chronicle setting earlier) d =
-      emission_not_early setting (next_step setting (chronicle setting earlier) (event.Tick r d c))
-      (chronicle setting earlier) d c past ppm the_tick duty.0 duty.1 sends in
-      let least : least_low setting.net duty.0.period ≤ low (rates_of setting.net d) duty.0.period = least_is_low setting.net d duty.0.period known in
-      subst (λ n. least_low setting.net n ≤ r - sent_in (chronicle setting earlier) d) period (omega (arith, low_, least))
-
-  -- so a tick too early does none of these
-  pub no_move_yet : (duty : Duty) (wait : ℕ) → duty_now past ≡ Some duty → wait_to_move duty ≡ Some wait
-      → r - heard_in (chronicle setting earlier) d < least_low setting.net wait → moves_at past c ≡ false
-  no_move_yet duty wait has waits lt =
-      false_from_ne_true (moves_at past c) (λ goes. let le : least_low setting.net wait ≤ r - heard_in (chronicle setting earlier) d =
-      move_waits duty wait has waits goes in omega (arith, le, lt))
-
-  pub no_takeover_yet : (duty : Duty) → duty_now past ≡ Some duty
-      → r - max (heard_in (chronicle setting earlier) d) (moved_in (chronicle setting earlier) d) < least_low setting.net duty.wait_second
-      → takes_over_at past c ≡ false
-  no_takeover_yet duty has lt =
-      false_from_ne_true (takes_over_at past c)
-      (λ takes. let le : least_low setting.net duty.wait_second ≤ r - max (heard_in (chronicle setting earlier) d) (moved_in (chronicle setting earlier) d) =
-      takeover_waits duty has takes in omega (arith, le, lt))
-
-  pub no_emission_yet : is_acting past ≡ true → r - sent_in (chronicle setting earlier) d < least_low setting.net setting.net.params.period
-      → emits_at past c ≡ false
-  no_emission_yet acts lt =
-      false_from_ne_true (emits_at past c)
-      (λ sends. let le : least_low setting.net setting.net.params.period ≤ r - sent_in (chronicle setting earlier) d = emission_waits_since sends acts in
-      omega (arith, le, lt))

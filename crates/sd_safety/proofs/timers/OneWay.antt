@@ -5,11 +5,11 @@ use Rattle.std.proofs.Common.{sym, ◌∙◌, ap, subst}
 use Rattle.sd_num.specs.Lists.{map_or}
 use Rattle.sd_num.proofs.Shared.{none_if_not_some}
 use Rattle.sd_device.specs.Calls.{Past}
-use Rattle.sd_device.specs.Words.{transition_of, after, taken_up, has_moved, is_acting, duty_now}
+use Rattle.sd_device.specs.Words.{transition_of, after, taken_up, has_moved, duty_now}
 use Rattle.sd_history.specs.Steps.{Act, Makes, Calls, Asks, Passes, Step}
 use Rattle.sd_history.specs.Chronicle.{past_in, past_after, new_past}
 use Rattle.sd_safety.specs.timers.Since.{enters_by, SameEntry, at_once, goes_on}
-use Rattle.sd_safety.proofs.timers.Pasts.{Inside, itself, onward, was_unmoved, was_not_acting, inside_moved, inside_acting, inside_duty}
+use Rattle.sd_safety.proofs.timers.Pasts.{Inside, itself, onward, was_unmoved, inside_duty}
 use Rattle.sd_history.proofs.Given.{some_is}
 
 -- the device's past at the later state, of the same entry
@@ -48,11 +48,6 @@ same_entry_inside d older steps old past since is now =
 pub was_on_primary : (d : ℕ) (older steps : List Step) (old past : Past) → SameEntry d older steps → past_in older d ≡ Some old → past_in steps d ≡ Some past
     → has_moved past ≡ false → has_moved old ≡ false
 was_on_primary d older steps old past since is now still = was_unmoved old past (same_entry_inside d older steps old past since is now) still
-
--- acting then: acting now
-pub acts_on : (d : ℕ) (older steps : List Step) (old past : Past) → SameEntry d older steps → past_in older d ≡ Some old → past_in steps d ≡ Some past
-    → is_acting old ≡ true → is_acting past ≡ true
-acts_on d older steps old past since is now acts = inside_acting old past (same_entry_inside d older steps old past since is now) acts
 
 -- and it has the same duty
 pub same_duty_since : (d : ℕ) (older steps : List Step) (old past : Past) → SameEntry d older steps → past_in older d ≡ Some old → past_in steps d ≡ Some past

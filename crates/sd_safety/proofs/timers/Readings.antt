@@ -1,32 +1,21 @@
 -- Timer low and timer high for two readings of one life of a device: where the drift premise holds at each event, the counters' advance
 -- bounds the references' advance from below and from above. By induction on what is seen.
-use Rattle.std.specs.Prelude.{◌≡◌, ℕ, ◌-◌, ◌≤◌, Bool, true, false, ◌||◌, List, [], ◌∷◌, ◌++◌, Option, Some, None, option_map, option_to_list, refl, if◌then◌else◌}
+use Rattle.std.specs.Prelude.{◌≡◌, ℕ, ◌-◌, Bool, true, false, ◌||◌, List, Option, Some, None}
 use Rattle.std.specs.List.{list_all}
 use Rattle.std.proofs.Common.{ap, subst}
-use Rattle.std.proofs.lemmas.Bool.{and_parts}
-use Rattle.sd_num.specs.Lists.{map_or, same_number}
-use Rattle.sd_num.specs.Numbers.{low, up, keeps_rate}
+use Rattle.sd_num.specs.Lists.{map_or}
+use Rattle.sd_num.specs.Numbers.{keeps_rate}
 use Rattle.sd_num.specs.declared.Rates.{Rates}
 use Rattle.sd_plan.specs.topo.Network.{rates_of}
 use Rattle.sd_num.proofs.Shared.{same_number-some}
 use Rattle.sd_sched.specs.Events.{reference_of, device_of, counter_of}
 use Rattle.sd_history.specs.World.{Setting, Seen, makes}
-use Rattle.sd_history.specs.Premises.{readings, reads_honestly, drift_holds}
+use Rattle.sd_history.specs.Premises.{readings, reads_honestly}
 use Rattle.sd_history.proofs.Among.{Among, passes}
-use Rattle.sd_safety.proofs.timers.Spans.{timer_low}
-
--- the new one stands before the old one in the list, newest first
-pub data Newer {A : Type 0} (new old : A) : List A → Type 0 where
-  at_head : {xs : List A} → Among old xs → Newer new old (new ∷ xs)
-  further : {y : A} {xs : List A} → Newer new old xs → Newer new old (y ∷ xs)
 
 -- two readings keep the rates
 abbrev pub Keeps : Rates → ℕ × ℕ → ℕ × ℕ → Type 0
 Keeps rates new old = keeps_rate rates (new.1 - old.1) (new.0 - old.0) ≡ true
-
-number_is : (o : Option ℕ) (d : ℕ) → same_number o d ≡ true → (x : ℕ) × (o ≡ Some x) × (same_number (Some x) d ≡ true)
-number_is None d same = cc
-number_is (Some x) d same = (x, refl, same)
 
 some_number : {x y : ℕ} → Some x ≡ Some y → x ≡ y
 some_number {x = x} same = ap (λ o. map_or o x (λ z. z)) same
@@ -39,9 +28,6 @@ honest_reading setting s earlier d c x honest same_number-some reads none a =
     passes (λ r. keeps_rate (rates_of setting.net d) (c - r.1) (reference_of s.event - r.0)) a
     (by_device (device_of s.event) same_number-some (by_counter (counter_of s.event) reads) honest)
   where
-    rest : ℕ → ℕ → Bool
-    rest d c = makes d s.event || list_all (λ r. keeps_rate (rates_of setting.net d) (c - r.1) (reference_of s.event - r.0)) (readings earlier d)
-
     not_made : (b all : Bool) → b ≡ false → (b || all) ≡ true → all ≡ true
     not_made true all none' h = cc
     not_made false all none' h = h

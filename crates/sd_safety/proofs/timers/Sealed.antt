@@ -1,20 +1,17 @@
 -- Since when a device is sealed: a device that was started, and took up no other duty since, is sealed since its start; one that was sealed since its entry
 -- is sealed since then. By induction on the steps.
-use Rattle.std.specs.Prelude.{◌≡◌, ℕ, ◌≤◌, Bool, true, false, ◌&&◌, List, [], ◌∷◌, nat_eq, Option, Some, None, is_some, option_map, refl, if◌then◌else◌}
-use Rattle.std.proofs.Common.{arith, sym, ◌∙◌, ap, subst}
-use Rattle.std.proofs.lemmas.Bool.{eq-eqb}
+use Rattle.std.specs.Prelude.{◌≡◌, ℕ, ◌≤◌, Bool, true, false, ◌&&◌, List, [], ◌∷◌, nat_eq, Option, Some, None, is_some, refl, if◌then◌else◌}
+use Rattle.std.proofs.Common.{arith, ◌∙◌, ap}
 use Rattle.sd_num.specs.Lists.{map_or}
-use Rattle.sd_device.specs.Calls.{Making, Call, Seal, CallDone, Past}
-use Rattle.sd_device.specs.Words.{transition_of, after, taken_up, takes_up, later_entry, is_seal, is_sealed}
+use Rattle.sd_device.specs.Calls.{Past}
+use Rattle.sd_device.specs.Words.{transition_of, taken_up, takes_up, is_seal, is_sealed}
 use Rattle.sd_sched.specs.Events.{reference_of}
 use Rattle.sd_history.specs.World.{Setting, latest_reference}
 use Rattle.sd_history.specs.Steps.{Act, Makes, Calls, Asks, Passes, Step, seen_of}
-use Rattle.sd_history.specs.Chronicle.{past_in, past_after, new_past}
+use Rattle.sd_history.specs.Chronicle.{past_in}
 use Rattle.sd_history.proofs.Given.{some_is}
-use Rattle.sd_safety.specs.timers.Times.{AreTimed, did_by, hears, seal_with, seal_after, reference_after, sealed_in, heard_in}
+use Rattle.sd_safety.specs.timers.Times.{AreTimed, did_by, seal_with, seal_after, sealed_in}
 use Rattle.sd_safety.specs.timers.Since.{enters_by, SameEntry, at_once, goes_on}
-use Rattle.sd_safety.specs.moves.Wanted.{IsSealedBy}
-use Rattle.sd_safety.proofs.timers.Periods.{reference_within}
 use Rattle.sd_safety.proofs.timers.Deadlines.{due_in}
 
 -- a seal is no later than the latest event
@@ -69,19 +66,6 @@ pub seal_stays : (d q : ℕ) (older steps : List Step) → SameEntry d older ste
 seal_stays d q older _ at_once same = same
 seal_stays d q older _ (goes_on {s = s} {steps = steps} none since) same =
     by_act s.act d (reference_of s.seen.event) q (past_in steps d) (sealed_in steps d) none (seal_stays d q older steps since same)
-
--- a device whose entry is its making is sealed since then, so no later than it heard
-no_entry : (t : Bool) (x : CallDone) (o : Option CallDone) → (if t then Some x else o) ≡ None → (t ≡ false) × (o ≡ None)
-no_entry true x o same = cc
-no_entry false x o same = (refl, same)
-
-abbrev Since : Option ℕ → ℕ → Type 0
-Since o h = (q : ℕ) × (o ≡ Some q) × (q ≤ h)
-
-start_made : (making : Making) (r h : ℕ) (p : Option Past) (o : Option ℕ) (b : Bool) → ((x : Past) → p ≡ Some x → later_entry x ≡ None → Since o h)
-    → (past : Past) → (if b then Some (new_past making) else p) ≡ Some past → later_entry past ≡ None → Since (if b then Some r else o) (if b then r else h)
-start_made making r h p o true each past same none = (r, refl, omega arith)
-start_made making r h p o false each past same none = each past same none
 
 -- a device is sealed where there is such a reference, and only there
 pub sealed_since : (setting : Setting) (steps : List Step) → AreTimed setting steps → (d : ℕ) (past : Past) → past_in steps d ≡ Some past

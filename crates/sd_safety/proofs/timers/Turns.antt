@@ -5,7 +5,7 @@ use Rattle.std.proofs.lemmas.Bool.{both_ways}
 use Rattle.sd_plan.specs.declared.Duty.{Duty}
 use Rattle.sd_plan.specs.declared.Edge.{Edge}
 use Rattle.sd_device.specs.Calls.{Call, Tick, Transition, Entered, Committed, Recommitted, Moved, TookOver, Emitted, Past}
-use Rattle.sd_device.specs.Words.{transition_of, after, has_moved, is_acting, is_sealed, emits_at, takes_over_at, moves_at}
+use Rattle.sd_device.specs.Words.{transition_of, after, has_moved, is_acting, emits_at, takes_over_at, moves_at}
 use Rattle.sd_device.proofs.Reached.{added}
 use Rattle.sd_safety.proofs.timers.Transitions.{Cases, by_case}
 
@@ -13,8 +13,6 @@ use Rattle.sd_safety.proofs.timers.Transitions.{Cases, by_case}
 pub record IsMove (past : Past) (call : Call) : Type 0 where
   pub counter : ℕ
   pub tick : call ≡ Tick counter
-  pub emits_not : emits_at past counter ≡ false
-  pub takes_not : takes_over_at past counter ≡ false
   pub moves : moves_at past counter ≡ true
 
 pub record IsTakeover (past : Past) (call : Call) : Type 0 where
@@ -32,7 +30,7 @@ move_cases past =
     record {
       emitted = λ c e is. cc;
       took = λ c e t is. cc;
-      moved = λ c e t m is. record { counter = c; tick = refl; emits_not = e; takes_not = t; moves = m };
+      moved = λ c e t m is. record { counter = c; tick = refl; moves = m };
       still = λ c e t m is. cc;
       entered = λ link message c duty edge is. cc;
       accepted = λ link message c edge is. cc;
@@ -118,11 +116,10 @@ began_to_act past call still acts =
 pub record Entering (past : Past) : Type 0 where
   pub unmoved : has_moved past ≡ false
   pub acts_not : is_acting past ≡ false
-  pub unsealed : is_sealed past ≡ false
 
 pub after_entering : (past : Past) (call : Call) (duty : Duty) (edge : Edge) → transition_of past call ≡ Entered duty edge → Entering (after past call)
 after_entering past call duty edge is =
-    subst (λ transition. Entering (added past call transition)) (sym is) (record { unmoved = refl; acts_not = refl; unsealed = refl })
+    subst (λ transition. Entering (added past call transition)) (sym is) (record { unmoved = refl; acts_not = refl })
 
 pub record Committing (past : Past) : Type 0 where
   pub unmoved : has_moved past ≡ false

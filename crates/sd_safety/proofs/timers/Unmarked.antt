@@ -1,6 +1,6 @@
 -- Since a device last heard it has kept its entry, where it does not act; so what it is now it was at each event since. And on its backup since it last heard
 -- or moved. By induction on the steps since.
-use Rattle.std.specs.Prelude.{◌≡◌, ℕ, ◌<◌, ◌≤◌, Bool, true, false, ◌&&◌, List, [], ◌∷◌, nat_eq, Option, Some, None, is_some, option_map, refl, if◌then◌else◌}
+use Rattle.std.specs.Prelude.{◌≡◌, ℕ, ◌<◌, ◌≤◌, Bool, true, false, ◌&&◌, List, ◌∷◌, nat_eq, Option, Some, None, is_some, option_map, refl, if◌then◌else◌}
 use Rattle.std.proofs.Common.{arith, sym, ◌∙◌, ap, subst}
 use Rattle.std.proofs.lemmas.Bool.{both_ways, false_from_ne_true}
 use Rattle.sd_num.specs.Lists.{map_or}
@@ -14,7 +14,7 @@ use Rattle.sd_history.specs.Chronicle.{new_past, past_in, past_after}
 use Rattle.sd_history.proofs.Given.{some_is}
 use Rattle.sd_safety.specs.messages.Moments.{Tail, whole, behind}
 use Rattle.sd_safety.specs.timers.Times.{AreTimed, did_by, hears, reference_after, reference_by}
-use Rattle.sd_safety.specs.timers.Since.{SameEntry, at_once, goes_on, enters_by, marks_by, Unmarked, no_step, one_step, LatestMark}
+use Rattle.sd_safety.specs.timers.Since.{SameEntry, at_once, goes_on, enters_by, marks_by, Unmarked, no_step, one_step}
 use Rattle.sd_safety.proofs.timers.Transitions.{Cases, by_case}
 use Rattle.sd_safety.proofs.timers.Pasts.{stays_acting}
 use Rattle.sd_safety.proofs.timers.OneWay.{was_on_primary, same_duty_since}
@@ -37,20 +37,6 @@ marked_now f (Calls m call) d r before p h = go (nat_eq m d) p h
     go false q h' = cc
 marked_now f (Asks m counter) d r before p h = cc
 marked_now f Passes d r before p h = cc
-
--- The latest mark
-
-had_past : (f : CallDone → Option ℕ) (act : Act) (d : ℕ) (p : Option Past) (past : Past) → marks_by f act d p ≡ false → past_after act d p ≡ Some past
-    → (old : Past) × (p ≡ Some old)
-had_past f (Makes m making) d p past none same = (past, sym (ap (λ b. if b then Some (new_past making) else p) none) ∙ same)
-had_past f (Calls m call) d p past none same = go (nat_eq m d) p same
-  where
-    go : (b : Bool) (q : Option Past) → (if b then option_map (λ x. after x call) q else q) ≡ Some past → (old : Past) × (q ≡ Some old)
-    go true None h = cc
-    go true (Some x) h = (x, refl)
-    go false q h = (past, h)
-had_past f (Asks m counter) d p past none same = (past, same)
-had_past f Passes d p past none same = (past, same)
 
 -- What comes after the latest mark is unmarked.
 
@@ -108,13 +94,6 @@ pub takes_nothing : (past : Past) (call : Call) → is_some (hears (did_by past 
 takes_nothing past call h acts =
     by_case past (λ c transition. is_some (hears (record { call = c; transition = transition })) ≡ false → is_acting (added past c transition) ≡ false
     → taken_up transition ≡ None) (keeps_or_acts past) call h acts
-
--- what the step before tells of the device
-record Step_before (d : ℕ) (s : Step) (steps : List Step) : Type 0 where
-  old : Past
-  there : past_in steps d ≡ Some old
-  acts_not : is_acting old ≡ false
-  same_entry : enters_by s.act d (past_in steps d) ≡ false
 
 acted_not : (past : Past) (call : Call) → taken_up (transition_of past call) ≡ None → is_acting (after past call) ≡ false → is_acting past ≡ false
 acted_not past call none still =

@@ -1,9 +1,8 @@
 -- Each wait of a device's duty, of whichever plan the duty is, has a Low of twice V at least; a plan that is staged is one of the plans; and
 -- what the tick premise says of a member that has not started.
-use Rattle.std.specs.Prelude.{◌≡◌, ℕ, ◌+◌, ◌-◌, ◌*◌, ◌<◌, ◌≤◌, Bool, true, false, ◌&&◌, ◌||◌, not, List, [], ◌∷◌, filter, length, cond, count_by, nat_eq, nat_le, Option, Some, None, is_some, option_map, refl, if◌then◌else◌}
-use Rattle.std.proofs.Common.{arith, sym, ◌∙◌, ap, subst}
+use Rattle.std.specs.Prelude.{◌≡◌, ℕ, ◌+◌, ◌-◌, ◌*◌, ◌<◌, ◌≤◌, Bool, true, false, ◌&&◌, ◌||◌, not, List, [], ◌∷◌, filter, length, nat_eq, nat_le, Option, Some, None, is_some, option_map, refl, if◌then◌else◌}
+use Rattle.std.proofs.Common.{arith, sym, ap, subst}
 use Rattle.std.proofs.lemmas.Bool.{and_parts, leb-true, leb-false}
-use Rattle.std.proofs.lemmas.List.Sums.{sum_by-cons}
 use Rattle.sd_num.specs.Lists.{map_or, below}
 use Rattle.sd_plan.specs.topo.Network.{Network, Each, least_low}
 use Rattle.sd_plan.specs.topo.Limits.{IsNetwork}

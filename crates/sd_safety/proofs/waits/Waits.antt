@@ -14,7 +14,7 @@ use Rattle.sd_plan.specs.Plans.{is_root, is_backup_root, is_member, backup_of, h
 use Rattle.sd_plan.specs.Duties.{duty_of, edge_of}
 use Rattle.sd_checker.specs.check_root.Timing.{round_gap}
 use Rattle.sd_device.specs.Calls.{Past}
-use Rattle.sd_device.specs.Words.{duty_now, has_moved, is_acting, is_backup_root_now, wait_to_move, moves_at, takes_over_at, emits_at, later_entry}
+use Rattle.sd_device.specs.Words.{duty_now, has_moved, is_acting, is_backup_root_now, wait_to_move, moves_at, takes_over_at}
 use Rattle.sd_sched.specs.declared.Event.{Event}
 use Rattle.sd_sched.specs.declared.Event.TheVariants as event
 use Rattle.sd_sched.specs.Events.{reference_of}
@@ -27,8 +27,7 @@ use Rattle.sd_safety.specs.invariant.Bounds.{first_up, first_low, second_up, sec
 use Rattle.sd_safety.specs.invariant.Eras.{plan_now, era, is_old, live_past, moved, on_primary, on_backup, silent_for, rests_for, heard_at, moved_at, sent_at}
 use Rattle.sd_safety.proofs.invariant.Parents.{IsOld, old_is, live_is}
 use Rattle.sd_safety.specs.timers.Times.{AreTimed, heard_in, moved_in, sent_in, sealed_in}
-use Rattle.sd_safety.specs.moves.Wanted.{IsSealedBy}
-use Rattle.sd_safety.proofs.timers.Histories.{Timely, timed, before, silence_ends, rest_ends, sends_soon, move_waits, takeover_waits, emission_waits_since}
+use Rattle.sd_safety.proofs.timers.Histories.{Timely, timed, before, silence_ends, rest_ends, sends_soon, move_waits, takeover_waits}
 use Rattle.sd_safety.proofs.waits.SameReferences.{heard_is, moved_is, sent_is}
 use Rattle.sd_safety.proofs.waits.LookingBack.{two_parts}
 use Rattle.sd_safety.proofs.windows.Leading.{stands_by}
@@ -233,11 +232,3 @@ module _ (setting : Setting) (r d c : ℕ) (history : List Event) (t : Timely se
       own : (past : Past) → past_in (chronicle setting history) d ≡ Some past
           → duty_now past ≡ Some (duty_of setting.net (plan_now setting (chronicle setting history)) (era (chronicle setting history)) d)
       own past there = ap duty_now (some_is (sym there ∙ tick_stands.there)) ∙ tick_stands.duty
-
-  -- and emits no sooner than Low of the period after it sent or began to act
-  pub root_emits : (past : Past) → past_in (chronicle setting history) d ≡ Some past → is_acting past ≡ true → emits_at past c ≡ true
-      → least_low setting.net setting.net.params.period ≤ r - sent_at (chronicle setting history) d
-  unfolding tick_timed
-  root_emits past there acts sends =
-      subst (λ h. least_low setting.net setting.net.params.period ≤ r - h) (sym (sent_is setting (chronicle setting history) tick_timed d))
-      (emission_waits_since setting r d c history past t there sends acts)

@@ -118,12 +118,6 @@ module _ (setting : Setting) (r d : ℕ) (history : List Event) (fair : AreGuard
   abbrev steps : List Step
   steps = chronicle setting history
 
-  abbrev now : List Step
-  now = chronicle setting (event.Seal r d ∷ history)
-
-  abbrev next : ℕ
-  next = staged_epoch (seen_of (chronicle setting history))
-
   tells : (has_commit (seen_of (chronicle setting history)) ≡ true)
       × ((x : ℕ) → Among x
       (filter (is_up (seen_of (chronicle setting history)))

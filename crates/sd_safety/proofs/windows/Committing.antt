@@ -146,9 +146,6 @@ module _ (setting : Setting) (r d c : ℕ) (history : List Event) (fair : AreGua
   abbrev steps : List Step
   steps = chronicle setting history
 
-  abbrev now : List Step
-  now = chronicle setting (event.Commit r d c ∷ history)
-
   abbrev s : Step
   s = next_step setting (chronicle setting history) (event.Commit r d c)
 
@@ -255,11 +252,6 @@ module _ (setting : Setting) (r d c : ℕ) (history : List Event) (fair : AreGua
         (is_counted setting (seen_of (chronicle setting (event.Commit r d c ∷ history))) x) refl
         (nat_eq x (staged_root setting (chronicle setting (event.Commit r d c ∷ history)))) refl
       where
-        if_false : (b a : Bool) → b ≡ false → a ≡ false → (if b then a else not a) ≡ true
-        if_false true a is none = cc
-        if_false false true is none = cc
-        if_false false false is none = refl
-
         go : (hc cn : Bool) → is_counted setting (seen_of (chronicle setting (event.Commit r d c ∷ history))) x ≡ cn → (b : Bool)
             → nat_eq x (staged_root setting (chronicle setting (event.Commit r d c ∷ history))) ≡ b
             → (not (hc && cn)

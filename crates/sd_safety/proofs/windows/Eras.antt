@@ -1,5 +1,5 @@
 -- How an event changes the number of the era, and the window: an event that closes no window leaves the era, and one that closes it counts on.
-use Rattle.std.specs.Prelude.{◌≡◌, ℕ, ◌+◌, true, false, ◌&&◌, ◌||◌, not, List, ◌∷◌, cond, count_by, nat_eq, refl}
+use Rattle.std.specs.Prelude.{◌≡◌, ℕ, ◌+◌, true, false, ◌&&◌, ◌||◌, not, List, ◌∷◌, cond, count_by, nat_eq}
 use Rattle.std.proofs.Common.{arith, ◌∙◌, ap}
 use Rattle.std.proofs.lemmas.Bool.{or_parts, not-false}
 use Rattle.std.proofs.lemmas.List.Sums.{sum_by-cons}

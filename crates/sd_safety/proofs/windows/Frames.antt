@@ -3,17 +3,15 @@
 use Rattle.std.specs.Prelude.{◌≡◌, ℕ, ◌+◌, Bool, true, false, ◌&&◌, ◌||◌, not, List, [], ◌∷◌, filter_map, Option, Some, None, is_some, option_map, option_and_then, refl, if◌then◌else◌}
 use Rattle.std.specs.List.{list_any, cons_option}
 use Rattle.std.proofs.Common.{◌∙◌, ap}
-use Rattle.std.proofs.lemmas.Bool.{or_from}
 use Rattle.sd_num.specs.Lists.{map_or, same_number, leading}
-use Rattle.sd_plan.specs.declared.topo.Thing.TheVariants as thing
-use Rattle.sd_device.specs.Calls.{CallDone, Past}
-use Rattle.sd_device.specs.Words.{after, transition_of, has_moved}
-use Rattle.sd_sched.specs.Events.{reference_of, is_stage}
+use Rattle.sd_device.specs.Calls.{Past}
+use Rattle.sd_device.specs.Words.{after, has_moved}
+use Rattle.sd_sched.specs.Events.{is_stage}
 use Rattle.sd_history.specs.Things.{failure_of}
-use Rattle.sd_history.specs.World.{Setting, Seen, makes, fails, up_after, is_up, window, in_window, staged, staged_epoch, plan_numbered}
+use Rattle.sd_history.specs.World.{Setting, Seen, up_after, is_up, window, in_window, staged, staged_epoch, plan_numbered}
 use Rattle.sd_history.specs.Steps.{Act, Makes, Calls, Asks, Passes, Step, seen_of, changed, live_answers, answers_in, acts_in, epoch_in, parent_in, given_in}
 use Rattle.sd_history.specs.Chronicle.{new_past, past_in, past_after}
-use Rattle.sd_safety.specs.invariant.Eras.{failed_now, live_past, moved, on_primary, did_by, does, latest_such}
+use Rattle.sd_safety.specs.invariant.Eras.{failed_now, live_past, moved, on_primary}
 use Rattle.sd_safety.proofs.windows.Eras.{era_kept}
 
 module _ (setting : Setting) (s : Step) (steps : List Step) (open_ : s.seen.closed ≡ false) where
@@ -101,26 +99,7 @@ module _ (s : Step) (steps : List Step) (x : ℕ) (left : IsLeft s x) where
   pub live_past_on : live_past (s ∷ steps) x ≡ live_past steps x
   live_past_on = ap (λ b. if b then past_in (s ∷ steps) x else None) up_on ∙ ap (λ p. if is_up (seen_of steps) x then p else None) past_on
 
-  pub moved_on : moved (s ∷ steps) x ≡ moved steps x
-  moved_on = ap (λ p. map_or p false has_moved) live_past_on
-
   pub primary_on : on_primary (s ∷ steps) x ≡ on_primary steps x
   primary_on =
       ap (λ p. is_some p && not (map_or p false has_moved) && not (acts_in (s ∷ steps) x)) live_past_on
       ∙ ap (λ b. is_some (live_past steps x) && not (moved steps x) && not b) acts_on
-
-  not_made : (m f : Bool) → (if m then Some true else if f then Some false else None) ≡ None → m ≡ false
-  not_made true f none = cc
-  not_made false f none = refl
-
-  did_none : (act : Act) → same_number (changed act) x ≡ false → (test : CallDone → Bool) → map_or (did_by steps act x) false test ≡ false
-  did_none (Calls e call) other test =
-      ap (λ b. map_or (if b then option_map (λ past. record { call = call; transition = transition_of past call }) (past_in steps x) else None) false test)
-      other
-  did_none _ other test = refl
-
-  pub latest_on : (test : CallDone → Bool) → latest_such test (s ∷ steps) x ≡ latest_such test steps x
-  latest_on test =
-      ap (λ b. if b then reference_of s.seen.event else latest_such test steps x)
-      (or_from (makes x s.seen.event) (does test steps s x) (not_made (makes x s.seen.event) (fails (thing.Device x) s.seen.event) left.stands)
-      (did_none s.act left.uncalled test))

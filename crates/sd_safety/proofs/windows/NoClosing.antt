@@ -87,9 +87,6 @@ closing setting n up settled w =
     nat_le 1 (length present) && list_all settled present)
 
 module _ (setting : Setting) (history : List Event) (e : Event) where
-  abbrev steps : List Step
-  steps = chronicle setting history
-
   -- the step before it is known whether the window closes
   abbrev pub begun : Step
   begun = first_step setting (chronicle setting history) e (told_by (chronicle setting history) (act_by setting (chronicle setting history) e))

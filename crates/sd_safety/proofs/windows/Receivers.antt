@@ -9,13 +9,13 @@ use Rattle.sd_plan.specs.Plans.{is_member}
 use Rattle.sd_device.specs.declared.msg.Flight.{Flight}
 use Rattle.sd_device.specs.declared.msg.Message.{Message}
 use Rattle.sd_device.specs.Calls as calls
-use Rattle.sd_device.specs.Calls.{Call, Past}
+use Rattle.sd_device.specs.Calls.{Past}
 use Rattle.sd_device.specs.Words.{after, transition_of, taken_up, duty_now, given_now, epoch_now}
 use Rattle.sd_sched.specs.declared.Event.{Event}
 use Rattle.sd_sched.specs.declared.Event.TheVariants as event
 use Rattle.sd_sched.specs.Events.{is_commit}
 use Rattle.sd_history.specs.World.{Setting, is_up, has_commit, staged_epoch}
-use Rattle.sd_history.specs.Steps.{Calls, Passes, Step, Answers, seen_of, flight_numbered, live_answers, given_in}
+use Rattle.sd_history.specs.Steps.{Calls, Passes, Answers, seen_of, flight_numbered, live_answers, given_in}
 use Rattle.sd_history.specs.Chronicle.{answers_by, past_in, past_after, next_step, chronicle}
 use Rattle.sd_history.proofs.Given.{takes_given}
 use Rattle.sd_safety.specs.invariant.Eras.{era, will_belong, is_old, is_new, is_blank}
@@ -87,9 +87,6 @@ receipt_keeps_entering setting r d c k history clean x before =
     gives (has_commit (seen_of (chronicle setting (event.Recv r d c k ∷ history))) && will_belong setting (chronicle setting (event.Recv r d c k ∷ history)) x)
     _ shown
   where
-    s : Step
-    s = next_step setting (chronicle setting history) (event.Recv r d c k)
-
     shut : (next_step setting (chronicle setting history) (event.Recv r d c k)).seen.closed ≡ false
     shut = receipt_closes_none setting history r d c k
 

@@ -44,9 +44,6 @@ use Rattle.sd_safety.proofs.windows.Entering.{flights_lead, one_parent, enters_s
 module _ (setting : Setting) (r d c n : ℕ) (history : List Event) (fair : AreGuarded setting) (clean : IsSteady setting (event.Recv r d c n ∷ history))
     (before : (x : ℕ) → is_new (chronicle setting history) x ≡ true → is_root (staged_plan setting (chronicle setting history)) x ≡ false
     → IsLinked (chronicle setting history) x) where
-  abbrev e : Event
-  e = event.Recv r d c n
-
   open_ : (next_step setting (chronicle setting history) (event.Recv r d c n)).seen.closed ≡ false
   open_ = receipt_closes_none setting history r d c n
 

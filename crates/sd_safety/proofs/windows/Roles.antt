@@ -47,9 +47,6 @@ receipt_keeps_committer setting r d c k history clean before = gives (has_commit
         ∙ ap (λ (plan : Plan). list_any (same_thing (thing.Device plan.root)) (failed_now (chronicle setting history)))
         (plan_kept setting (next_step setting (chronicle setting history) (event.Recv r d c k)) (chronicle setting history) shut)
 
-    due : Bool → Plan → ℕ
-    due b plan = if b then plan.backup_root else plan.root
-
     shown : has_commit (seen_of (chronicle setting (event.Recv r d c k ∷ history))) ≡ true
         → (nat_eq (staged_root setting (chronicle setting (event.Recv r d c k ∷ history)))
         (if root_failed setting

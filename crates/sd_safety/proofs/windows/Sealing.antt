@@ -3,7 +3,7 @@ use Rattle.std.specs.Prelude.{◌≡◌, ℕ, Bool, true, false, ◌&&◌, not, 
 use Rattle.std.proofs.Common.{◌∙◌, ap, sym}
 use Rattle.sd_num.specs.Lists.{map_or}
 use Rattle.sd_device.specs.Calls as calls
-use Rattle.sd_device.specs.Calls.{CallDone, Past}
+use Rattle.sd_device.specs.Calls.{Past}
 use Rattle.sd_device.specs.Words.{after, has_moved}
 use Rattle.sd_sched.specs.declared.Event.{Event}
 use Rattle.sd_sched.specs.declared.Event.TheVariants as event

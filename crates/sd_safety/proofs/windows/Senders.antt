@@ -11,7 +11,7 @@ use Rattle.sd_plan.specs.Duties.{duty_of}
 use Rattle.sd_history.specs.Admitted.{Admits}
 use Rattle.sd_device.specs.declared.msg.Flight.{Flight}
 use Rattle.sd_device.specs.Calls as calls
-use Rattle.sd_device.specs.Calls.{Making, Call, Past}
+use Rattle.sd_device.specs.Calls.{Call, Past}
 use Rattle.sd_device.specs.Words.{after, transition_of, taken_up, duty_now, epoch_now}
 use Rattle.sd_sched.specs.declared.Event.{Event}
 use Rattle.sd_sched.specs.declared.Event.TheVariants as event
@@ -183,9 +183,6 @@ senders_new setting (e ∷ history) clean f among epoch =
     by (next_step setting (chronicle setting history) e).seen.closed refl
     (λ here same. senders_new setting history (clean_before setting e history clean) f here same)
   where
-    s : Step
-    s = next_step setting (chronicle setting history) e
-
     by : (c : Bool) → (next_step setting (chronicle setting history) e).seen.closed ≡ c
         → (Among f (flights (chronicle setting history)) → f.message.epoch ≡ staged_epoch (seen_of (chronicle setting history))
         → is_new (chronicle setting history) f.sender ≡ true)

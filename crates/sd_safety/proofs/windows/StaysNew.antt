@@ -9,7 +9,7 @@ use Rattle.sd_plan.specs.declared.Plan.{Plan}
 use Rattle.sd_plan.specs.Duties.{duty_of}
 use Rattle.sd_device.specs.declared.msg.Flight.{Flight}
 use Rattle.sd_device.specs.Calls as calls
-use Rattle.sd_device.specs.Calls.{Making, Call, CallDone, Past}
+use Rattle.sd_device.specs.Calls.{Call, CallDone, Past}
 use Rattle.sd_device.specs.Words.{after, transition_of, taken_up, takes_up, duty_now, given_now, duty_given, epoch_now}
 use Rattle.sd_sched.specs.declared.Event.{Event}
 use Rattle.sd_sched.specs.declared.Event.TheVariants as event

@@ -7,8 +7,8 @@ use Rattle.sd_device.specs.Calls.{Transition, Nothing, Emitted, TookOver, Moved}
 use Rattle.sd_device.specs.Words.{transition_of}
 use Rattle.sd_sched.specs.declared.Event.{Event}
 use Rattle.sd_sched.specs.declared.Event.TheVariants as event
-use Rattle.sd_history.specs.World.{Setting, window_is_open}
-use Rattle.sd_history.specs.Steps.{Step, seen_of}
+use Rattle.sd_history.specs.World.{Setting}
+use Rattle.sd_history.specs.Steps.{Step}
 use Rattle.sd_history.specs.Chronicle.{past_in, chronicle}
 use Rattle.sd_history.specs.Lines.{first_on_loop, roots}
 use Rattle.sd_safety.specs.invariant.Invariant.{Core, Invariant, AtEach}
@@ -75,12 +75,6 @@ abbrev pub InvariantIsSafe : Setting → Type 0
 InvariantIsSafe setting =
     (e : Event) (history : List Event) → AreGuarded setting → IsSteady setting (e ∷ history) → Invariant setting (chronicle setting (e ∷ history))
     → IsSafe setting (chronicle setting (e ∷ history))
-
--- Safe phase: no window was opened, or none since a closing.
-abbrev pub SafePhase : Setting → Type 0
-SafePhase setting =
-    (history : List Event) → AreGuarded setting → IsSteady setting history → window_is_open (seen_of (chronicle setting history)) ≡ false
-    → IsSafe setting (chronicle setting history)
 
 -- at all times, renewals among them, in a history of any length: under plans that meet five conditions, while the premises but start hold
 abbrev pub AlwaysSafe : Setting → Type 0

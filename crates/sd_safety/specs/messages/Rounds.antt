@@ -1,5 +1,5 @@
 -- Rounds that everyone hears: a way that is open to a round, and that the round went along it.
-use Rattle.std.specs.Prelude.{◌≡◌, ℕ, ◌+◌, ◌<◌, ◌≤◌, Bool, true, false, List, [], ◌∷◌, length, Some, ◌⊎◌}
+use Rattle.std.specs.Prelude.{◌≡◌, ℕ, ◌+◌, ◌<◌, ◌≤◌, true, false, List, [], ◌∷◌, length, Some, ◌⊎◌}
 use Rattle.sd_plan.specs.declared.topo.Thing.TheVariants as thing
 use Rattle.sd_plan.specs.topo.Network.{least_low}
 use Rattle.sd_plan.specs.declared.Edge.{Edge}
@@ -10,7 +10,7 @@ use Rattle.sd_device.specs.declared.msg.Stamp.{Stamp}
 use Rattle.sd_device.specs.declared.msg.Message.{Message}
 use Rattle.sd_device.specs.Calls.{Call, Receive, Past}
 use Rattle.sd_device.specs.Words.{transition_of, accepted_over, epoch_now, given_now, parent_edge}
-use Rattle.sd_history.specs.World.{Setting, Seen, fails, is_up, link_has_failed, latest_reference, epoch_in_force, staged_epoch, window_is_open, plan_numbered}
+use Rattle.sd_history.specs.World.{Setting, fails, is_up, link_has_failed, latest_reference, plan_numbered}
 use Rattle.sd_history.specs.Steps.{Step, Calls, seen_of, ends_at}
 use Rattle.sd_history.specs.Chronicle.{past_in}
 use Rattle.sd_history.proofs.Among.{Among}
@@ -109,17 +109,6 @@ pub record IsWhole (setting : Setting) (steps : List Step) (epoch : ℕ) (start 
       × (fails (thing.Link e.link) q.step.seen.event ≡ false)
   pub ready : (q : Moment) → IsIn q steps → IsBefore start q → when q ≤ limit → (past : Past) → past_in q.earlier e.device ≡ Some past
       → IsReady past epoch e.link
-
--- the hops of a way from x are whole
-abbrev pub AreWhole : Setting → List Step → ℕ → Moment → ℕ → ℕ → ℕ → List End → Type 0
-AreWhole setting steps epoch start limit source x [] = Unit {0}
-AreWhole setting steps epoch start limit source x (e ∷ way) =
-    IsWhole setting steps epoch start limit source x e × AreWhole setting steps epoch start limit source e.device way
-
--- the epoch is that of the plan in force, or of the staged one, whenever somebody sends from the first moment to the limit
-abbrev pub IsCurrent : Setting → List Step → ℕ → Moment → ℕ → Type 0
-IsCurrent setting steps epoch start limit = (q : Moment) → IsIn q steps → IsIn start (upto q) → when q ≤ limit
-    → (epoch ≡ epoch_in_force (seen_of q.earlier)) ⊎ (epoch ≡ staged_epoch (seen_of q.earlier)) × (window_is_open (seen_of q.earlier) ≡ true)
 
 -- between the two moments the device is not made anew, and no entering receipt of it comes
 abbrev pub IsUnbroken : Moment → Moment → ℕ → Type 0

@@ -1,12 +1,10 @@
 -- Earlier states in a list of steps: its tails, the tails since a device's entry, and a tick in a span of references.
-use Rattle.std.specs.Prelude.{◌≡◌, ℕ, ◌<◌, ◌≤◌, Bool, true, false, ◌&&◌, List, ◌∷◌, nat_eq, Option, Some, is_some}
-use Rattle.sd_num.specs.Lists.{map_or, same_number}
+use Rattle.std.specs.Prelude.{◌≡◌, ℕ, Bool, false, ◌&&◌, List, ◌∷◌, nat_eq, Option, Some, is_some}
+use Rattle.sd_num.specs.Lists.{map_or}
 use Rattle.sd_device.specs.Calls.{Call, CallDone, Past}
 use Rattle.sd_device.specs.Words.{transition_of, taken_up}
-use Rattle.sd_sched.specs.Events.{reference_of, ticked}
 use Rattle.sd_history.specs.Steps.{Act, Makes, Calls, Asks, Passes, Step}
 use Rattle.sd_history.specs.Chronicle.{past_in}
-use Rattle.sd_safety.specs.messages.Moments.{Tail}
 use Rattle.sd_safety.specs.timers.Times.{did_by}
 
 -- the act makes the device, or has it take up a duty
@@ -20,15 +18,6 @@ enters_by Passes d past = false
 pub data SameEntry (d : ℕ) (older : List Step) : List Step → Type 0 where
   at_once : SameEntry d older older
   goes_on : {s : Step} {steps : List Step} → enters_by s.act d (past_in steps d) ≡ false → SameEntry d older steps → SameEntry d older (s ∷ steps)
-
--- the device ticked after the reference x, and not after y
-pub record TicksWithin (steps : List Step) (d x y : ℕ) : Type 0 where
-  pub tick : Step
-  pub older : List Step
-  pub tail : Tail (tick ∷ older) steps
-  pub ticks : same_number (ticked tick.seen.event) d ≡ true
-  pub after : x < reference_of tick.seen.event
-  pub by : reference_of tick.seen.event ≤ y
 
 -- at this step the device was called, and f tells something of it
 pub record IsMarked (f : CallDone → Option ℕ) (s : Step) (earlier : List Step) (d : ℕ) : Type 0 where
@@ -50,11 +39,3 @@ marks_by f Passes d past = false
 pub data Unmarked (f : CallDone → Option ℕ) (d : ℕ) (older : List Step) : List Step → Type 0 where
   no_step : Unmarked f d older older
   one_step : {s : Step} {steps : List Step} → marks_by f s.act d (past_in steps d) ≡ false → Unmarked f d older steps → Unmarked f d older (s ∷ steps)
-
--- the step that made the device, or at which f told something of its call, the latest
-pub record LatestMark (f : CallDone → Option ℕ) (steps : List Step) (d reference : ℕ) : Type 0 where
-  pub step : Step
-  pub older : List Step
-  pub since : Unmarked f d (step ∷ older) steps
-  pub marks : marks_by f step.act d (past_in older d) ≡ true
-  pub at : reference_of step.seen.event ≡ reference

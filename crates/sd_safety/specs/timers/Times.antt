@@ -1,16 +1,16 @@
 -- The references at which a device was made, ticked, heard, moved, sent and was sealed, in a list of steps: its words on counters (heard,
 -- moved_at, sent_at) seen from outside. And what each step of a history of honest clocks owes the steps before it.
-use Rattle.std.specs.Prelude.{◌≡◌, ℕ, ◌≤◌, Bool, true, false, ◌&&◌, ◌||◌, not, List, [], ◌∷◌, nat_eq, nat_le, Option, Some, None, is_some, option_and_then, if◌then◌else◌}
+use Rattle.std.specs.Prelude.{◌≡◌, ℕ, ◌≤◌, Bool, true, false, ◌&&◌, List, [], ◌∷◌, nat_eq, Option, Some, None, is_some, option_and_then, if◌then◌else◌}
 use Rattle.sd_num.specs.Lists.{map_or, same_number}
 use Rattle.sd_plan.specs.declared.Duty.{Duty}
 use Rattle.sd_device.specs.Calls.{Call, Tick, CallDone, Past}
 use Rattle.sd_device.specs.Words.{transition_of, accepted_over, is_move, emits, takes_up, is_seal, making_counter, first_duty, duty_given, counter_of as counter_of_call}
 use Rattle.sd_sched.specs.declared.Event.{Event}
 use Rattle.sd_sched.specs.Events.{reference_of, device_of, counter_of, ticked}
-use Rattle.sd_history.specs.World.{Setting, Seen, makes, is_up, latest_reference}
+use Rattle.sd_history.specs.World.{Setting, makes, latest_reference}
 use Rattle.sd_history.specs.Steps.{Act, Makes, Calls, Asks, Passes, Step, seen_of}
 use Rattle.sd_history.specs.Chronicle.{past_in}
-use Rattle.sd_history.specs.Premises.{reads_honestly, at_each, is_current_member}
+use Rattle.sd_history.specs.Premises.{reads_honestly}
 
 -- a call with what it did
 abbrev pub did_by : Past → Call → CallDone
@@ -118,8 +118,3 @@ pub record IsTimed (setting : Setting) (s : Step) (earlier : List Step) : Type 0
 abbrev pub AreTimed : Setting → List Step → Type 0
 AreTimed setting [] = Unit {0}
 AreTimed setting (s ∷ earlier) = AreTimed setting earlier × IsTimed setting s earlier
-
--- after this reference the device is up, a member of the plan in force or of the staged one, and not made anew, with the state before each event
-abbrev pub stays_after : Setting → ℕ → ℕ → List Seen → Bool
-stays_after setting x d seen =
-    at_each (λ s earlier. nat_le (reference_of s.event) x || (is_up earlier d && is_current_member setting earlier d && not (makes d s.event))) seen

@@ -1,5 +1,5 @@
 -- The window can close by what is kept exactly where it can by the words on histories.
-use Rattle.std.specs.Prelude.{◌≡◌, ℕ, ◌<◌, Bool, true, false, ◌&&◌, List, [], ◌∷◌, length, filter, nat_eq, nat_le, Option, Some, None, is_some, option_map, refl}
+use Rattle.std.specs.Prelude.{◌≡◌, ℕ, ◌<◌, Bool, true, false, ◌&&◌, List, length, filter, nat_eq, nat_le, Option, Some, None, is_some, option_map, refl}
 use Rattle.std.specs.List.{list_all, list_any}
 use Rattle.std.proofs.Common.{sym, ◌∙◌, ap}
 use Rattle.sd_num.specs.Lists.{map_or, below}

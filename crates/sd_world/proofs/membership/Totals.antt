@@ -1,14 +1,14 @@
 -- The settled_count: of devices one after the other, of one of them, and when all have settled.
-use Rattle.std.specs.Prelude.{◌≡◌, ℕ, suc, ◌+◌, ◌<◌, ◌≤◌, ◌^◌, Bool, true, false, ◌&&◌, length, filter, count_by, cond, nat_eq, nat_le, Option, Some, None, IfSome, refl}
+use Rattle.std.specs.Prelude.{◌≡◌, ℕ, ◌+◌, ◌<◌, ◌≤◌, ◌^◌, Bool, true, false, ◌&&◌, length, filter, count_by, cond, nat_eq, nat_le, Option, Some, None, IfSome, refl}
 use Rattle.std.specs.List.{list_all}
-use Rattle.std.proofs.Common.{ap, ◌∙◌, sym, subst, arith, add-one}
+use Rattle.std.proofs.Common.{ap, ◌∙◌, sym, subst, arith}
 use Rattle.std.proofs.lemmas.List.Sums.{length-filter}
 use Rattle.sd_num.specs.Lists.{below}
 use Rattle.sd_world.specs.world.Registers.{is_committed}
 use Rattle.sd_world.specs.declared.membership.settled_count.SettledCount.{SettledCount}
 use Rattle.sd_world.specs.membership.Memberships.{Registers, IsSound, is_present, has_settled_at, can_close_in}
 use Rattle.sd_world.specs.membership.Counts.{add_counts, is_settled, count_at, count_named, count_below, settled_count_of}
-use Rattle.sd_world.proofs.membership.Counting.{count_more, one_of_all, count_bound, all_pass}
+use Rattle.sd_world.proofs.membership.Counting.{one_of_all, count_bound, all_pass}
 
 abbrev counts : ℕ → ℕ → SettledCount
 counts present settled = record { present = present; settled = settled }

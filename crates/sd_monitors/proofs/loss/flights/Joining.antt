@@ -41,10 +41,6 @@ pub looked_on : (ends : ℕ → Option ℕ) (round : ℕ) (found : Option ℕ) �
 looked_on ends round None runs absent is = stops ends round (ap is_some is)
 looked_on ends round (Some last) runs absent is = reaches_on ends round last runs absent is
 
--- there is no round before the first number
-pub none_before : (ends : ℕ → Option ℕ) (round : ℕ) → round < 1 → ReachesBack ends round round
-none_before ends round zero = begins ends round (λ p next. absurd (omega (arith, zero, next)))
-
 -- nor one after the greatest
 pub none_after : (ends : ℕ → Option ℕ) (round : ℕ) → AreRuns ends → 2 ^ 64 ≤ round + 1 → ReachesOn ends round round
 none_after ends round runs great = stops ends round (past (is_some (ends (round + 1))) refl)
@@ -286,18 +282,3 @@ module _ (old one two new : ℕ → ℕ → Option ℕ) (term round first last :
       by_term : (term ≡ t) ⊎ (term ≡ t → ⊥) → AreRuns (new t)
       by_term (inl same) = subst (λ (n : ℕ). AreRuns (new n)) same (joined_runs (old term) (new term) round first last (added back on) small (runs term))
       by_term (inr other) = same_runs (old t) (new t) (elsewhere t other) (runs t)
-
-  pub added_rounds : ReachesBack (old term) round first → ReachesOn (old term) round last → (t r : ℕ)
-      → is_some (new t r) ≡ (is_some (old t r) || (nat_eq term t && nat_eq round r))
-  added_rounds back on t r = by_term (cases_eq term t)
-    where
-      or_nothing : (b : Bool) → b ≡ (b || false)
-      or_nothing true = refl
-      or_nothing false = refl
-
-      here : is_some (new term r) ≡ (is_some (old term r) || (nat_eq term term && nat_eq round r))
-      here = rw (eq-eqb term term refl) ((added back on).rounds r)
-
-      by_term : (term ≡ t) ⊎ (term ≡ t → ⊥) → is_some (new t r) ≡ (is_some (old t r) || (nat_eq term t && nat_eq round r))
-      by_term (inl same) = subst (λ (n : ℕ). is_some (new n r) ≡ (is_some (old n r) || (nat_eq term n && nat_eq round r))) same here
-      by_term (inr other) = rw (ne_eqb term t other) (ap is_some (elsewhere t other r) ∙ or_nothing (is_some (old t r)))

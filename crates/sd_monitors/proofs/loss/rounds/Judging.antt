@@ -1,12 +1,12 @@
 -- The flights that are overdue are judged one after the other.
-use Rattle.std.proofs.Common.{◌≡◌, ℕ, ◌<◌, ◌≤◌, Bool, true, false, cond, ◌||◌, Option, Some, None, nat_eq, ◌⊎◌, inl, inr, refl, sym, ◌∙◌, ap, subst, arith}
-use Rattle.std.proofs.lemmas.Bool.{cases_eq, eq-eqb, ne_eqb, or_left, or_right, or_cases, both_ways, le-leb, lt-leb, and_from}
+use Rattle.std.proofs.Common.{◌≡◌, ℕ, ◌<◌, Bool, true, false, cond, ◌||◌, Option, Some, None, nat_eq, ◌⊎◌, inl, inr, refl, sym, ◌∙◌, subst}
+use Rattle.std.proofs.lemmas.Bool.{cases_eq, eq-eqb, ne_eqb, or_left, or_right, or_cases, both_ways, and_from}
 use Rattle.std.proofs.lemmas.Option.{same_Some, none-some}
 use Rattle.sd_plan.specs.declared.topo.Thing.{Thing}
 use Rattle.sd_monitors.specs.declared.loss.flights.WaitingFlight.{WaitingFlight}
 use Rattle.sd_history.specs.Premises.{is_round}
 use Rattle.sd_monitors.specs.loss.flights.Interrupted.{is_interrupted}
-use Rattle.sd_monitors.specs.loss.rounds.Loss.{IsLost, HasOnlyLost, AddsLost, if_in_time}
+use Rattle.sd_monitors.specs.loss.rounds.Loss.{IsLost, HasOnlyLost}
 
 -- some of the overdue flights are gone, and the rounds of those that were not interrupted are added
 pub record JudgesSome (was now : ℕ → Option WaitingFlight) (marks : Thing → ℕ) (reference : ℕ) (old new : ℕ → ℕ → Bool) : Type 0 where
@@ -100,31 +100,3 @@ module _ (was now next : ℕ → Option WaitingFlight) (marks : Thing → ℕ) (
           → (old t r ≡ true) ⊎ ((g : WaitingFlight) × IsLost was marks reference g × (is_round g.stamp t r ≡ true))
       by_round t r (inl before) = h.only t r before
       by_round t r (inr this) = inr (f, lost_one, this)
-
-module _ (was now : ℕ → Option WaitingFlight) (marks : Thing → ℕ) (reference : ℕ) (old new : ℕ → ℕ → Bool) (h : JudgesSome was now marks reference old new)
-    (late : (n : ℕ) (f : WaitingFlight) → now n ≡ Some f → reference ≤ f.due) where
-  -- where none is overdue any more, those wait whose due is not past
-  pub in_time_left : (n : ℕ) → now n ≡ if_in_time reference (was n)
-  in_time_left n = by_cases (was n) (now n) refl refl
-    where
-      by_gone : (f : WaitingFlight) (o : Option WaitingFlight) → was n ≡ Some f → now n ≡ o → (now n ≡ Some f) ⊎ (f.due < reference) → o ≡ if_in_time reference (Some f)
-      by_gone f o before after (inl at) = rw (le-leb reference f.due (late n f at)) (sym after ∙ at)
-      by_gone f None before after (inr past) = rw (lt-leb reference f.due past) refl
-      by_gone f (Some g) before after (inr past) =
-          let same : g ≡ f = same_Some g f (sym (h.left n g after) ∙ before) in
-          let due : reference ≤ g.due = late n g after in
-          let equal : g.due ≡ f.due = ap (λ (k : WaitingFlight). k.due) same in
-          absurd (omega (arith, past, due, equal))
-
-      by_cases : (p o : Option WaitingFlight) → was n ≡ p → now n ≡ o → now n ≡ if_in_time reference (was n)
-      by_cases None None before after = after ∙ sym (ap (if_in_time reference) before)
-      by_cases None (Some g) before after = absurd (none-some g (sym before ∙ h.left n g after))
-      by_cases (Some f) o before after = after ∙ by_gone f o before after (h.gone n f before) ∙ sym (ap (if_in_time reference) before)
-
-  pub all_lost : AddsLost was marks reference old new
-  all_lost = record { kept = h.kept; added = λ f lost. by_added f lost (h.added f lost) }
-    where
-      by_added : (f : WaitingFlight) → IsLost was marks reference f → (new f.stamp.term f.stamp.round ≡ true) ⊎ (now f.number ≡ Some f)
-          → new f.stamp.term f.stamp.round ≡ true
-      by_added f lost (inl there) = there
-      by_added f lost (inr at) = let due : reference ≤ f.due = late f.number f at in absurd (omega (arith, due, lost.overdue))

@@ -1,4 +1,4 @@
-use Rattle.std.proofs.Common.{IfSome, subst, sym, ap, ◌∙◌, arith}
+use Rattle.std.proofs.Common.{IfSome, subst, sym, ◌∙◌, arith}
 use Rattle.std.proofs.lemmas.Bool.{ne_eqb}
 use Rattle.sd_plan.specs.topo.Topologies.{network}
 use Rattle.sd_plan.specs.Plans.{IsHop}

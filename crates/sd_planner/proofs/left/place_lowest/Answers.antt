@@ -1,4 +1,4 @@
-use Rattle.std.proofs.Common.{◌≡◌, ◌<◌, ◌||◌, ◌&&◌, not, length, All, refl, sym, ap, ◌∙◌, subst}
+use Rattle.std.proofs.Common.{◌<◌, ◌||◌, ◌&&◌, not, All, refl, sym, ap, ◌∙◌, subst}
 use Rattle.sd_num.specs.Lists.{has}
 use Rattle.sd_planner.specs.declared.present.Neighbour.{Neighbour}
 use Rattle.sd_planner.specs.Views.{net_of, left_out}

@@ -1,4 +1,4 @@
-use Rattle.std.proofs.Common.{◌≡◌, true, false, not, List, [], length, Result, Ok, Err, IfOk, if◌then◌else◌, refl, sym, ap, ◌∙◌, subst, ℕ}
+use Rattle.std.proofs.Common.{◌≡◌, true, false, List, [], length, Result, Ok, Err, IfOk, if◌then◌else◌, sym, ap, ◌∙◌, subst, ℕ}
 use Rattle.sd_planner.specs.declared.placement.Placed.{Placed}
 use Rattle.sd_planner.specs.Placements.{Placements}
 use Rattle.sd_planner.specs.Usable.{takes_part}

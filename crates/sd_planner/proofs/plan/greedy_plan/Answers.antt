@@ -1,9 +1,8 @@
-use Rattle.std.proofs.Common.{◌≡◌, ◌<◌, length, refl, ap, ◌∙◌, subst, sym}
+use Rattle.std.proofs.Common.{◌<◌, length, refl, ap, ◌∙◌, subst, sym}
 use Rattle.sd_plan.specs.topo.Network.{Network}
 use Rattle.sd_plan.specs.topo.Topologies.{network}
-use Rattle.sd_plan.specs.declared.Absent.{Absent}
 use Rattle.sd_planner.specs.Absences.{IsAbsentOf}
-use Rattle.sd_planner.specs.Views.{net_of, left_out}
+use Rattle.sd_planner.specs.Views.{left_out}
 use Rattle.sd_planner.specs.Placing.{backup_root_of}
 use Rattle.sd_plan.specs.Plans.{IsRow}
 use Rattle.sd_plan.specs.topo.Network.{Each}

@@ -1,4 +1,4 @@
-use Rattle.std.proofs.Common.{◌≡◌, ◌<◌, ◌++◌, ℕ, List, false, length, drop, OnOk, slice_index_or, ap, ◌∙◌, sym, subst}
+use Rattle.std.proofs.Common.{◌≡◌, ◌<◌, ◌++◌, ℕ, List, false, length, drop, OnOk, slice_index_or, ◌∙◌, sym, subst}
 use Rattle.std.proofs.lemmas.Bool.{both_ways, false_from_ne_true}
 use Rattle.sd_planner.specs.Usable.{neighbours_of}
 use Rattle.sd_planner.specs.Views.{net_of, left_out}

@@ -1,4 +1,4 @@
-use Rattle.std.proofs.Common.{ℕ, not, Option, Some, option_map, ap, sym, arith, ◌∙◌, length}
+use Rattle.std.proofs.Common.{ℕ, not, option_map, ap, sym, arith, length}
 use Rattle.sd_plan.specs.topo.Topologies.{network}
 use Rattle.sd_plan.specs.Rules.{keeps, number_of}
 use Rattle.sd_num.proofs.Firsts.{find_below_here, find_below_more}

@@ -1,4 +1,4 @@
-use Rattle.std.proofs.Common.{◌≡◌, map, not, length, ap, ◌∙◌, arith}
+use Rattle.std.proofs.Common.{map, not, length, ap, ◌∙◌, arith}
 use Rattle.sd_num.specs.Lists.{below, has}
 use Rattle.sd_plan.specs.topo.Topologies.{network}
 use Rattle.sd_plan.proofs.Numbered.{length-numbered}

@@ -6,7 +6,6 @@ use Rattle.sd_device.proofs.msg.Filters.{filter_again}
 use Rattle.sd_device.proofs.msg.Growing.{grown}
 use Rattle.sd_device.proofs.msg.Books.{seen_numbered}
 use Rattle.sd_device.proofs.msg.book.FlightBook.ready.Goals as goal
-use Rattle.sd_device.proofs.msg.book.FlightBook.ready.Goals.{in-Ok, in-Err}
 
 pub returns-then-count-room-clause-given : goal.returns-then-count-room-clause-given
 returns-then-count-room-clause-given c =

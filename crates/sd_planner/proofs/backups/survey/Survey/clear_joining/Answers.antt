@@ -1,6 +1,6 @@
 use Rattle.std.proofs.Common.{◌≡◌, true, false, subst, arith}
 use Rattle.sd_num.specs.Lists.{has}
-use Rattle.sd_planner.specs.Surveys.{net_in, absent_in}
+use Rattle.sd_planner.specs.Surveys.{net_in}
 use Rattle.sd_planner.specs.Flags.{AreSet}
 use Rattle.sd_planner.proofs.Joining.{links_within, devices_within, joining_cleared}
 use Rattle.sd_planner.proofs.backups.survey.Survey.clear_joining.Goals as goal

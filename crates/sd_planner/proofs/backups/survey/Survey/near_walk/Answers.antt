@@ -1,4 +1,3 @@
-use Rattle.std.proofs.Common.{length}
 use Rattle.sd_planner.specs.Climbs.{way_up}
 use Rattle.sd_planner.specs.Surveys.{net_in, absent_in, order_of}
 use Rattle.sd_planner.proofs.Near.{near_is}

@@ -1,5 +1,5 @@
 -- A loop that was not there before leads through the device that follows another one.
-use Rattle.std.proofs.Common.{List, Option, ℕ, subst, sym, MatchOption}
+use Rattle.std.proofs.Common.{List, Option, ℕ, subst, MatchOption}
 use Rattle.sd_replay.specs.watch.Watch.{parent_in, HasNoLoop, IsFirstOnLoop}
 use Rattle.sd_replay.proofs.watch.parent_table.Changing.{still_none}
 use Rattle.sd_replay.proofs.watch.parent_table.ParentTable.follow.Goals as goal

@@ -1,5 +1,5 @@
 -- Where nobody follows or acts, there is no loop and no root.
-use Rattle.std.proofs.Common.{List, Option, ℕ, Bool, ◌≡◌, ◌<◌, ◌^◌, None, length, replicate, arith, subst, sym, ap, ◌∙◌}
+use Rattle.std.proofs.Common.{List, Option, ℕ, Bool, length, arith, subst, sym, ap, ◌∙◌}
 use Rattle.std.proofs.lemmas.List.{length-replicate}
 use Rattle.sd_replay.specs.watch.Watch.{parent_in, HasNoLoop, acting_devices, two_least}
 use Rattle.sd_replay.proofs.watch.parent_table.Changing.{none_follow, none_act}
