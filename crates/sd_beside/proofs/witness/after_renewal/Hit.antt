@@ -1,6 +1,6 @@
 -- Each lemma on plans that a renewal brought in applies to the fourth witness: the renewal closes, the root fails, the backup root takes over, and all hear again.
 use Rattle.std.specs.Prelude.{◌≡◌, ◌+◌, ◌-◌, ◌<◌, ◌≤◌, Bool, true, false, List, ◌∷◌, length, Some, IsTrue, refl}
-use Rattle.std.proofs.Common.{arith, subst, sym}
+use Rattle.std.proofs.Common.{subst, sym}
 use Rattle.std.proofs.lemmas.Bool.{leb-true, ltb-true}
 use Rattle.sd_plan.specs.declared.domain.DomainId.{DomainId}
 use Rattle.sd_plan.specs.declared.domain.DomainId.TheVariants as domain
