@@ -7,4 +7,5 @@ mod Read
 pub mod Renewed
 pub mod Recovered
 pub mod mended
+pub mod after_renewal
 pub mod straggler

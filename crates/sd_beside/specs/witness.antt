@@ -4,4 +4,5 @@ pub mod Schedules
 pub mod Values
 pub mod Witnesses
 pub mod mended
+pub mod after_renewal
 pub mod straggler

@@ -8,7 +8,8 @@ use Rattle.std.proofs.lemmas.List.Elements.{AllZip-push}
 use Rattle.std.specs.List.{AllZip}
 use Rattle.sd_device_c.specs.declared.plain.PlainPort.{PlainPort}
 use Rattle.sd_device_c.specs.Plain.{flag_from, wide_from}
-use Rattle.sd_device_c.specs.Ports.{takes, is_clear, IsLowered}
+use Rattle.sd_exports.specs.Ports.{is_clear}
+use Rattle.sd_device_c.specs.Ports.{takes, IsLowered}
 
 same_test : (clear by counter : ℕ) → nat_le (clear - by) counter ≡ nat_le clear (counter + by)
 same_test clear by counter = grind (arith, nat_tests)

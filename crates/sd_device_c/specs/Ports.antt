@@ -1,9 +1,9 @@
 -- Ports: the links over which messages come to a device, and which of these it may be given.
 use Rattle.std.specs.Prelude.{◌≡◌, ℕ, ◌+◌, ◌-◌, ◌*◌, ◌^◌, ◌≤◌, ◌<◌, ◌↔◌, Bool, false, ◌&&◌, nat_le, nat_lt, IsTrue}
 use Rattle.sd_num.specs.declared.Rates.{Rates}
-use Rattle.sd_num.specs.Numbers.{low, keeps_rate}
+use Rattle.sd_num.specs.Numbers.{low}
 use Rattle.sd_plan.specs.topo.Limits.{IsRates}
-use Rattle.sd_device.specs.declared.msg.Flight.{Flight}
+use Rattle.sd_exports.specs.Ports.{Opening, StandsSince}
 use Rattle.sd_device_c.specs.declared.faults.Fault.{Fault}
 use Rattle.sd_device_c.specs.declared.faults.Fault.TheVariants.{NoDuty, RatesTooGreat}
 use Rattle.sd_device_c.specs.declared.plain.PlainEdge.{PlainEdge}
@@ -19,51 +19,24 @@ IsWait rates time wait = (advance : ℕ) → (wait ≤ advance) ↔ (time < low 
 abbrev pub longest_over : PlainEdge → ℕ
 longest_over edge = 2 * (edge.mid + edge.half)
 
--- a start, a join or a mend: the counter and the reference time at it, the longest time on the way, and the rates of the oscillator
-pub record Opening : Type 0 where
-  pub counter : ℕ
-  pub reference : ℕ
-  pub longest : ℕ
-  pub rates : Rates
-
--- more than the longest time on the way has surely passed since the opening
-abbrev pub is_clear : Opening → ℕ → Bool
-is_clear opening counter = nat_lt opening.longest (low opening.rates (counter - opening.counter))
-
 -- a message that came while the counter showed this may be given to the device
 abbrev pub takes : PlainPort → ℕ → Bool
 takes port counter = flag_from port.is_open && nat_le (wide_from port.clear) counter
-
--- the port takes what comes once the opening is clear; the counter was lowered by this much in all
-abbrev pub StandsSince : (by : ℕ) → PlainPort → Opening → Type 0
-StandsSince by port opening = (counter : ℕ) → takes port counter ≡ is_clear opening (counter + by)
 
 -- the port was opened by this opening, whatever was lowered before
 abbrev pub IsOpened : PlainEdge → PlainRates → (counter : ℕ) → PlainPort → Type 0
 IsOpened edge rates counter port =
     (by reference : ℕ)
-    → StandsSince by port (record { counter = counter + by; reference = reference; longest = longest_over edge; rates = rates_from rates })
+    → StandsSince by (takes port) (record { counter = counter + by; reference = reference; longest = longest_over edge; rates = rates_from rates })
 
 -- the port takes nothing
 abbrev pub IsShut : PlainPort → Type 0
 IsShut port = (counter : ℕ) → takes port counter ≡ false
 
--- the flight came at this reference, while the counter showed this, and the oscillator kept its rates since the opening
-pub record Comes (opening : Opening) (flight : Flight) (reference counter : ℕ) : Type 0 where
-  pub last : flight.last ≡ flight.sent_at + opening.longest
-  pub soon : reference ≤ flight.last
-  pub drift : IsTrue (keeps_rate opening.rates (counter - opening.counter) (reference - opening.reference))
-
--- what comes now was sent after the opening, however often the counter was lowered since
-abbrev pub ComesLater : PlainPort → (counter : ℕ) → Type 0
-ComesLater port counter =
-    (by : ℕ) (opening : Opening) (flight : Flight) (reference : ℕ) → StandsSince by port opening → Comes opening flight reference (counter + by)
-    → opening.reference < flight.sent_at
-
 -- the port takes at lowered counters what it took before
 pub record IsLowered (by : ℕ) (old new : PlainPort) : Type 0 where
   pub same : (counter : ℕ) → takes new counter ≡ takes old (counter + by)
-  pub told : (before : ℕ) (opening : Opening) → StandsSince before old opening → StandsSince (before + by) new opening
+  pub told : (before : ℕ) (opening : Opening) → StandsSince before (takes old) opening → StandsSince (before + by) (takes new) opening
 
 -- an edge whose delay bounds are within the limits
 pub record IsPlainEdge (edge : PlainEdge) : Type 0 where

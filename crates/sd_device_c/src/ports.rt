@@ -3,9 +3,10 @@ ghost use Rattle.std.specs.Prelude.{◌≡◌, ◌≢◌, ◌≤◌, ◌^◌, �
 ghost use Rattle.std.specs.List.{AllZip};
 ghost use Rattle.sd_num.specs.Counts.{one_if};
 ghost use Rattle.sd_plan.specs.topo.Limits.{IsRates};
+ghost use Rattle.sd_exports.specs.Ports.{ComesLater};
 ghost use Rattle.sd_device_c.specs.Answers.{IsAnswerFor};
 ghost use Rattle.sd_device_c.specs.Plain.{rates_from};
-ghost use Rattle.sd_device_c.specs.Ports.{takes, longest_over, IsWait, IsOpened, IsShut, ComesLater, IsLowered, IsPlainEdge, MayOpen, HasOpenFault};
+ghost use Rattle.sd_device_c.specs.Ports.{takes, longest_over, IsWait, IsOpened, IsShut, IsLowered, IsPlainEdge, MayOpen, HasOpenFault};
 
 use crate::checks::check_rates;
 use crate::faults::{DONE, Fault};
@@ -94,7 +95,7 @@ pub extern "C" fn sundial_port_close(port: &mut PlainPort)
 #[unsafe(no_mangle)]
 pub extern "C" fn sundial_port_takes(port: &PlainPort, counter: u64) -> u32
     ensures takes { result ≡ one_if (takes port.now counter) }
-    ensures later { result ≡ 1 → ComesLater port.now counter }
+    ensures later { result ≡ 1 → ComesLater (takes port.now) counter }
 {
     let is_clear = reading::wide(port.clear) <= u128::from(counter);
     u32::from(port.is_open != 0 && is_clear)

@@ -1,7 +1,9 @@
 -- Registers are structs that hold themselves: the rules make of them, and tell of them, what the calls of the library do.
-use Rattle.std.specs.Prelude.{◌≡◌, ℕ, ◌+◌, ◌≤◌, true, false, None, refl, option_map, if◌then◌else◌}
+use Rattle.std.specs.Prelude.{◌≡◌, ℕ, ◌+◌, ◌≤◌, Bool, true, false, ◌||◌, None, refl, option_map, if◌then◌else◌}
 use Rattle.std.proofs.Common.{sym, ◌∙◌, ap, subst}
 use Rattle.sd_device.specs.declared.registers.Registers.{Registers}
+use Rattle.sd_device.specs.declared.registers.Mode.{Mode}
+use Rattle.sd_device.specs.declared.registers.Mode.TheVariants.{Primary, Backup, Acting, Idle}
 use Rattle.sd_device.specs.Calls.{Making, Call}
 use Rattle.sd_device.specs.Living.{Life}
 use Rattle.sd_device.specs.Words.{counter_of, report_at, parent_now, is_acting, epoch_now}
@@ -57,15 +59,40 @@ report_is_told r counter =
       life = λ life stands. device_is_exact.reported r counter (report_in r counter) life refl (own_life r life stands);
     }
 
--- What a device of a plan answers
+-- What a device answers that follows a plan, or has joined and follows none yet
+
+abbrev is_idle : Mode → Bool
+is_idle Idle = true
+is_idle _ = false
+
+abbrev pub is_plain : Registers → Bool
+is_plain r = follows_a_plan r || is_idle r.mode
+
+idle_is : (mode : Mode) → is_idle mode ≡ true → mode ≡ Idle
+idle_is Idle is = refl
+idle_is Primary is = cc
+idle_is Backup is = cc
+idle_is Acting is = cc
+
+-- an idle device has no parent
+no_parent : (r : Registers) → r.mode ≡ Idle → option_map (λ edge. edge.parent) (edge_in r) ≡ None
+no_parent r idle = rw idle refl
+
+-- what a device without a plan answers is so of an idle one too
+plainly : {T : Type 0} (r : Registers) (x none : T) → is_plain r ≡ true → (r.mode ≡ Idle → x ≡ none) → (if follows_a_plan r then x else none) ≡ x
+plainly r x none plain idle = on (follows_a_plan r) plain
+  where
+    on : (b : Bool) → (b || is_idle r.mode) ≡ true → (if b then x else none) ≡ x
+    on true is = refl
+    on false is = sym (idle (idle_is r.mode is))
 
 pub record AreAnswered (r : Registers) : Type 0 where
   pub parent : IsToldOf Themselves r parent_in parent_now (parent_in r)
   pub acts : IsToldOf Themselves r acts_in is_acting (acts_in r)
   pub epoch : IsToldOf Themselves r epoch_in epoch_now (epoch_in r)
 
-pub are_answered : (r : Registers) → follows_a_plan r ≡ true → AreAnswered r
-are_answered r follows =
+pub are_answered : (r : Registers) → is_plain r ≡ true → AreAnswered r
+are_answered r plain =
     record {
       parent = record { registers = λ x same. ap parent_in same; life = λ life stands. parent_is life (own_life r life stands) };
       acts = record { registers = λ x same. ap acts_in same; life = λ life stands. acts_is life (own_life r life stands) };
@@ -74,12 +101,12 @@ are_answered r follows =
   where
     parent_is : (life : Life) → StandsFor r life → parent_in r ≡ parent_now (past_of life)
     parent_is life stands =
-        ap (λ b. if b then option_map (λ edge. edge.parent) (edge_in r) else None) follows
+        plainly r (option_map (λ edge. edge.parent) (edge_in r)) None plain (no_parent r)
         ∙ ap (λ x. option_map (λ edge. edge.parent) (edge_in x)) stands.are
         ∙ ap (option_map (λ edge. edge.parent)) (sym (edges (past_of life)))
 
     acts_is : (life : Life) → StandsFor r life → acts_in r ≡ is_acting (past_of life)
     acts_is life stands =
-        ap (λ b. if b then is_acting_mode r.mode else false) follows
+        plainly r (is_acting_mode r.mode) false plain (ap is_acting_mode)
         ∙ ap (λ x. is_acting_mode x.mode) stands.are
         ∙ acting_is (past_of life)

@@ -1,5 +1,5 @@
 -- What the rules admit keeps the order that whoever runs a fabric owes.
-use Rattle.std.specs.Prelude.{List, ◌∷◌, refl}
+use Rattle.std.specs.Prelude.{List, ◌∷◌}
 use Rattle.sd_sched.specs.declared.Event.{Event}
 use Rattle.sd_history.specs.World.{Setting}
 use Rattle.sd_history.specs.Steps.{Step}

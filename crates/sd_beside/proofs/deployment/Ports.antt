@@ -171,6 +171,7 @@ module _ {S : Type 0} (Holds : S → Registers → Type 0) (setting : Setting) w
           parts.0 old)
 
   pub open_port_delivers : OpenPortDelivers Holds setting
-  open_port_delivers run number reference flight is numbered port late =
-      delivered run is port.later port.earlier port.are reference flight port.begun (record { up = port.up; works = port.works }) port.unbroken late
+  open_port_delivers run number flight opening is numbered port taken =
+      delivered run is port.later port.earlier port.are opening.reference flight port.begun (record { up = port.up; works = port.works }) port.unbroken
+      (taken.later taken.lowered opening flight taken.reference taken.stands taken.comes)
       (found (λ f. nat_eq f.number number) flight (flights (steps_of setting run)) numbered)

@@ -1,5 +1,5 @@
 -- The witness: the first lines of examples/triangle are a run of a deployed fleet, whose devices are rebased on the way.
-use Rattle.std.specs.Prelude.{◌≡◌, ◌≤◌, true, List, [], ◌∷◌, option_map, reverse, take, Some, refl}
+use Rattle.std.specs.Prelude.{◌≡◌, ◌≤◌, true, List, [], ◌∷◌, option_map, reverse, take, Some, IsTrue, refl}
 use Rattle.std.proofs.Common.{sym, ◌∙◌, ap, subst}
 use Rattle.std.proofs.lemmas.Bool.{ltb-true}
 use Rattle.sd_plan.specs.declared.domain.DomainId.TheVariants as domain
@@ -15,7 +15,7 @@ use Rattle.sd_history.specs.Premises.{all_hold}
 use Rattle.sd_history.specs.Admitted.{IsAdmitted}
 use Rattle.sd_history.proofs.Admitted.{history_is_admitted}
 use Rattle.sd_safety.specs.invariant.Eras.{belongs}
-use Rattle.sd_safety.specs.invariant.Guarded.{IsSteady}
+use Rattle.sd_safety.specs.invariant.Guarded.{IsSteady, all_but_start_hold}
 use Rattle.sd_safety.proofs.invariant.Parts.{all_are_more, accepted_is_guarded, fair_is_guarded}
 use Rattle.sd_bound.proofs.Renewed.{stays_settled}
 use Rattle.sd_bound.specs.Recovering.{Recovers, steps_under}
@@ -27,14 +27,17 @@ use Rattle.sd_beside.specs.witness.Texts.{schedule_lines}
 use Rattle.sd_beside.specs.witness.Schedules.{after_line}
 use Rattle.sd_beside.specs.witness.Values.{network, first_plan, setting, events}
 use Rattle.sd_beside.specs.witness.mended.Values as mended
+use Rattle.sd_beside.specs.witness.after_renewal.Values as after_renewal
+use Rattle.sd_beside.specs.witness.after_renewal.Witness.{after}
 use Rattle.sd_beside.proofs.witness.Renewed.{renewal}
 use Rattle.sd_beside.proofs.witness.Recovered.{under, recovery}
-use Rattle.sd_beside.proofs.witness.mended.Mended.{under as mended_under, mended as second_witness}
+use Rattle.sd_beside.proofs.witness.mended.Mended.{under as mended_under, fair, mended as second_witness}
 use Rattle.sd_beside.proofs.witness.mended.Read.{is_network, first_fits}
+use Rattle.sd_beside.proofs.witness.after_renewal.Hit.{after_renewal as after_renewal_holds}
 use Rattle.sd_beside.specs.deployment.Deployment.{steps_of, struct_in, IsDeployment}
 use Rattle.sd_beside.specs.deployment.Laws.{events_in, IsItsHistory}
 use Rattle.sd_beside.specs.deployment.Worked.{after_call, run_of}
-use Rattle.sd_beside.specs.deployment.Witness.{run, recovering, hearing, asked, IsSafeRun, AreRebased, IsRenewedRun, IsBoundedRun, IsHearingRun, IsWitness}
+use Rattle.sd_beside.specs.deployment.Witness.{run, recovering, hearing, asked, hit, IsSafeRun, AreRebased, IsRenewedRun, IsBoundedRun, IsHearingRun, IsHitRun, IsWitness}
 use Rattle.sd_beside.proofs.deployment.History.{is_history}
 use Rattle.sd_beside.proofs.deployment.Fleets.{fleet_stays_safe, fleet_stays_below, fleet_hears_again}
 use Rattle.sd_beside.proofs.deployment.Worked.{may_call, all_follow, is_deployment}
@@ -238,5 +241,46 @@ hears =
           second_witness.hears.bound hearing_counted second_witness.hears.late;
     }
 
+-- After a renewal
+
+abbrev hit_lines : List Event
+hit_lines = after_renewal.first_events 325
+
+hit_follow : all_follow mended.setting (after_renewal.first_events 325) ≡ true
+unfolding after_renewal.events after_call may_call
+hit_follow = refl
+
+hit_is : IsDeployment Themselves mended.setting hit
+hit_is = is_deployment mended.setting hit_lines hit_follow
+
+hit_steps : steps_of mended.setting hit ≡ after 325
+hit_steps = steps_are mended.setting hit_lines hit_is
+
+rebased_waiting : option_map (λ kept. kept.since) (struct_in (run_of mended.setting (after_renewal.first_events 127)) 1) ≡ Some 2879827200
+unfolding after_renewal.events after_call
+rebased_waiting = refl
+
+first_rebased : option_map (λ kept. kept.since) (struct_in hit 1) ≡ Some 7919524800
+unfolding after_renewal.events after_call
+first_rebased = refl
+
+second_rebased : option_map (λ kept. kept.since) (struct_in hit 2) ≡ Some 7920871200
+unfolding after_renewal.events after_call
+second_rebased = refl
+
+hit_run : IsHitRun
+hit_run =
+    record {
+      is = hit_is;
+      steps = hit_steps;
+      rebased_waiting = rebased_waiting;
+      first_rebased = first_rebased;
+      second_rebased = second_rebased;
+      applies = after_renewal_holds;
+      safe = fleet_stays_safe Themselves mended.setting hit hit_is (fair_is_guarded mended.setting fair)
+          (subst (λ steps. IsTrue (all_but_start_hold mended.setting (seen_of steps))) (sym hit_steps)
+          (all_are_more mended.setting (seen_of (after 325)) after_renewal_holds.meets.premises));
+    }
+
 pub is_witness : IsWitness
-is_witness = record { safe = safe; rebased = rebased; renewed = renewed; bounded = bounded; hearing = hears }
+is_witness = record { safe = safe; rebased = rebased; renewed = renewed; bounded = bounded; hearing = hears; hit = hit_run }

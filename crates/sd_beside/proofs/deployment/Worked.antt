@@ -11,12 +11,12 @@ use Rattle.sd_device.specs.declared.registers.Registers.{Registers}
 use Rattle.sd_device.specs.Calls as calls
 use Rattle.sd_device.specs.Calls.{Call}
 use Rattle.sd_device.specs.Words.{counter_of}
-use Rattle.sd_device.specs.Rules.{made, floor_in, report_in, follows_a_plan}
+use Rattle.sd_device.specs.Rules.{made, floor_in, report_in}
 use Rattle.sd_device.specs.Rebases.{call_lowered, lowering}
 use Rattle.sd_device.proofs.Stands.{IsDue}
 use Rattle.sd_exports.specs.Exports as exports
 use Rattle.sd_exports.specs.Exports.{Themselves}
-use Rattle.sd_exports.proofs.Registers.{making_is_made, call_is_called, rebase_is_rebased, report_is_told, AreAnswered, are_answered}
+use Rattle.sd_exports.proofs.Registers.{making_is_made, call_is_called, rebase_is_rebased, report_is_told, is_plain, AreAnswered, are_answered}
 use Rattle.sd_history.specs.World.{Setting}
 use Rattle.sd_history.specs.Steps.{Act, Makes, Calls, Asks, Passes, Step, tells_nothing, tells_called, act_by, flight_numbered}
 use Rattle.sd_history.specs.Lives.{tells_report}
@@ -73,15 +73,15 @@ are_tended structs _ may = tt
 abbrev is_due : ℕ → Option ℕ → Bool
 is_due floor counter = map_or counter true (nat_le floor)
 
--- the call may be made of these registers, and they follow a plan after it
+-- the call may be made of these registers, and after it they follow a plan or are idle
 unfoldable pub may_call : Call → Kept Registers → Bool
 may_call call kept =
     let lower = call_lowered kept.lowered call in
     is_due kept.since (counter_of call) && is_due kept.struct.last (counter_of lower)
-    && follows_a_plan (after_call kept call).0
+    && is_plain (after_call kept call).0
 
 abbrev may_act : Structs → Act → Bool
-may_act structs (Makes d making) = follows_a_plan (made making)
+may_act structs (Makes d making) = is_plain (made making)
 may_act structs (Calls d call) = map_or (structs d) false (may_call call)
 may_act structs (Asks d counter) = map_or (structs d) false (λ kept. nat_le kept.since counter)
 may_act structs Passes = true
@@ -94,9 +94,9 @@ due : (floor : ℕ) (counter : Option ℕ) → is_due floor counter ≡ true →
 due floor None may = tt
 due floor (Some c) may = leb-true floor c may
 
-answered : (r : Registers) → follows_a_plan r ≡ true → IsAnswered Themselves r (answers_in r)
-answered r follows =
-    let all : AreAnswered r = are_answered r follows in
+answered : (r : Registers) → is_plain r ≡ true → IsAnswered Themselves r (answers_in r)
+answered r plain =
+    let all : AreAnswered r = are_answered r plain in
     record {
       parent = all.parent;
       acts = all.acts;
@@ -113,19 +113,19 @@ does_it kept call is_due = call_is_called kept.struct (call_lowered kept.lowered
 record MayCall (call : Call) (kept : Kept Registers) : Type 0 where
   is_due : IfSome (counter_of call) (λ counter. kept.since ≤ counter)
   does : exports.IsCalled Themselves kept.struct (call_lowered kept.lowered call) (after_call kept call).0 (after_call kept call).1
-  follows : follows_a_plan (after_call kept call).0 ≡ true
+  plain : is_plain (after_call kept call).0 ≡ true
 
 may_call_so : (call : Call) (kept : Kept Registers) → may_call call kept ≡ true → MayCall call kept
 unfolding may_call
 may_call_so call kept may =
     let last = counter_of (call_lowered kept.lowered call) in
     let first = and_parts (is_due kept.since (counter_of call) && is_due kept.struct.last last)
-    (follows_a_plan (after_call kept call).0) may in
+    (is_plain (after_call kept call).0) may in
     let second = and_parts (is_due kept.since (counter_of call)) (is_due kept.struct.last last) first.0 in
     record {
       is_due = not_below kept.since (counter_of call) second.0;
       does = does_it kept call (due kept.struct.last last second.1);
-      follows = first.1;
+      plain = first.1;
     }
 
 -- what passes a test is there
@@ -148,7 +148,7 @@ called_it call o may =
       there = there.1;
       due = can.is_due;
       called = can.does;
-      answered = answered (after_call there.0 call).0 can.follows;
+      answered = answered (after_call there.0 call).0 can.plain;
       tells = ap (λ x. map_or x tells_nothing (λ kept. tells_called (after_call kept call).1 (answers_in (after_call kept call).0))) there.1;
       leaves =
           ap (option_map (λ (kept : Kept Registers). record { struct = (after_call kept call).0; lowered = kept.lowered; since = kept.since })) there.1;

@@ -1,5 +1,6 @@
 -- Runs of deployed fleets under accepted plans, with rebases on the way. In that of the first 109 lines of examples/triangle, all but the end of its schedule,
--- the root fails, the backup root takes over, and a renewal brings in a second plan. In that of the second witness a link fails, and all hear again.
+-- the root fails, the backup root takes over, and a renewal brings in a second plan. In that of the second witness a link fails, and all hear again. In that
+-- of the fourth the root fails after a renewal, and all hear again.
 use Rattle.std.specs.Prelude.{◌≡◌, ℕ, ◌+◌, ◌-◌, ◌<◌, ◌≤◌, true, List, ◌∷◌, reverse, take, Option, Some, option_map}
 use Rattle.sd_plan.specs.declared.domain.DomainId.TheVariants as domain
 use Rattle.sd_checker.specs.check_root.Timing.{silence}
@@ -20,6 +21,8 @@ use Rattle.sd_beside.specs.witness.Schedules.{after_line}
 use Rattle.sd_beside.specs.witness.Values.{network, first_plan, second_plan, setting, events}
 use Rattle.sd_beside.specs.witness.Witnesses.{TakesOver, Commits, Closes}
 use Rattle.sd_beside.specs.witness.mended.Values as mended
+use Rattle.sd_beside.specs.witness.after_renewal.Values as after_renewal
+use Rattle.sd_beside.specs.witness.after_renewal.Witness.{after, IsAfterRenewal}
 use Rattle.sd_beside.specs.deployment.Deployment.{Moment, steps_of, struct_in, IsDeployment}
 use Rattle.sd_beside.specs.deployment.Laws.{events_in}
 use Rattle.sd_beside.specs.deployment.Worked.{moment_of, run_of}
@@ -93,6 +96,23 @@ pub record IsHearingRun : Type 0 where
   pub rebased : option_map (λ kept. kept.since) (struct_in hearing 2) ≡ Some 7200792000
   pub served : IsServed (steps_of (alone mended.network mended.first_plan) hearing) 2 270000000 (7745000000 - silence mended.network)
 
+-- After a renewal
+
+-- all lines of the fourth witness
+abbrev pub hit : List (Moment Registers)
+hit = run_of mended.setting (after_renewal.first_events 325)
+
+-- A run under two accepted plans that breaks no premise. The renewal closes at line 38, the root fails at line 40, device 1 takes over at line 128, and
+-- device 2 moves at line 290. Each lemma on renewed plans applies to it (IsAfterRenewal). Devices 1 and 2 are rebased before and after that.
+pub record IsHitRun : Type 0 where
+  pub is : IsDeployment Themselves mended.setting hit
+  pub steps : steps_of mended.setting hit ≡ after 325
+  pub rebased_waiting : option_map (λ kept. kept.since) (struct_in (run_of mended.setting (after_renewal.first_events 127)) 1) ≡ Some 2879827200
+  pub first_rebased : option_map (λ kept. kept.since) (struct_in hit 1) ≡ Some 7919524800
+  pub second_rebased : option_map (λ kept. kept.since) (struct_in hit 2) ≡ Some 7920871200
+  pub applies : IsAfterRenewal
+  pub safe : IsSafe mended.setting (steps_of mended.setting hit)
+
 -- all of them
 pub record IsWitness : Type 0 where
   pub safe : IsSafeRun
@@ -100,3 +120,4 @@ pub record IsWitness : Type 0 where
   pub renewed : IsRenewedRun
   pub bounded : IsBoundedRun
   pub hearing : IsHearingRun
+  pub hit : IsHitRun

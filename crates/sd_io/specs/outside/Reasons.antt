@@ -18,6 +18,18 @@ pub record FailsFor {S : Type 0} (fails : S → Error → S → Type 0) (old : S
   pub failed : fails last reason new
   pub patient : error_kind reason ≡ Interrupted → 2 ^ 64 - 1 ≤ count
 
+-- the last of several calls gave this: a signal interrupted all before it
+pub record GivesAfter {S : Type 0} (fails : S → Error → S → Type 0) (gives : S → S → Type 0) (old new : S) : Type 0 where
+  pub count : ℕ
+  pub last : S
+  pub interrupted : Interruptions fails count old last
+  pub given : gives last new
+
+-- the file that is open is one that the system opened by a call on this name
+abbrev pub IsOpened : {S F : Type 0} → (S → List ℕ → Error → S → Type 0) → (S → List ℕ → F → S → Type 0) → List ℕ → S → Option F → S → Type 0
+IsOpened refuses opens name old None new = ⊥
+IsOpened refuses opens name old (Some file) new = GivesAfter (λ a e b. refuses a name e b) (λ a b. opens a name file b) old new
+
 -- why a write failed: the system's reason, or that it took no byte
 abbrev pub IsReasonOf : Result ℕ Error → Error → Type 0
 IsReasonOf (Ok count) reason = (count ≡ 0) × (error_kind reason ≡ WriteZero)

@@ -4,7 +4,7 @@ ghost use Rattle.std.specs.Io.{ReadsAtMost};
 ghost use Rattle.std.specs.Io.KnownBytes.{ReadConsumes, IsAtEnd};
 ghost use Rattle.sd_io.specs.outside.Causes.{HasCause, raised};
 ghost use Rattle.sd_io.specs.outside.Counts.{faults_after};
-ghost use Rattle.sd_io.specs.outside.Reasons.{FailsFor, FileFails};
+ghost use Rattle.sd_io.specs.outside.Reasons.{FailsFor, FileFails, IsOpened};
 ghost use Rattle.sd_io.specs.outside.LastFaults.{KeepsFault};
 ghost use Rattle.sd_io.specs.outside.Rests.{RestIs};
 
@@ -113,6 +113,9 @@ impl<F: SystemFiles> Shelf for FileShelf<F> {
         ensures cause { HasCause self.old.faults self.new.faults result }
         ensures faults { self.new.faults ≡ faults_after self.old.faults result }
         ensures begins { self.new.begins ≡ raised self.old.begins }
+        // The file that is read from here on is one that the system opened by this name.
+        ensures opened { OnOk result (IsOpened F.refuses F.opens name.now
+            self.old.files self.new.file self.new.files) }
         ensures last_fault { KeepsFault
             (λ reason. FailsFor (λ old e new. F.refuses old name.now e new)
             self.old.files reason self.new.files)
@@ -266,6 +269,8 @@ mod tests {
         type File = Nothing;
 
         ghost refuses = { λ old name reason new. Unit {0} };
+
+        ghost opens = { λ old name file new. Unit {0} };
 
         fn open_once(&mut self, _name: &str) -> io::Result<Nothing> {
             self.calls = self.calls.saturating_add(1);

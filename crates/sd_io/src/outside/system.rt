@@ -1,6 +1,6 @@
 //! The calls of the system that the adapters make, as traits. Each tells by a relation of its own
 //! why a call failed, so that a contract can hold the adapters to the reason that the system gave.
-ghost use Rattle.std.specs.Prelude.{ℕ, List, Option, Result, IfErr};
+ghost use Rattle.std.specs.Prelude.{ℕ, List, Option, Result, IfOk, IfErr};
 ghost use Rattle.std.specs.Io.{ReadsAtMost, WritesAtMost};
 ghost use Rattle.std.specs.Io.KnownBytes.{ReadConsumes, WriteAppends};
 ghost use Rattle.std.specs.declared.io.Error.{Error};
@@ -16,9 +16,13 @@ pub trait SystemFiles {
     /// A call that opens the file of this name fails for this reason, and leaves this behind.
     ghost refuses: { Self → List ℕ → Error → Self → Type 0 };
 
+    /// A call that opens the file of this name gives this file, and leaves this behind.
+    ghost opens: { Self → List ℕ → Self.File → Self → Type 0 };
+
     /// Opens a file for reading, by one call.
     fn open_once(&mut self, name: &str) -> io::Result<Self::File>
-        ensures { IfErr result (λ reason. refuses self.old name.now reason self.new) };
+        ensures opened { IfOk result (λ file. opens self.old name.now file self.new) }
+        ensures reason { IfErr result (λ reason. refuses self.old name.now reason self.new) };
 }
 
 /// An open file of the system.
@@ -55,6 +59,8 @@ impl<R: Files> SystemFiles for &R {
     type File = R::File;
 
     ghost refuses = { λ old name reason new. Unit {0} };
+
+    ghost opens = { λ old name file new. Unit {0} };
 
     fn open_once(&mut self, name: &str) -> io::Result<R::File> {
         fs::open(*self, name)

@@ -125,7 +125,7 @@ renews =
       joined_reports = refl;
     }
 
-fair : IsFair setting
+pub fair : IsFair setting
 fair =
     record {
       network = is_network;
