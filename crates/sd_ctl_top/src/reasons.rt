@@ -44,7 +44,11 @@ fn reason_over(alloc: Global, topo: &Topology) -> Result<Answer, CommandError>
 }
 
 /// The line of a reason, or that none is known, and its status.
-fn told(alloc: Global, topo: &Topology, found: Option<Reason>) -> Result<Answer, CommandError>
+pub(crate) fn told(
+    alloc: Global,
+    topo: &Topology,
+    found: Option<Reason>,
+) -> Result<Answer, CommandError>
     ensures text { IfOk result (λ answer. answer.text.items
         ≡ text.why_text (network topo.now) found) }
     ensures status { IfOk result (λ answer. answer.status ≡ meaning.why_status found) }

@@ -35,7 +35,8 @@ pub fn run<S: Shelf, O: Sink>(alloc: Global, words: &[String], shelf: &mut S, ou
     // Over a shelf that tells its texts: what the words write and answer. A plan is printed only
     // where the checker accepts it, and it leaves out just what is absent. It is no worse by the
     // drill than the first greedy plan that the checker accepts. No plan is printed only where it
-    // refuses them all: what `sundial plan` prints, or `sundial renew`.
+    // refuses them all: what `sundial plan` prints, or `sundial renew`. Then, with nothing absent, the
+    // reason that `why` prints is printed too, just where it prints one.
     // It is printed that an opening agrees only where all later events that may follow both are the
     // same after both, and what breaks after the opening is broken after the schedule; and that it
     // differs only where no shift of numbers makes it agree. Of a recording each line of the log
