@@ -10,11 +10,12 @@ LINES, LINKS = 10_000_000, 1024
 COUNTED = (20_000, 60_000)
 
 
-def exchanges(lines: int) -> Iterator[str]:
+def exchanges(lines: int, links: int = LINKS) -> Iterator[str]:
+    """Exchanges over all links in turn."""
     for line in range(1, lines):
         counter = 2_400_000 * line
         yield (
-            f"exchange {line * 7 % LINKS} {line % 2} 100000 {counter} {counter + 5} {counter + 1_000_005}"
+            f"exchange {line * 7 % links} {line % 2} 100000 {counter} {counter + 5} {counter + 1_000_005}"
             f" {counter + 2_400_000}\n"
         )
     yield "end\n"

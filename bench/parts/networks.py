@@ -1,4 +1,5 @@
 """Topologies of the benches, and plans that are made by hand for them. Times are in ps."""
+import random
 from dataclasses import dataclass
 from typing import Iterator, List, Tuple
 
@@ -103,6 +104,33 @@ def severed(sizes: Sizes) -> Iterator[str]:
         yield domain(f"d{number}", [], ["first", "second"])
 
 
+def halved(sizes: Sizes) -> Iterator[str]:
+    """Each listed domain has two devices, which nearly all devices follow. Half of these turn elsewhere. The others are
+    cut off, and both halves have as many links. The devices come in an order by chance."""
+    draw = random.Random(1)
+    far, near = _halves(sizes)
+    names = ["r", "b", "g", "u", "c0", "c1"] + [f"x{place}" for place in range(far)] + [f"y{place}" for place in range(near)]
+    draw.shuffle(names)
+    yield head(("r", "b"))
+    yield from map(device, names)
+    yield link("rg", "g", "r") + link("bg", "g", "b") + link("ru", "r", "u") + link("bu", "b", "u")
+    for place in range(2):
+        yield link(f"r{place}", "r", f"c{place}") + link(f"b{place}", "b", f"c{place}")
+    yield link("last", "g", "x0")
+    for place in range(far):
+        yield link(f"p{place}", "g", f"x{place}")
+        yield link(f"q{place}", f"x{place - 1}", f"x{place}") if place else ""
+    for place in range(near):
+        yield link(f"u{place}", "u", f"y{place}") + link(f"v{place}", "b", f"y{place}")
+    for place in range(sizes.links - 8 - 2 * far - 2 * near):
+        half, count = ("x", far) if place % 2 else ("y", near)
+        first, second = draw.sample(range(count), 2)
+        yield link(f"e{place}", f"{half}{first}", f"{half}{second}")
+    for number in range(sizes.domains):
+        others = [f"y{(7 * number + place) % near}" for place in range(min(62, near // 2))]
+        yield domain(f"d{number}", ["g", "u", *others], [])
+
+
 def at_the_limits(version: int, second_root: str, scale: float) -> Iterator[str]:
     """Devices, links, domains and listed things as many as there may be, or that many parts of them."""
     devices = max(64, int(4096 * scale))
@@ -116,6 +144,12 @@ def at_the_limits(version: int, second_root: str, scale: float) -> Iterator[str]
     for number in range(devices):
         names = [f"d{(number + place) % devices}" for place in range(each // 2)]
         yield domain(f"m{number}", names, [f"l{(8 * number + place) % links}" for place in range(each // 2)])
+
+
+def _halves(sizes: Sizes) -> Tuple[int, int]:
+    """How many devices `halved` cuts off, and how many turn elsewhere."""
+    far = (sizes.devices - 6) // 2
+    return far, sizes.devices - 6 - far
 
 
 def chain(links: int) -> Iterator[str]:
@@ -185,4 +219,15 @@ def plan_of_severed(sizes: Sizes) -> str:
     rows = [row("b", "c0", "up0", "c1", "up1"), row("g", "r", "first", "b", "second")]
     rows += [row(f"c{place}", "r", f"r{place}", "b", f"b{place}") for place in range(3)]
     rows += [row(f"x{place}", "g", f"p{place}", "g", f"q{place}") for place in range(sizes.devices - 6)]
+    return plan_text("r", "b", rows)
+
+
+def plan_of_halved(sizes: Sizes) -> str:
+    """What is cut off turns along a row."""
+    far, near = _halves(sizes)
+    rows = [row("b", "c0", "b0", "c1", "b1"), row("g", "r", "rg", "b", "bg"), row("u", "r", "ru", "b", "bu")]
+    rows += [row(f"c{place}", "r", f"r{place}", "b", f"b{place}") for place in range(2)]
+    rows += [row(f"x{place}", "g", f"p{place}", f"x{place - 1}", f"q{place}") for place in range(1, far)]
+    rows += [row("x0", "g", "p0", "g", "last")]
+    rows += [row(f"y{place}", "u", f"u{place}", "b", f"v{place}") for place in range(near)]
     return plan_text("r", "b", rows)

@@ -4,7 +4,7 @@ import subprocess
 from itertools import chain
 from typing import Callable, Iterator, List, Sequence, Tuple
 
-from . import networks
+from . import exchanges, networks, one_device
 from .bench import Bench
 from .measuring import BenchFault, Command, run_once
 from .tables import Row, count
@@ -90,6 +90,12 @@ def mesh(devices: int) -> Iterator[str]:
         yield networks.link(f"k{place}", f"d{first}", f"d{second}")
 
 
+def bundle(links: int) -> Iterator[str]:
+    """Two devices, and links between them."""
+    yield networks.head(("a", "b")) + networks.device("a") + networks.device("b")
+    yield from (networks.link(f"k{place}", "a", "b") for place in range(links))
+
+
 def in_a_row(devices: int) -> Iterator[str]:
     """Devices in a row, each of which may be a root, and from each of which some other is too far."""
     roots = ", ".join(f'"d{place}"' for place in range(devices))
@@ -150,6 +156,47 @@ def text_rows(bench: Bench) -> List[Row]:
     ]
 
 
+def halved(bench: Bench, devices: int) -> Words:
+    """A network that each listed domain takes apart, with as much of each kind as there may be, and a plan."""
+    sizes = networks.Sizes(devices, 8 * devices, devices, 0)
+    return (bench.file(f"halved{devices}", networks.halved(sizes)),
+            bench.file(f"halved_plan{devices}", [networks.plan_of_halved(sizes)]))
+
+
+def plan_rows(bench: Bench) -> List[Row]:
+    """Checks of a plan whose devices are hit by each listed domain: half of them turn elsewhere, and half are cut off."""
+    devices, apart = bench.count(4096, 64), "each listed domain takes the network apart"
+    absent = bench.file("absent_y0", ['{"absent_devices":["y0"],"absent_links":[]}\n'])
+    return [
+        beside_half(bench, f"`check`, {apart}", "devices", devices, lambda number: ("check", *halved(bench, number))),
+        beside_half(bench, f"`plan`, {apart}", "devices", devices, lambda number: ("plan", halved(bench, number)[0]), 1),
+        beside_half(bench, f"`renew`, {apart}", "devices", devices,
+                    lambda number: ("renew", *halved(bench, number), absent), 1),
+    ]
+
+
+def drill_rows(bench: Bench) -> List[Row]:
+    """The numbers of such a network."""
+    devices, other = bench.count(1024, 64), "half of it, with a quarter of the lines"
+    return [
+        beside_half(bench, f"`{command}`, each listed domain takes the network apart", "devices", devices,
+                    lambda number, command=command: (command, *halved(bench, number), BASE, HOLD), 0, program, other)
+        for command, program in (("drill", "sundial"), ("bounds", "sundialctl"))
+    ]
+
+
+def line_rows(bench: Bench) -> List[Row]:
+    """Reports and exchanges."""
+    bundled, links = bench.file("bundle", bundle(bench.count(32_768, 64))), bench.count(32_768, 64)
+    return [
+        beside_half(bench, "`solo`, asks alone", "lines", bench.count(4_000_000, 1000),
+                    lambda number: ("solo", bench.file(f"asks_alone{number}", one_device.schedule(number, 1)))),
+        beside_half(bench, f"`twoway`, {count(links)} links", "lines", bench.count(10_000_000, 2000),
+                    lambda number: ("twoway", bundled,
+                                    bench.file(f"exchanged{number}", exchanges.exchanges(number, links)))),
+    ]
+
+
 def schedule_rows(bench: Bench) -> List[Row]:
     """Texts that are read line by line."""
     files = triangle(bench)
@@ -167,25 +214,20 @@ def schedule_rows(bench: Bench) -> List[Row]:
 
 
 def second_rows(bench: Bench) -> List[Row]:
-    """The commands of `sundialctl` but the search."""
+    """The commands of `sundialctl` but the search and `bounds`."""
     files, lines, name = triangle(bench), bench.count(40_000, 4000), "sundialctl"
-    devices = bench.count(1024, 48)
-
-    def drilled(number: int) -> Words:
-        sizes = networks.scaled(number, 1.0)
-        topology = bench.file(f"topology{number}", networks.spines_and_leaves(sizes))
-        return "bounds", topology, bench.answer(f"plan{number}", "plan", topology), BASE, HOLD
-
     return [
         beside_half(bench, "`record`, oldest first", "messages over one link", bench.count(200_000, 500),
                     lambda number: ("record", *files, bench.file(f"log{number}", oldest_first(number))), 0, name),
         beside_half(bench, f"`merge` of {count(lines)} lines", "logs", bench.count(4000, 400),
                     lambda number: ("merge", str(number), bench.file(f"feed{number}", feed(number, lines))), 0, name),
-        beside_half(bench, "`bounds`", "devices", devices, drilled, 0, name, "half of it, with a quarter of the lines"),
         beside_half(bench, "`why`, a row of candidates", "devices", bench.count(4096, 64),
                     lambda number: ("why", bench.file(f"row{number}", in_a_row(number))), 1, name),
     ]
 
 
 def rows(bench: Bench) -> List[Row]:
-    return text_rows(bench) + schedule_rows(bench) + second_rows(bench) + search_rows(bench)
+    found: List[Row] = []
+    for part in (text_rows, plan_rows, drill_rows, line_rows, schedule_rows, second_rows, search_rows):
+        found += part(bench)
+    return found
