@@ -314,13 +314,13 @@ static void rebase(uint64_t raw)
 static void tick(void)
 {
     struct sundial_effect effect = {{{0, 0}, {0, 0}, {0, 0}, 0}, 0};
-    uint64_t raw = own_moment();
+    uint64_t raw = own_moment(), now = sundial_clock_raw();
     rebase(raw);
-    if (raw - latest_tick > greatest_gap)
-        greatest_gap = raw - latest_tick;
+    if (now - latest_tick > greatest_gap)
+        greatest_gap = now - latest_tick;
     if (!made(sundial_tick(&device, counter_of(raw), &effect), "tick"))
         return;
-    latest_tick = raw;
+    latest_tick = now;
     ticked = hardware_at(raw);
     keep();
     send_on(&effect, raw);
