@@ -569,12 +569,14 @@ static void obey(void)
     if (recv(control, text, sizeof text - 1, MSG_DONTWAIT) < 0)
         return;
     unsigned plan = 0, name = 0;
+    uint8_t acts = 0;
     uint64_t raw = own_moment(), counter = counter_of(raw);
     if (sscanf(text, "give %u", &plan) == 1 && plan > 0 && plan <= MOST_PLANS) {
         if (made(sundial_give(&device, &duties[plan - 1]), "give"))
             sundial_record_give(&recorder, reference_of(raw), number);
     } else if (strcmp(text, "commit") == 0) {
-        if (made(sundial_commit(&device, counter), "commit"))
+        uint32_t answer = sundial_acts(&device, &acts) == SUNDIAL_DONE && acts ? sundial_commit(&device, counter) : SUNDIAL_NOT_ROOT;
+        if (made(answer, "commit"))
             sundial_record_commit(&recorder, reference_of(raw), number, hardware_at(raw));
     } else if (strcmp(text, "seal") == 0) {
         if (made(sundial_seal(&device), "seal"))
