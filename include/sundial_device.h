@@ -348,7 +348,8 @@ uint32_t sundial_join_wide(struct sundial_device *device, const struct sundial_r
 uint32_t sundial_give(struct sundial_device *device, const struct sundial_duty *duty);
 
 /* Takes up the given duty at once, as the root of the next plan (event `commit`). The counter is in
- * ps, and not below those that the device keeps.
+ * ps, and not below those that the device keeps. Ask sundial_acts first: a device that does not act, and was given
+ * the duty of a root, is not refused. From then on two may act.
  * Faults: NO_DEVICE, COUNTER_FELL, STAMP_TOO_GREAT, NOT_ROOT. */
 uint32_t sundial_commit(struct sundial_device *device, uint64_t counter);
 

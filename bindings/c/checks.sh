@@ -3,12 +3,13 @@
 #
 #     bindings/c/checks.sh LIBRARY [SECONDS]
 #
-# LIBRARY is libsd_device_c.a. With each compiler that is there: header and bindings compile
-# without a warning, as C11 and as C++17, and a program in C++ makes every call. Then, where the
-# compiler can: the duties of sundial-duty beside those of fabric.h, the compact log beside the schedule, what the header
-# computes, what is kept, a device for years, sundial_clock.h (clock_checks.sh), what the host takes and drops, the example, the
-# recorder and the host under the address and undefined-behaviour sanitizers, the fuzzer for SECONDS (3), a program without a C library, and
-# what pkg-config says. A line with "left out" names what is not there.
+# LIBRARY is libsd_device_c.a. With each compiler that is there: header and bindings compile without a warning, as C11
+# and as C++17, and a program in C++ makes every call. The header compiles for 32-bit cores that lay out structs as the
+# library does. Then, where the compiler can: the duties of sundial-duty beside those of fabric.h, the compact log beside
+# the schedule, what the header computes, what is kept, a device for years, sundial_clock.h (clock_checks.sh), what the
+# host takes and drops, the example, the recorder and the host under the address and undefined-behaviour sanitizers, the
+# fuzzer for SECONDS (3), a program without a C library, and what pkg-config says. A line with "left out" names what is
+# not there.
 set -u
 library=$(realpath "$1") || exit 2
 seconds=${2:-3}
@@ -57,6 +58,19 @@ for compiler in g++ clang++; do
 done
 echo "checks: no warning by ${compiled[*]}"
 
+# A 32-bit core takes what the header computes, where it lays out structs as the library does.
+echo 'int main(void) { return 0; }' > "$work/nothing.c"
+echo '#include "sundial_device.h"' > "$work/small.c"
+for target in thumbv7m-none-eabi:takes riscv32-none-elf:takes i686-none-elf:refuses; do
+    small=(clang "--target=${target%:*}" -std=c11 -ffreestanding -DSUNDIAL_NO_LIBRARY "${warnings[@]}" -c -o "$work/object")
+    if ! there clang || ! "${small[@]}" "$work/nothing.c" 2> "$work/said"; then
+        echo "checks: left out, as there is no clang for ${target%:*}: the header there"
+        continue
+    fi
+    "${small[@]}" "$work/small.c" 2> "$work/said" && found=takes || found=refuses
+    [ "$found" = "${target#*:}" ] || fail "clang $found the header for ${target%:*}"
+done
+
 compiler=${CC:-cc}
 if there python3; then
     ../../tools/sundial-duty topology.toml plan-1.json plan-2.json plan-3.json -o "$work/duties.h" \
@@ -66,7 +80,6 @@ else
     echo "checks: left out, as there is no python3: sundial-duty"
 fi
 
-echo 'int main(void) { return 0; }' > "$work/nothing.c"
 if "$compiler" "${sanitizers[@]}" -o "$work/nothing" "$work/nothing.c" 2> "$work/said" && "$work/nothing"; then
     "$compiler" -std=c11 "${sanitizers[@]}" "${warnings[@]}" -o "$work/embed" embed.c recorder.c "$library" \
         && "$work/embed" 1 "$work/schedule" > "$work/told" && "$work/embed" 1 "$work/log" log > "$work/told" \

@@ -55,7 +55,7 @@ int main(void)
     expect((int)SUNDIAL_DEVICES == (int)DEVICES && (int)SUNDIAL_LINKS == (int)LINKS
                && (int)SUNDIAL_PLANS == (int)PLANS,
            "counts", 0, 0);
-    expect(SUNDIAL_TICK == TICK && SUNDIAL_FIRST_EPOCH == 1, "tick", 0, 0);
+    expect(SUNDIAL_TICK == TICK && SUNDIAL_REPAIRS_APART == 3 * DUTIES[0][S0].period && SUNDIAL_FIRST_EPOCH == 1, "tick", 0, 0);
     for (int plan = 0; plan < PLANS; plan++)
         for (uint32_t device = 0; device < DEVICES; device++) {
             expect(same_duty(&SUNDIAL_DUTIES[plan][device], &DUTIES[plan][device]), "the duties differ", plan,

@@ -33,6 +33,7 @@ class Duties(unittest.TestCase):
         made = as_json(TOPOLOGY, FIRST, SECOND)
         self.assertEqual([it["epoch"] for it in made["plans"]], [1, 2])
         self.assertEqual(made["tick"], topology.tick)
+        self.assertEqual(made["repairs_apart"], 3 * topology.period)
         for plan, said in zip(plans, made["plans"]):
             self.assertEqual([it["device"] for it in said["parts"]], made["devices"])
             for part in said["parts"]:

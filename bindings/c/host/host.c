@@ -8,7 +8,7 @@
  * priority keeps it waiting (SCHED_FIFO, from 1 to 99), and its memory is locked. Where the system refuses
  * that, it says so and ends with 1.
  *
- *   - Its counter is CLOCK_MONOTONIC_RAW less a base, off by a stated ppm. On one machine all have
+ *   - Its hardware's counter is CLOCK_MONOTONIC_RAW less a base, off by a stated ppm. On one machine all have
  *     one oscillator, so the reference time is that clock, and each interval can be judged.
  *   - A receipt has the counter of the kernel's own timestamp of the packet. A sending has the counter of the call
  *     that sends. In one step a receipt is not before the device's latest call. In two steps the sender says by a
@@ -65,20 +65,10 @@ struct held {
     struct sundial_message message;
 };
 
-/* What outlives the process. */
-struct kept {
-    uint64_t count;
-    struct sundial_device device;
-    struct sundial_port ports[MOST_LINKS];
-    struct sundial_clock_mapping mapping;
-    uint64_t lowered, latest, ticked;
-    uint64_t check; /* of all before it */
-};
-
 static struct sundial_device device;
 static struct sundial_port ports[MOST_LINKS]; /* of the links, in their order here */
 static struct sundial_recorder recorder;
-static struct sundial_clock_mapping mapping;
+static struct sundial_clock_mapping mapping; /* to the hardware's counter, from reference time 0 on */
 static struct sundial_clock_terms terms = {.stale_after = 1000000000, .void_after = 60000000000};
 static struct sundial_clock_writer writer; /* its page is null where the file names none */
 static struct sundial_duty duties[MOST_PLANS]; /* by epoch - 1 */
@@ -90,19 +80,20 @@ static struct pollfd waited[MOST_LINKS + 1];
 static char names[2][MOST_NAMES][NAME_BYTES];
 static const char *name_of[2][MOST_NAMES];
 static uint32_t number, link_count;
-static uint64_t origin, latest, tick_every, ask_every, begin_eps;
+static uint64_t latest, tick_every, ask_every, begin_eps;
 static int64_t begin_off;
-static int joins, control = -1, state = -1, watch = -1;
+static int joins, control = -1, watch = -1;
 static char log_path[128], log_room[1 << 16];
-static uint64_t kept_count, most_pause; /* ns between two ticks of the topology, over a restart too */
-static uint64_t lowered, rebased, rebase_every = UINT64_C(86400000000000);
+static char state_path[128], next_path[136]; /* of what is kept, and of the next such while it is written */
+static uint64_t topology_tick, lowered, ticked; /* ps, as in docs/LIFE-OF-A-DEVICE.md */
+static uint64_t rebased, rebase_every = UINT64_C(86400000000000);
 static uint64_t settle, lag; /* ns: how long a message is held; by how much own calls are in the past. 0: in one step */
 static uint64_t base_raw, base_real; /* of one moment, from which the rate of the two clocks is counted */
 static double rate = 1;
 static uint64_t hold;                  /* a planted fault: each sending waits for this, in ns */
 static int was_set;                    /* a planted fault: as if the system's clock had been set */
 static uint64_t late_after = UINT64_MAX, late; /* a message that waited here for longer, in ns, is dropped: how many were */
-static uint64_t go, least_delay = UINT64_MAX, greatest_delay, greatest_gap, ticked; /* ns, of CLOCK_MONOTONIC_RAW */
+static uint64_t go, least_delay = UINT64_MAX, greatest_delay, greatest_gap, latest_tick; /* ns, of CLOCK_MONOTONIC_RAW */
 static uint64_t sendings, stamped, latest_stamp, latest_follow_up, calls_refused, unstamped, early, disordered, foreign;
 static volatile sig_atomic_t ends;
 
@@ -140,21 +131,26 @@ static uint64_t own_moment(void)
     return moment(sundial_acts(&device, &acts) == SUNDIAL_DONE && acts ? raw : raw - lag);
 }
 
-static uint64_t counter_of(uint64_t raw)
+static uint64_t hardware_at(uint64_t raw)
 {
     return sundial_clock_counter(&mapping, raw);
 }
 
+static uint64_t counter_of(uint64_t raw)
+{
+    return hardware_at(raw) - lowered;
+}
+
 static uint64_t reference_of(uint64_t raw)
 {
-    return (raw - origin) * 1000;
+    return (raw - mapping.raw) * 1000;
 }
 
 static void publish(uint64_t raw)
 {
     writer.terms.skew = mapping.skew;
     if (writer.page != NULL)
-        sundial_clock_publish(&writer, &device, sundial_clock_counter(&mapping, raw), raw);
+        sundial_clock_publish(&writer, &device, counter_of(raw), raw);
 }
 
 /* Whether the call was made. A call that is refused has no line. */
@@ -193,61 +189,35 @@ static void open_port(uint32_t at, uint64_t raw)
     }
 }
 
-/* FNV-1a of words. It finds a write that was cut off, and no forger. */
-static uint64_t check_of(const struct kept *kept)
-{
-    uint64_t words[sizeof *kept / 8], check = UINT64_C(0xcbf29ce484222325);
-    memcpy(words, kept, sizeof words);
-    for (size_t i = 0; i < offsetof(struct kept, check) / 8; i++)
-        check = (check ^ words[i]) * UINT64_C(0x100000001b3);
-    return check;
-}
-
-/* Before a call's message is sent. There are two places, so that a process that is killed while it writes leaves the state
- * before, which has sent nothing since. */
+/* Before a call's message is sent. A process that is killed while it writes leaves the file of the state before, which has
+ * sent nothing since. */
 static void keep(void)
 {
-    static struct kept kept; /* (so its padding is always 0) */
-    if (state < 0)
+    uint8_t bytes[SUNDIAL_KEPT_SIZE(MOST_LINKS)];
+    size_t size = SUNDIAL_KEPT_SIZE(link_count);
+    if (state_path[0] == '\0' || !made(sundial_keep(&device, ports, link_count, lowered, ticked, bytes, size), "keep"))
         return;
-    kept.count = ++kept_count;
-    kept.device = device;
-    memcpy(kept.ports, ports, sizeof ports);
-    kept.mapping = mapping;
-    kept.lowered = lowered;
-    kept.latest = latest;
-    kept.ticked = ticked;
-    kept.check = check_of(&kept);
-    if (pwrite(state, &kept, sizeof kept, (off_t)(kept_count % 2 * sizeof kept)) != (ssize_t)sizeof kept)
+    int file = open(next_path, O_WRONLY | O_CREAT | O_TRUNC | O_CLOEXEC, 0600);
+    if (file < 0 || write(file, bytes, size) != (ssize_t)size || close(file) != 0 || rename(next_path, state_path) != 0)
         stop("the state cannot be kept");
 }
 
-/* Whether the device goes on with the state that was kept: the process has to have been away for less than `tick` since the
- * device's latest tick. A device whose state is older, or was not kept whole, has to join. */
+/* Whether the device goes on with what was kept. One whose state is too old, or not whole, has to join. */
 static int restore(void)
 {
-    static struct kept kept[2];
-    if (state < 0 || pread(state, kept, sizeof kept, 0) <= 0)
+    uint8_t bytes[SUNDIAL_KEPT_SIZE(MOST_LINKS) + 1];
+    int file = state_path[0] != '\0' ? open(state_path, O_RDONLY | O_CLOEXEC) : -1;
+    if (file < 0)
         return 0;
-    int best = -1;
-    for (int i = 0; i < 2; i++)
-        if (kept[i].count != 0 && kept[i].check == check_of(&kept[i]) && (best < 0 || kept[i].count > kept[best].count))
-            best = i;
-    uint64_t raw = sundial_clock_raw();
-    if (best < 0 || sundial_made(&kept[best].device) != SUNDIAL_DONE || raw < kept[best].latest
-        || raw - kept[best].ticked > most_pause) {
-        if (joins)
-            return 0;
-        stop("its state is too old, or not whole: it has to join");
-    }
-    device = kept[best].device;
-    memcpy(ports, kept[best].ports, sizeof ports);
-    mapping = kept[best].mapping;
-    lowered = kept[best].lowered;
-    latest = kept[best].latest;
-    ticked = kept[best].ticked;
-    kept_count = kept[best].count;
-    return 1;
+    ssize_t size = read(file, bytes, sizeof bytes);
+    close(file);
+    uint64_t raw = moment(sundial_clock_raw());
+    uint32_t answer = sundial_restore(bytes, size > 0 ? (size_t)size : 0, topology_tick, hardware_at(raw), &device, ports,
+                                      link_count, &lowered, &ticked);
+    if (answer == SUNDIAL_DONE || joins)
+        return answer == SUNDIAL_DONE;
+    fprintf(stderr, "host %" PRIu32 ": its state is %s: it has to join\n", number, sundial_answer_name(answer));
+    exit(1);
 }
 
 static void put(unsigned char *to, uint64_t value, int bytes)
@@ -330,12 +300,12 @@ static void send_on(const struct sundial_effect *effect, uint64_t raw)
     }
 }
 
-/* The counters that it keeps fall, and the mapping with them. */
+/* The counters that device and ports keep fall. */
 static void rebase(uint64_t raw)
 {
     uint64_t by = 0;
     if (raw - rebased < rebase_every
-        || !made(sundial_clock_rebase(&mapping, &device, ports, link_count, raw, &by), "rebase"))
+        || !made(sundial_rebase_with_ports(&device, ports, link_count, counter_of(raw), &by), "rebase"))
         return;
     rebased = raw;
     lowered += by;
@@ -344,26 +314,26 @@ static void rebase(uint64_t raw)
 static void tick(void)
 {
     struct sundial_effect effect = {{{0, 0}, {0, 0}, {0, 0}, 0}, 0};
-    uint64_t raw = own_moment();
+    uint64_t raw = own_moment(), now = sundial_clock_raw();
     rebase(raw);
-    uint64_t counter = counter_of(raw);
-    if (raw - ticked > greatest_gap)
-        greatest_gap = raw - ticked;
-    if (!made(sundial_tick(&device, counter, &effect), "tick"))
+    if (now - latest_tick > greatest_gap)
+        greatest_gap = now - latest_tick;
+    if (!made(sundial_tick(&device, counter_of(raw), &effect), "tick"))
         return;
-    ticked = raw;
+    latest_tick = now;
+    ticked = hardware_at(raw);
     keep();
     send_on(&effect, raw);
-    sundial_record_tick(&recorder, reference_of(raw), number, counter + lowered);
+    sundial_record_tick(&recorder, reference_of(raw), number, ticked);
     publish(raw);
 }
 
 static void ask(void)
 {
     struct sundial_clock_report report = {{0, 0}, {0, 0}};
-    uint64_t raw = own_moment(), counter = counter_of(raw);
-    if (made(sundial_report(&device, counter, &report), "report"))
-        sundial_record_report(&recorder, reference_of(raw), number, counter + lowered);
+    uint64_t raw = own_moment();
+    if (made(sundial_report(&device, counter_of(raw), &report), "report"))
+        sundial_record_report(&recorder, reference_of(raw), number, hardware_at(raw));
 }
 
 static uint64_t time_of(clockid_t clock)
@@ -485,7 +455,7 @@ static void receive(uint32_t at, const struct sundial_message *message, uint64_t
         return;
     keep();
     send_on(&effect, raw);
-    sundial_record_receive(&recorder, reference_of(raw), number, counter + lowered, links[at].number, message, 0);
+    sundial_record_receive(&recorder, reference_of(raw), number, hardware_at(raw), links[at].number, message, 0);
     publish(raw);
 }
 
@@ -599,13 +569,15 @@ static void obey(void)
     if (recv(control, text, sizeof text - 1, MSG_DONTWAIT) < 0)
         return;
     unsigned plan = 0, name = 0;
+    uint8_t acts = 0;
     uint64_t raw = own_moment(), counter = counter_of(raw);
     if (sscanf(text, "give %u", &plan) == 1 && plan > 0 && plan <= MOST_PLANS) {
         if (made(sundial_give(&device, &duties[plan - 1]), "give"))
             sundial_record_give(&recorder, reference_of(raw), number);
     } else if (strcmp(text, "commit") == 0) {
-        if (made(sundial_commit(&device, counter), "commit"))
-            sundial_record_commit(&recorder, reference_of(raw), number, counter + lowered);
+        uint32_t answer = sundial_acts(&device, &acts) == SUNDIAL_DONE && acts ? sundial_commit(&device, counter) : SUNDIAL_NOT_ROOT;
+        if (made(answer, "commit"))
+            sundial_record_commit(&recorder, reference_of(raw), number, hardware_at(raw));
     } else if (strcmp(text, "seal") == 0) {
         if (made(sundial_seal(&device), "seal"))
             sundial_record_seal(&recorder, reference_of(raw), number);
@@ -623,7 +595,7 @@ static void obey(void)
     } else if (strcmp(text, "fix") == 0) {
         uint64_t clock = (uint64_t)((int64_t)reference_of(raw) + begin_off);
         if (made(sundial_fix(&device, counter, clock, begin_eps), "fix"))
-            sundial_record_fix(&recorder, reference_of(raw), number, counter + lowered, clock, begin_eps);
+            sundial_record_fix(&recorder, reference_of(raw), number, hardware_at(raw), clock, begin_eps);
     }
     keep();
     publish(raw);
@@ -680,7 +652,7 @@ static void read_line(char *line)
         name_of[1][n] = strcpy(names[1][n], word);
     else if (sscanf(line, "device %" SCNu32, &number) == 1)
         return;
-    else if (sscanf(line, "clock %" SCNu64 " %" SCNd32, &origin, &mapping.skew) == 2)
+    else if (sscanf(line, "clock %" SCNu64 " %" SCNd32, &mapping.raw, &mapping.skew) == 2)
         return;
     else if (sscanf(line, "go %" SCNu64, &go) == 1 || sscanf(line, "late %" SCNu64, &late_after) == 1)
         return;
@@ -700,11 +672,9 @@ static void read_line(char *line)
         return;
     else if (sscanf(line, "rebase %" SCNu64, &rebase_every) == 1)
         return;
-    else if (sscanf(line, "kept %127s %" SCNu64, word, &most_pause) == 2) {
-        state = open(word, O_RDWR | O_CREAT | O_CLOEXEC, 0600);
-        if (state < 0)
-            stop("no state");
-    } else if (sscanf(line, "control %99s", word) == 1)
+    else if (sscanf(line, "kept %127s %" SCNu64, state_path, &topology_tick) == 2)
+        snprintf(next_path, sizeof next_path, "%s.next", state_path);
+    else if (sscanf(line, "control %99s", word) == 1)
         open_control(word);
     else if (sscanf(line, "page %127s", word) == 1) {
         if (sundial_clock_create(word, &terms, &writer) != 0)
@@ -743,34 +713,32 @@ static void begin_anew(void)
         nanosleep(&rest, NULL);
     }
     uint64_t raw = moment(sundial_clock_raw());
-    ticked = rebased = mapping.raw = raw;
-    mapping.counter = 1000000 + (uint64_t)number * 1000;
     uint64_t clock = (uint64_t)((int64_t)reference_of(raw) + begin_off);
-    uint32_t answer = joins ? sundial_join(&device, &duties[0].rates, mapping.counter, clock, begin_eps)
-                            : sundial_start(&device, &duties[0], mapping.counter, clock, begin_eps);
+    ticked = hardware_at(raw);
+    uint32_t answer = joins ? sundial_join(&device, &duties[0].rates, ticked, clock, begin_eps)
+                            : sundial_start(&device, &duties[0], ticked, clock, begin_eps);
     if (!made(answer, "begin"))
         exit(1);
     for (uint32_t i = 0; i < link_count; i++)
         open_port(i, raw);
     keep();
     if (joins)
-        sundial_record_join(&recorder, reference_of(raw), number, mapping.counter, clock, begin_eps);
+        sundial_record_join(&recorder, reference_of(raw), number, ticked, clock, begin_eps);
     else
-        sundial_record_start(&recorder, reference_of(raw), number, mapping.counter, clock, begin_eps);
+        sundial_record_start(&recorder, reference_of(raw), number, ticked, clock, begin_eps);
     publish(raw);
 }
 
 static void begin(void)
 {
     watch_clock();
-    if (restore()) {
-        open_log("a");
-        rebased = latest;
-        tick();
-    } else {
-        open_log("w");
+    int goes_on = restore();
+    open_log(goes_on ? "a" : "w");
+    if (!goes_on)
         begin_anew();
-    }
+    rebased = latest_tick = latest;
+    if (goes_on)
+        tick();
 }
 
 static void serve(void)

@@ -717,7 +717,7 @@ static void mends_apart(const char *premise, uint64_t periods)
 
 static void mends(void)
 {
-    mends_apart("none", 3);
+    mends_apart("none", SUNDIAL_REPAIRS_APART / PERIOD);
 }
 
 static void mends_in_haste(void)

@@ -318,7 +318,8 @@ impl Device {
         done(unsafe { raw::sundial_give(&mut self.0, duty) })
     }
 
-    /// It takes up the given duty at once, as the root of the next plan. Faults: `CounterFell`,
+    /// It takes up the given duty at once, as the root of the next plan. Ask `acts` first: a device that
+    /// does not act, and was given the duty of a root, is not refused. Faults: `CounterFell`,
     /// `StampTooGreat`, `NotRoot`.
     pub fn commit(&mut self, counter: u64) -> Result<(), Fault> {
         done(unsafe { raw::sundial_commit(&mut self.0, counter) })

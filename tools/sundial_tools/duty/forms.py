@@ -11,6 +11,8 @@ from sundial_tools.topology import Topology
 # Where the duties are of one device alone, its tables have one dimension less.
 Text = Iterator[str]
 
+REPAIRS_APART = 3  # periods: docs/LIFE-OF-A-DEVICE.md, what a repair costs
+
 
 def c_header(topology: Topology, chapters: List[Chapter], device: Optional[int]) -> Text:
     yield "/* Made by sundial-duty, of a topology and its plans: change those, and make it anew. Times are in"
@@ -31,6 +33,8 @@ def c_header(topology: Topology, chapters: List[Chapter], device: Optional[int])
     yield ""
     yield "/* Two ticks of a device are at most this far apart. */"
     yield f"static const uint64_t SUNDIAL_TICK = UINT64_C({topology.tick});"
+    yield "/* Joins, mends and restores that are not within a tick of each other are at least this far apart. */"
+    yield f"static const uint64_t SUNDIAL_REPAIRS_APART = UINT64_C({REPAIRS_APART * topology.period});"
     yield ""
     yield "/* The names by number. */"
     yield from _names_in_c("SUNDIAL_DEVICE_NAMES", [it.name for it in topology.devices])
@@ -133,6 +137,8 @@ def rust(topology: Topology, chapters: List[Chapter], device: Optional[int]) -> 
         yield f"pub const THIS_DEVICE: u32 = {device};"
     yield "/// Two ticks of a device are at most this far apart, in ps."
     yield f"pub const TICK: u64 = {topology.tick};"
+    yield "/// Joins, mends and restores that are not within a tick of each other are at least this far apart, in ps."
+    yield f"pub const REPAIRS_APART: u64 = {REPAIRS_APART * topology.period};"
     for array, what, names in (
         ("DEVICE_NAMES", "devices", [it.name for it in topology.devices]), ("LINK_NAMES", "links", [it.name for it in topology.links])
     ):
@@ -179,6 +185,7 @@ def as_json(topology: Topology, chapters: List[Chapter], _: Optional[int]) -> Te
     made: Dict[str, Any] = {
         "version": 1,
         "tick": topology.tick,
+        "repairs_apart": REPAIRS_APART * topology.period,
         "devices": [it.name for it in topology.devices],
         "links": [it.name for it in topology.links],
         "plans": [
