@@ -31,11 +31,11 @@ use Rattle.sd_plan.proofs.Shared.{found_passes}
 use Rattle.sd_device.specs.Calls as calls
 use Rattle.sd_fleet.specs.Registers.{Registers}
 use Rattle.sd_fleet.specs.Sound.{IsSound}
-use Rattle.sd_fleet.specs.Causes.{refusal_in, causes_in, past_preparing_in}
+use Rattle.sd_fleet.specs.Causes.{refusal_in, past_preparing_in}
 use Rattle.sd_device.specs.Calls.{Call}
 use Rattle.sd_history.specs.Steps as steps
 use Rattle.sd_fleet.specs.Doing.{act_in, receipt, given_in}
-use Rattle.sd_fleet.proofs.Admitted.{none_holds, device_known, message_known, message_unspent, counter_rises, device_up, started_member, given_member}
+use Rattle.sd_fleet.proofs.Admitted.{clear, device_known, message_known, message_unspent, counter_rises, device_up, started_member, given_member}
 use Rattle.sd_fleet.specs.Calling.{IsNode, IsMessage, IsEstimate, CanCall}
 use Rattle.sd_fleet.specs.Nodes.{node_at, IsCallable, CanAct}
 use Rattle.sd_fleet.specs.Bounds.{given_at, context_of, IsKept, AreNodes}
@@ -177,7 +177,7 @@ commit_is r reference d counter accepted =
     let parts =
     commit_parts (past_preparing_in r) (not (is_open r.membership.world.window && nat_eq (root_numbered r.membership.plans (staged_number r.membership)) d))
     (not (holds_given r.membership (staged_number r.membership) d))
-    (none_holds (causes_in r (event.Commit reference d counter)) accepted).1.1.1.1.1.1.1.1.1.1.1.1.0
+    (clear r (event.Commit reference d counter) accepted).out_of_order
     in (
       not-false (is_open r.membership.world.window && nat_eq (root_numbered r.membership.plans (staged_number r.membership)) d) parts.0,
       not-false (holds_given r.membership (staged_number r.membership) d) parts.1,

@@ -12,7 +12,7 @@ use Rattle.sd_fleet.specs.Registers.{Registers}
 use Rattle.sd_fleet.specs.Causes.{Cause, first_of, causes_in, refusal_in, flight_at, is_for_another}
 use Rattle.sd_fleet.specs.Calm.{is_on_time}
 use Rattle.sd_fleet.specs.Sound.{IsSound}
-use Rattle.sd_fleet.proofs.Admitted.{NoneHolds, none_holds}
+use Rattle.sd_fleet.proofs.Admitted.{NoneHolds, clear}
 use Rattle.sd_fleet.proofs.Firsts.{behind}
 
 -- where no cause holds there is no first one
@@ -83,14 +83,13 @@ calm_tick r reference d counter sound admits = tick_accepted r reference d count
 pub as_tick : (r : Registers) (reference d counter message : ℕ) → refusal_in r (event.Recv reference d counter message) ≡ None
     → IsAdmitted r reference d counter
 as_tick r reference d counter message accepted =
-    let all : NoneHolds (causes_in r (event.Recv reference d counter message)) =
-    none_holds (causes_in r (event.Recv reference d counter message)) accepted in
+    let all = clear r (event.Recv reference d counter message) accepted in
     record {
-      known = all.0;
-      alive = all.1.1.0;
-      on_time = all.1.1.1.1.1.1.1.0;
-      rises = all.1.1.1.1.1.1.1.1.0;
-      up = all.1.1.1.1.1.1.1.1.1.0;
-      going = all.1.1.1.1.1.1.1.1.1.1.1.1.1.0;
-      left = all.1.1.1.1.1.1.1.1.1.1.1.1.1.1.1.1.0;
+      known = all.unknown;
+      alive = all.dead;
+      on_time = all.early;
+      rises = all.falls;
+      up = all.down;
+      going = all.over;
+      left = all.too_many;
     }

@@ -49,86 +49,14 @@ kept_open (Some x) s = refl
 pub same_outcome : (a b : Outcome) → a.report ≡ b.report → a.taken ≡ b.taken → a.first_sent ≡ b.first_sent → a.sent ≡ b.sent → a.activated ≡ b.activated
     → a.acted ≡ b.acted → a.closed ≡ b.closed → a.ended ≡ b.ended → a ≡ b
 same_outcome a b report taken first_sent sent activated acted closed ended =
-    ap (λ x. record {
-      report = x;
-      taken = a.taken;
-      first_sent = a.first_sent;
-      sent = a.sent;
-      activated = a.activated;
-      acted = a.acted;
-      closed = a.closed;
-      ended = a.ended;
-    }) report
-    ∙ ap (λ x. record {
-      report = b.report;
-      taken = x;
-      first_sent = a.first_sent;
-      sent = a.sent;
-      activated = a.activated;
-      acted = a.acted;
-      closed = a.closed;
-      ended = a.ended;
-    }) taken
-    ∙ ap (λ x. record {
-      report = b.report;
-      taken = b.taken;
-      first_sent = x;
-      sent = a.sent;
-      activated = a.activated;
-      acted = a.acted;
-      closed = a.closed;
-      ended = a.ended;
-    }) first_sent
-    ∙ ap (λ x. record {
-      report = b.report;
-      taken = b.taken;
-      first_sent = b.first_sent;
-      sent = x;
-      activated = a.activated;
-      acted = a.acted;
-      closed = a.closed;
-      ended = a.ended;
-    }) sent
-    ∙ ap (λ x. record {
-      report = b.report;
-      taken = b.taken;
-      first_sent = b.first_sent;
-      sent = b.sent;
-      activated = x;
-      acted = a.acted;
-      closed = a.closed;
-      ended = a.ended;
-    }) activated
-    ∙ ap (λ x. record {
-      report = b.report;
-      taken = b.taken;
-      first_sent = b.first_sent;
-      sent = b.sent;
-      activated = b.activated;
-      acted = x;
-      closed = a.closed;
-      ended = a.ended;
-    }) acted
-    ∙ ap (λ x. record {
-      report = b.report;
-      taken = b.taken;
-      first_sent = b.first_sent;
-      sent = b.sent;
-      activated = b.activated;
-      acted = b.acted;
-      closed = x;
-      ended = a.ended;
-    }) closed
-    ∙ ap (λ x. record {
-      report = b.report;
-      taken = b.taken;
-      first_sent = b.first_sent;
-      sent = b.sent;
-      activated = b.activated;
-      acted = b.acted;
-      closed = b.closed;
-      ended = x;
-    }) ended
+    ap (λ x. record a { report = x }) report
+    ∙ ap (λ x. record a { report = b.report; taken = x }) taken
+    ∙ ap (λ x. record a { report = b.report; taken = b.taken; first_sent = x }) first_sent
+    ∙ ap (λ x. record a { report = b.report; taken = b.taken; first_sent = b.first_sent; sent = x }) sent
+    ∙ ap (λ x. record b { activated = x; acted = a.acted; closed = a.closed; ended = a.ended }) activated
+    ∙ ap (λ x. record b { acted = x; closed = a.closed; ended = a.ended }) acted
+    ∙ ap (λ x. record b { closed = x; ended = a.ended }) closed
+    ∙ ap (λ x. record b { ended = x }) ended
 
 -- the flight that is received
 taken_is : (setting : Setting) (r : Registers) (steps : List Step) (stands : Stands r setting steps) (e : Event) → refusal_in r e ≡ None

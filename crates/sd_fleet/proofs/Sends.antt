@@ -1,6 +1,6 @@
 -- What an accepted event sends by what is kept is what the history says that its step sends.
-use Rattle.std.specs.Prelude.{◌≡◌, ℕ, ◌+◌, ◌*◌, ◌<◌, ◌&&◌, not, List, [], ◌∷◌, length, Option, Some, None, is_some, option_map, refl}
-use Rattle.std.proofs.Common.{sym, ◌∙◌, ap, subst}
+use Rattle.std.specs.Prelude.{◌≡◌, ℕ, ◌+◌, ◌*◌, ◌<◌, Bool, ◌&&◌, not, List, [], ◌∷◌, length, Option, Some, None, is_some, option_map, refl}
+use Rattle.std.proofs.Common.{sym, ◌∙◌, ap, ap₂, subst}
 use Rattle.sd_num.specs.Lists.{map_or}
 use Rattle.sd_plan.specs.topo.Network.{Network, delay_of}
 use Rattle.sd_plan.specs.declared.topo.Thing.TheVariants as thing
@@ -15,7 +15,7 @@ use Rattle.sd_history.specs.World.{Setting, Seen, link_has_failed, plan_numbered
 use Rattle.sd_history.specs.Steps.{Answers, Told, Step, seen_of, changed, act_by, flight_count, flight_to, flights_to, ends_at, flights_by, flights_of}
 use Rattle.sd_history.proofs.Among.{Among, first, later}
 use Rattle.sd_history.proofs.flights.Places.{IsBelow, ends_planned, ends_below as end_is_below}
-use Rattle.sd_world.specs.world.Registers.{up_at, failed_at}
+use Rattle.sd_world.specs.world.Registers.{failed_at}
 use Rattle.sd_world.specs.world.Standing as worlds
 use Rattle.sd_world.specs.declared.membership.AnswerSummary.{AnswerSummary}
 use Rattle.sd_world.specs.membership.Standing.{summary}
@@ -48,7 +48,7 @@ module _ (setting : Setting) (r : Registers) (steps : List Step) (stands : Stand
       let at : worlds.StandsAt r.membership.world seen e.device =
       stands.membership.world.devices e.device (subst (λ (k : ℕ). e.device < k) (sym stands.membership.world.device_count) known.1) in
       ap (λ net. flight_over net r.membership.world (sending reference d m) n e) stands.net
-      ∙ ap (λ b. record {
+      ∙ ap₂ (λ (a b : Bool). record {
         number = n;
         link = e.link;
         sender = d;
@@ -56,20 +56,9 @@ module _ (setting : Setting) (r : Registers) (steps : List Step) (stands : Stand
         sent_at = reference;
         due = reference + (delay_of setting.net e.link e.device).max;
         last = reference + 2 * (delay_of setting.net e.link e.device).max;
-        reaches = not b && up_at r.membership.world e.device;
+        reaches = not a && b;
         message = m;
-      }) link
-      ∙ ap (λ b. record {
-        number = n;
-        link = e.link;
-        sender = d;
-        receiver = e.device;
-        sent_at = reference;
-        due = reference + (delay_of setting.net e.link e.device).max;
-        last = reference + 2 * (delay_of setting.net e.link e.device).max;
-        reaches = not (link_has_failed seen e.link) && b;
-        message = m;
-      }) at.up
+      }) link at.up
 
   -- over all of them
   pub flights_over_is : (reference d : ℕ) (m : Message) (n : ℕ) (ends : List End) → AreKnown setting.net ends

@@ -12,12 +12,12 @@ use Rattle.sd_world.specs.world.Registers.{is_open, up_at}
 use Rattle.sd_world.specs.membership.Memberships.{live_at}
 use Rattle.sd_fleet.specs.declared.messages.Sent.{Sent}
 use Rattle.sd_fleet.specs.Registers.{Registers}
-use Rattle.sd_fleet.specs.Causes.{causes_in, refusal_in, flight_at}
+use Rattle.sd_fleet.specs.Causes.{refusal_in, flight_at}
 use Rattle.sd_fleet.specs.Calm.{is_on_time}
 use Rattle.sd_fleet.specs.Doing.{replied}
 use Rattle.sd_fleet.specs.Stepping.{outcome_in}
 use Rattle.sd_fleet.specs.Keeping.{SendsTo, outcome_keeping}
-use Rattle.sd_fleet.proofs.Admitted.{NoneHolds, none_holds}
+use Rattle.sd_fleet.proofs.Admitted.{clear}
 use Rattle.sd_fleet.proofs.Calm.{receipt_accepted}
 use Rattle.sd_fleet.proofs.Outcoming.{same_outcome}
 use Rattle.sd_fleet.proofs.Steady.{stays_shut, nobody_enters}
@@ -26,16 +26,16 @@ use Rattle.sd_fleet.proofs.Steady.{stays_shut, nobody_enters}
 pub heard_accepted : (r : Registers) (reference d counter message : ℕ) → refusal_in r (event.Tick reference d counter) ≡ None
     → is_on_time reference d (flight_at r message) ≡ true → refusal_in r (event.Recv reference d counter message) ≡ None
 heard_accepted r reference d counter message accepted timed =
-    let all : NoneHolds (causes_in r (event.Tick reference d counter)) = none_holds (causes_in r (event.Tick reference d counter)) accepted in
+    let all = clear r (event.Tick reference d counter) accepted in
     receipt_accepted r reference d counter message
     (record {
-      known = all.0;
-      alive = all.1.1.0;
-      on_time = all.1.1.1.1.1.1.1.0;
-      rises = all.1.1.1.1.1.1.1.1.0;
-      up = all.1.1.1.1.1.1.1.1.1.0;
-      going = all.1.1.1.1.1.1.1.1.1.1.1.1.1.0;
-      left = all.1.1.1.1.1.1.1.1.1.1.1.1.1.1.1.1.0;
+      known = all.unknown;
+      alive = all.dead;
+      on_time = all.early;
+      rises = all.falls;
+      up = all.down;
+      going = all.over;
+      left = all.too_many;
     })
     timed
 
@@ -47,9 +47,8 @@ following epoch = record { parent = None; acts = false; sealed = false; epoch = 
 pub epoch_is : (r : Registers) (reference d counter : ℕ) (a : AnswerSummary) → refusal_in r (event.Tick reference d counter) ≡ None
     → at_place r.membership.answers d None (λ x. x) ≡ Some a → map_or (live_at r.membership d) 0 (λ x. x.epoch) ≡ a.epoch
 epoch_is r reference d counter a accepted at =
-    let all : NoneHolds (causes_in r (event.Tick reference d counter)) = none_holds (causes_in r (event.Tick reference d counter)) accepted in
     ap (λ b. map_or (if b then at_place r.membership.answers d None (λ (x : _). x) else None) 0 (λ (x : AnswerSummary). x.epoch))
-    (not-false (up_at r.membership.world d) all.1.1.1.1.1.1.1.1.1.0)
+    (not-false (up_at r.membership.world d) (clear r (event.Tick reference d counter) accepted).down)
     ∙ ap (λ o. map_or o 0 (λ (x : AnswerSummary). x.epoch)) at
 
 module _ (r new : Registers) (reference d counter : ℕ) (effect : Effect) (a : AnswerSummary) (sent : Sent)

@@ -5,8 +5,8 @@
 --
 -- `Moments`: `IsChronicle` lists of steps, their tails, and a `Moment`, an event with the steps
 -- before it. Induction on such a list is structural. `Traces`: `Hop`, `Trace` and `Chain`.
--- `Stamping`: the order of stamps. `Rounds`: what a whole way, a ready device and a spaced round
--- are. A way is a list of ends (link, device); its source is named apart.
+-- `Stamping`: the order of stamps. `Rounds`: ways that are open to a round, and spaced
+-- emissions. A way is a list of ends (link, device); its source is named apart.
 --
 -- # Where the lemmas are
 --
@@ -30,7 +30,7 @@
 --   not spoiled, and this is no later than the due.
 -- - A device sends one flight over a link, to its first follower there. So 11 asks that the receiver
 --   is the only one that follows over the link.
--- Lemmas 8 to 12: traces, stamps, no overlap, flow, and K + 1 rounds.
+-- Lemmas 8 to 12: traces, stamps, flow, and K + 1 rounds.
 pub mod Tails
 pub mod Sending
 pub mod Flights

@@ -63,9 +63,9 @@
 //! | 10 | no overlap: a round is received before the next of its term is emitted | `messages` |
 //! | 11 | flow: a round that is not spoiled comes along a whole way | `messages` |
 //! | 12 | of K + 1 rounds one is not spoiled; feeding: a device along a whole way from an acting one hears within A + m * D | `messages`, `silences` |
-//! | 13 | while the root lives, a device with a whole path hears | `silences`; in all eras `spans` |
+//! | 13 | while the root lives, a device with a whole path hears | `spans` |
 //! | 14 | a device behind the backup root that is not hit is silent for less than its wait | `behind` from `paths`, `feeds`, `takeovers`, `stragglers`, `commits` |
-//! | 15 | while the root lives, the backup root on its backup hears | `silences`; in all eras `spans` |
+//! | 15 | while the root lives, the backup root on its backup hears | `spans` |
 //! | 16 | where the root failed, the backup root acts soon | `behind`; what it heard `traced`, `fallbacks` |
 //! | 17 | a device beside the backup root that is not hit otherwise is silent for less than its wait | `behind`, `fallbacks` |
 //! | 18 | after a commit each member of the staged plan enters within A + H * D, and goes on hearing | `entering` |
