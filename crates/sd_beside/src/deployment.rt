@@ -16,7 +16,8 @@
 //!
 //! Structs may be of any kind. `Holds` says which registers a struct holds: of the struct of the C
 //! library it is `Holds` of sd_device_c. No crate may list a static library, so this one does not
-//! name it. What is asked of an export is its contract, by the same definitions (sd_exports).
+//! name it. What is asked of an export is its contract, by the same definitions (sd_exports): of a
+//! port too, `ComesLater`.
 //!
 //! # The results
 //!
@@ -28,10 +29,10 @@
 //! | `fleet_stays_below` | no report is above its number of the drill | `Fleets` |
 //! | `fleet_hears_again` | all hear again after a failure | `Fleets` |
 //! | `call_stands`, `rebase_stands`, `restore_stands` | a struct stands for the life of its device: one step of each | `Steps` |
-//! | `open_port_delivers` | what was sent after a port was opened reaches the device | `Ports` |
+//! | `open_port_delivers` | what an open port takes was sent while its link and its device worked | `Ports` |
 //! | `counts_once` | after a receipt that counts no later one of the same message does | `Receipts` |
 //! | `others_change_nothing` | a receipt that does not count changes nothing | `Receipts` |
-//! | `is_witness` | a run with a failure, a takeover, rebases and a renewal that breaks no premise | `Witness` |
+//! | `is_witness` | runs with failures, takeovers, rebases and renewals that break no premise, one with the failure after the renewal | `Witness` |
 //!
 //! The statements are in specs/: `Laws`, `Steps`, `Ports`, `Receipts`, `Witness`. The premises of
 //! the second to the fifth are those of histories, of the run's own steps or events.

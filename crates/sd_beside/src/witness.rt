@@ -25,6 +25,12 @@
 //!   root is fixed, and a renewal mends the link, lets a device join and closes at line 357
 //!   (`IsMended`). Its texts are no files of an example: specs/mended/Texts has them.
 //!
+//! - `after_renewal` (proofs/after_renewal/Hit): a fourth history, over the network and plans of
+//!   `mended`. The renewal closes at line 38, and a device reports. The root fails at line 40, the
+//!   backup root acts after line 128, and the device moves and reports at line 324. Each lemma on
+//!   renewed plans applies: those without a failure at line 39, the others at line 324
+//!   (`IsAfterRenewal`).
+//!
 //! - `fifth_is_needed` (proofs/straggler/Looped): a plan that breaks the fifth rule of timing and no
 //!   other condition, with a history of 489 events that breaks no premise and ends with a loop
 //!   (`FifthIsNeeded`). The plans are those of examples/needed/straggler.

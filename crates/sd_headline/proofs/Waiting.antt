@@ -9,7 +9,7 @@ use Rattle.sd_sched.specs.Lines.{fields}
 use Rattle.sd_replay.specs.wait.Waits.{WaitLine, Ended, Disorder, Begin, stamp_of, stamp_at, line_at, is_disorder as shows_disorder, ended_at, worst_disorder, lines_at, has_disorder}
 use Rattle.sd_replay.specs.wait.Printed.{words_of, bytes_at}
 use Rattle.sd_headline.specs.Words.{is_plain}
-use Rattle.sd_headline.specs.Headlines.{is_alarm, is_interval_alarm, is_broken, is_dishonest, is_disorder}
+use Rattle.sd_headline.specs.Headlines.{is_alarm, is_interval_alarm, is_dishonest, is_disorder}
 use Rattle.sd_headline.proofs.Behind.{count-append, count-cons}
 use Rattle.sd_headline.proofs.Numbers.{decimal_plain}
 use Rattle.sd_headline.proofs.Texts.{AreLines, words_are_fields, plain_one_line, texts_are_lines}
@@ -46,14 +46,6 @@ module _ (name : List ℕ) (plain : is_plain name ≡ true) where
 
   pub no_interval : (line : WaitLine) → is_interval_alarm (printed_wait name line) ≡ false
   no_interval line = ap (λ b. b && word_is 2 (codes "interval") (fields (printed_wait name line))) (no_alarm line)
-
-  pub not_broken : (line : WaitLine) → is_broken (printed_wait name line) ≡ false
-  not_broken line = ap (word_is 0 (codes "broken")) (fields_are line) ∙ by line
-    where
-      by : (line : WaitLine) → word_is 0 (codes "broken") (words_of name line) ≡ false
-      by (Ended line begin) = refl
-      by (Disorder line begin) = refl
-      by (Begin line device stamp) = refl
 
   pub not_dishonest : (line : WaitLine) → is_dishonest (printed_wait name line) ≡ false
   not_dishonest line = ap says_dishonest (fields_are line) ∙ by line

@@ -33,7 +33,7 @@ use Rattle.sd_beside.proofs.witness.Histories.{are_accepted, is_history}
 use Rattle.sd_beside.proofs.witness.Read.{is_network, first_fits}
 use Rattle.sd_beside.proofs.witness.Renewed.{first_accepted}
 
-abbrev fault : DomainId
+abbrev pub fault : DomainId
 fault = domain.Device 0
 
 abbrev pub under : Setting

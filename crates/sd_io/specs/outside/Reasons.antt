@@ -26,9 +26,9 @@ pub record GivesAfter {S : Type 0} (fails : S → Error → S → Type 0) (gives
   pub given : gives last new
 
 -- the file that is open is one that the system opened by a call on this name
-abbrev pub IsOpened : {S F : Type 0} → (S → List ℕ → Error → S → Type 0) → (S → List ℕ → F → S → Type 0) → List ℕ → S → Option F → S → Type 0
-IsOpened refuses opens name old None new = ⊥
-IsOpened refuses opens name old (Some file) new = GivesAfter (λ a e b. refuses a name e b) (λ a b. opens a name file b) old new
+abbrev pub IsFileNamed : {S F : Type 0} → (S → List ℕ → Error → S → Type 0) → (S → List ℕ → F → S → Type 0) → List ℕ → S → Option F → S → Type 0
+IsFileNamed refuses opens name old None new = ⊥
+IsFileNamed refuses opens name old (Some file) new = GivesAfter (λ a e b. refuses a name e b) (λ a b. opens a name file b) old new
 
 -- why a write failed: the system's reason, or that it took no byte
 abbrev pub IsReasonOf : Result ℕ Error → Error → Type 0

@@ -4,7 +4,7 @@ ghost use Rattle.std.specs.Prelude.{◌≡◌, ◌<◌, ◌≤◌, ◌↔◌, le
 ghost use Rattle.std.specs.IoError.{error_kind};
 ghost use Rattle.std.specs.Io.{ReadsAtMost};
 ghost use Rattle.std.specs.Io.KnownBytes.{Appends, ReadConsumes, WriteAppends};
-ghost use Rattle.sd_io.specs.outside.Reasons.{FailsFor, IsOpened, WriteFails, WriteFailsFor};
+ghost use Rattle.sd_io.specs.outside.Reasons.{FailsFor, IsFileNamed, WriteFails, WriteFailsFor};
 ghost use Rattle.sd_io.specs.outside.Prefixes.{WritesPrefix};
 
 use crate::outside::system::{SystemFile, SystemFiles, SystemWriter};
@@ -22,7 +22,7 @@ fn is_interrupted(error: &io::Error) -> bool
 #[tactic(auto, using(crate::proofs::outside::Reasons::interruptions_more, crate::proofs::outside::Reasons::fails_at_once, crate::proofs::outside::Reasons::fails_at_last, crate::proofs::outside::Reasons::gives_after))]
 pub(crate) fn open_file<F: SystemFiles>(files: &mut F, name: &str) -> io::Result<F::File>
     ensures opened { IfOk result
-        (λ file. IsOpened F.refuses F.opens name.now files.old (Some file) files.new) }
+        (λ file. IsFileNamed F.refuses F.opens name.now files.old (Some file) files.new) }
     ensures reason { IfErr result (λ reason. FailsFor
         (λ old e new. F.refuses old name.now e new) files.old reason files.new) }
 {

@@ -4,7 +4,7 @@ ghost use Rattle.std.specs.Io.{ReadsAtMost};
 ghost use Rattle.std.specs.Io.KnownBytes.{ReadConsumes, IsAtEnd};
 ghost use Rattle.sd_io.specs.outside.Causes.{HasCause, raised};
 ghost use Rattle.sd_io.specs.outside.Counts.{faults_after};
-ghost use Rattle.sd_io.specs.outside.Reasons.{FailsFor, FileFails, IsOpened};
+ghost use Rattle.sd_io.specs.outside.Reasons.{FailsFor, FileFails, IsFileNamed};
 ghost use Rattle.sd_io.specs.outside.LastFaults.{KeepsFault};
 ghost use Rattle.sd_io.specs.outside.Rests.{RestIs};
 
@@ -114,7 +114,7 @@ impl<F: SystemFiles> Shelf for FileShelf<F> {
         ensures faults { self.new.faults ≡ faults_after self.old.faults result }
         ensures begins { self.new.begins ≡ raised self.old.begins }
         // The file that is read from here on is one that the system opened by this name.
-        ensures opened { OnOk result (IsOpened F.refuses F.opens name.now
+        ensures opened { OnOk result (IsFileNamed F.refuses F.opens name.now
             self.old.files self.new.file self.new.files) }
         ensures last_fault { KeepsFault
             (λ reason. FailsFor (λ old e new. F.refuses old name.now e new)

@@ -1,9 +1,8 @@
--- Each lemma on plans that a renewal brought in applies to the fourth witness: the renewal closes, the root fails, the backup root takes over, and all hear again.
+-- Each lemma on plans that a renewal brought in applies to the fourth witness: the renewal closes, the root fails, the backup root takes over, and all hear
+-- again.
 use Rattle.std.specs.Prelude.{◌≡◌, ◌+◌, ◌-◌, ◌<◌, ◌≤◌, Bool, true, false, List, ◌∷◌, length, Some, IsTrue, refl}
 use Rattle.std.proofs.Common.{subst, sym}
 use Rattle.std.proofs.lemmas.Bool.{leb-true, ltb-true}
-use Rattle.sd_plan.specs.declared.domain.DomainId.{DomainId}
-use Rattle.sd_plan.specs.declared.domain.DomainId.TheVariants as domain
 use Rattle.sd_plan.specs.declared.Plan.{Plan}
 use Rattle.sd_plan.specs.topo.Network.{rates_of}
 use Rattle.sd_drill.specs.recovery.Walks.{halves}
@@ -38,6 +37,7 @@ use Rattle.sd_beside.specs.witness.after_renewal.Witness.{after, seen, asked, Me
 use Rattle.sd_beside.proofs.witness.Accepting.{fed_by}
 use Rattle.sd_beside.proofs.witness.Greatest.{one_greatest, oldest_at}
 use Rattle.sd_beside.proofs.witness.Histories.{are_accepted, is_history}
+use Rattle.sd_beside.proofs.witness.Recovered.{fault}
 use Rattle.sd_beside.proofs.witness.mended.Mended.{fair, mended}
 use Rattle.sd_beside.proofs.witness.mended.Read.{second_fits}
 
@@ -120,9 +120,6 @@ ages =
     }
 
 -- After it
-
-abbrev fault : DomainId
-fault = domain.Device 0
 
 steady_after : IsSteady setting (asked ∷ first_events 323)
 unfolding events

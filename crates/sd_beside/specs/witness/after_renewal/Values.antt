@@ -1,5 +1,5 @@
--- The events of the fourth witness, over the network and the plans of the second. The renewal comes first. Then the root fails, the backup root takes over, and the
--- other two devices move to it.
+-- The events of the fourth witness, over the network and the plans of the second. The renewal comes first. Then the root fails, the backup root takes over,
+-- and the other two devices move to it.
 use Rattle.std.specs.Prelude.{ℕ, List, [], ◌∷◌, reverse, take}
 use Rattle.sd_sched.specs.declared.Event.{Event}
 use Rattle.sd_sched.specs.declared.Event.TheVariants.{Start, Tick, Recv, FailDevice, Fix, Ask, Stage, Give, Commit, Seal, Join}
