@@ -3,7 +3,9 @@ mod Neighbours
 mod Rings
 mod Periods
 mod Counting
-mod Few
+mod Searches
+mod BridgeCounts
+mod Needed
 mod Judging
 mod Words
 pub mod Laws
