@@ -1,12 +1,11 @@
 -- Numbers that differ are counted: pairs of lists, and what a list is mapped to.
-use Rattle.std.proofs.Common.{◌≡◌, ℕ, zero, suc, ◌+◌, ◌≤◌, ◌<◌, Bool, true, false, not, ◌||◌, List, [], ◌∷◌, ◌++◌, length, map, filter, nat_eq, cond, get_or, Some, slice_get, refl, sym, ap, ◌∙◌, subst, arith, inl, inr}
-use Rattle.std.proofs.lemmas.Bool.{both_ways, eq-eqb, eqb-true, false_from_ne_true, not-true, not-false, or_cases, or_left, or_right, ne_eqb}
+use Rattle.std.proofs.Common.{◌≡◌, ℕ, suc, ◌+◌, ◌≤◌, ◌<◌, Bool, true, false, not, ◌||◌, List, [], ◌∷◌, length, map, filter, nat_eq, cond, get_or, Some, slice_get, refl, sym, ap, ◌∙◌, subst, arith, inl, inr}
+use Rattle.std.proofs.lemmas.Bool.{both_ways, eq-eqb, eqb-true, false_from_ne_true, not-true, or_cases, or_left, or_right}
 use Rattle.std.proofs.lemmas.Option.{same_Some, slice_get-get_or, slice_get_within}
 use Rattle.sd_num.specs.Lists.{ascends, has}
 use Rattle.sd_num.proofs.Ascending.{first_below, tail_ascends}
 use Rattle.sd_num.proofs.Distinct.{AreDistinct}
 use Rattle.sd_num.proofs.Places.{at_has, kept_from, kept_parts}
-use Rattle.sd_planner.proofs.Lists.{apart_filter}
 
 -- what a mapped list has
 pub map_has : (f : ℕ → ℕ) (xs : List ℕ) (y : ℕ) → has (map f xs) y ≡ true → (x : ℕ) × (has xs x ≡ true) × (y ≡ f x)
@@ -82,7 +81,7 @@ pub no_more : (xs ys : List ℕ) → AreDistinct xs → ((x : ℕ) → has xs x 
 no_more [] ys apart among = omega arith
 no_more (x ∷ xs) ys apart among =
     let rest : length xs ≤ length (but x ys) = no_more xs (but x ys) apart.1 (λ y there.
-        kept_from (λ y. not (nat_eq x y)) ys y (other y there) (among y (or_right (nat_eq y x) (has xs y) there))) in
+    kept_from (λ y. not (nat_eq x y)) ys y (other y there) (among y (or_right (nat_eq y x) (has xs y) there))) in
     let less = but_less x ys (among x (or_left (nat_eq x x) (has xs x) (eq-eqb x x refl))) in
     omega (arith, rest, less)
   where
@@ -102,6 +101,5 @@ ascending_apart (x ∷ xs) up = (
   ascending_apart xs (tail_ascends x xs up),
 )
   where
-
     below_itself : (j : ℕ) → slice_get xs j ≡ Some (get_or xs j 0) → slice_get xs j ≡ Some x → x < get_or xs j 0 → ⊥
     below_itself j at is less = (let same = same_Some (get_or xs j 0) x (sym at ∙ is) in omega (arith, same, less))

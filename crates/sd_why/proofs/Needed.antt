@@ -1,12 +1,11 @@
 -- How many links a plan needs: two for each device but some, and a backup link serves two devices at most.
 use Rattle.std.proofs.Common.{◌≡◌, ℕ, zero, suc, ◌+◌, ◌*◌, ◌-◌, ◌/◌, ◌<◌, ◌≤◌, ◌⊎◌, inl, inr, Bool, true, false, ◌&&◌, ◌||◌, not, if◌then◌else◌, List, [], ◌∷◌, ◌++◌, length, map, filter, find, nat_eq, Option, Some, None, option_map, refl, sym, ap, ◌∙◌, subst, arith, slice_get, length-append}
-use Rattle.std.specs.List.{list_any}
 use Rattle.std.specs.Option.{option_or}
-use Rattle.std.proofs.lemmas.Bool.{and_from, and_parts, both_ways, cases_Bool, cases_eq, eq-eqb, eqb-true, false_from_ne_true, ne_eqb, not-false, not-true, or_cases, or_left, or_right}
+use Rattle.std.proofs.lemmas.Bool.{and_from, and_parts, both_ways, eq-eqb, eqb-true, false_from_ne_true, not-false, not-true, or_cases, or_left, or_right}
 use Rattle.std.proofs.lemmas.List.{length-map}
 use Rattle.std.proofs.lemmas.List.Filters.{length-filter_both}
 use Rattle.std.proofs.lemmas.Option.{same_Some}
-use Rattle.sd_num.specs.Lists.{ascends, below, has, map_or}
+use Rattle.sd_num.specs.Lists.{below, has, map_or}
 use Rattle.sd_num.proofs.Distinct.{AreDistinct, few}
 use Rattle.sd_num.proofs.Places.{below_has, kept_parts}
 use Rattle.sd_plan.specs.topo.Network.{Each, Network, device_numbers, joins, link_of}
@@ -18,9 +17,9 @@ use Rattle.sd_plan.specs.declared.Absent.{Absent}
 use Rattle.sd_plan.specs.declared.Hop.{Hop}
 use Rattle.sd_plan.specs.declared.Plan.{Plan}
 use Rattle.sd_plan.specs.declared.PlanRow.{PlanRow}
-use Rattle.sd_plan.specs.Plans.{IsHop, IsRow, backup_of, has_backup, has_row, is_backup_root, is_member, is_present, is_root, primary_of, row_of}
-use Rattle.sd_plan.specs.Structure.{ancestor_breach, falls_back, first_failing, hop_is_right, hops_are_right, is_no_ancestor, links_differ, reaches_root, roots_breach, row_is_right, structure_breach}
-use Rattle.sd_plan.specs.Walks.{devices_of, ends_walks, hops, is_hit, on_walk, short_walk, things_of, walk}
+use Rattle.sd_plan.specs.Plans.{IsHop, IsRow, backup_of, has_backup, is_backup_root, is_member, is_present, is_root, primary_of}
+use Rattle.sd_plan.specs.Structure.{falls_back, first_failing, hop_is_right, hops_are_right, is_no_ancestor, links_differ, reaches_root, roots_breach, row_is_right, structure_breach}
+use Rattle.sd_plan.specs.Walks.{devices_of, ends_walks, hops, is_hit, on_walk, short_walk, things_of}
 use Rattle.sd_plan.specs.IndexedPlan.{goes_over}
 use Rattle.sd_plan.proofs.Forest.{IsForest, IsStep, forest_of, height_most, on_itself, on_up, one_over_link}
 use Rattle.sd_plan.proofs.Numbered.{both_none, length-below, none_found}
@@ -113,7 +112,6 @@ keeps_backups net plan structured =
     kept rule keeps d none within =
         not-false (keeps d)
         (none_found (λ x. not (keeps x)) (length net.devices) d (none_mapped (λ x. (rule, x)) (find (λ x. not (keeps x)) (device_numbers net)) none) within)
-
 
 -- the backup hop of a row names a device and a link that there are
 backup_within : (net : Network) (plan : Plan) (d : ℕ) (hop : Hop) → Each (IsRow net) plan.rows → backup_of plan d ≡ Some hop → IsHop net hop

@@ -1,15 +1,15 @@
 -- A search over links other than one meets what these join to the first device, and so tells whether the one is a bridge.
-use Rattle.std.proofs.Common.{◌≡◌, ℕ, zero, suc, ◌+◌, ◌<◌, ◌≤◌, ◌⊎◌, inl, inr, Bool, true, false, not, List, [], ◌∷◌, ◌++◌, length, find, nat_eq, if◌then◌else◌, Option, Some, None, refl, sym, ap, ◌∙◌, subst, arith, slice_get, get_or, length-append}
+use Rattle.std.proofs.Common.{◌≡◌, ℕ, ◌+◌, ◌<◌, ◌≤◌, inl, inr, Bool, true, false, not, List, [], ◌∷◌, ◌++◌, length, find, nat_eq, if◌then◌else◌, Option, Some, None, refl, sym, ap, ◌∙◌, subst, arith, slice_get, get_or, length-append}
 use Rattle.std.specs.Cmp.{nat_eq_equiv}
 use Rattle.std.specs.List.{IsDistinct}
-use Rattle.std.proofs.lemmas.Bool.{both_ways, cases_Bool, cases_lt, eq-eqb, eqb-true, false_from_ne_true, not-false, not-true, or_cases, or_left}
+use Rattle.std.proofs.lemmas.Bool.{both_ways, cases_Bool, cases_lt, eq-eqb, eqb-true, false_from_ne_true, not-false, not-true, or_cases}
 use Rattle.std.proofs.lemmas.Map.Keys.{IsDistinct-push}
 use Rattle.std.proofs.lemmas.Map.Steps.{le-length_from_below, length-le_from_distinct_below}
 use Rattle.std.proofs.lemmas.Option.{same_Some, slice_get-get_or, slice_get_within}
 use Rattle.sd_num.specs.Lists.{below, has}
 use Rattle.sd_num.proofs.Places.{at_before, at_has, has_at, has_before, has_cases, has_last}
-use Rattle.sd_plan.specs.topo.Network.{Network, joins}
-use Rattle.sd_plan.specs.topo.Joined.{Joined, here, over}
+use Rattle.sd_plan.specs.topo.Network.{Network}
+use Rattle.sd_plan.specs.topo.Joined.{here, over}
 use Rattle.sd_plan.specs.topo.Limits.{IsNetwork}
 use Rattle.sd_plan.specs.domain.NumberSets.{with_number}
 use Rattle.sd_plan.specs.Plans.{nothing_absent}
@@ -125,8 +125,8 @@ module _ (net : Network) (l : ℕ) where
           neighbour_at net absent d e none within (record { link = beside.over; within = beside.within; joined = beside.joined }) in
           let there : slice_get neighbours k ≡ Some neighbour = subst (λ (xs : List Neighbour). slice_get xs k ≡ Some neighbour) (sym are) at in
           let differs : nat_eq neighbour.link l ≡ false = false_from_ne_true (nat_eq neighbour.link l) (λ same.
-              both_ways (nat_eq l beside.over) (not-true (nat_eq l beside.over) beside.other)
-              (eq-eqb l beside.over (sym (eqb-true neighbour.link l same) ∙ goes))) in
+          both_ways (nat_eq l beside.over) (not-true (nat_eq l beside.over) beside.other)
+          (eq-eqb l beside.over (sym (eqb-true neighbour.link l same) ∙ goes))) in
           subst (λ x. has new x ≡ true) leads (around.met k neighbour (omega (arith, slice_get_within neighbours k neighbour there, done)) there differs)
 
   -- The search

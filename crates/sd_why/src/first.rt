@@ -7,7 +7,9 @@ ghost use Rattle.sd_why.specs.Kinds as kind;
 ghost use Rattle.sd_why.specs.Reasons.{FindsBefore, IsWhy, NoneBefore};
 ghost use Rattle.sd_why.specs.Plans.{HasNoPlanOfCandidates};
 
-use crate::{Reason, apart_device, deep_from_all, few_candidates, few_links, shared_domain, short_period};
+use crate::{
+    Reason, apart_device, deep_from_all, few_candidates, few_links, shared_domain, short_period,
+};
 use sd_num::NoMemory;
 use sd_plan::topo::Topology;
 use sd_plan::{Absent, DeviceList};

@@ -1,4 +1,4 @@
-use Rattle.std.proofs.Common.{◌≡◌, ◌+◌, ◌∙◌, sym, subst, arith}
+use Rattle.std.proofs.Common.{◌+◌, ◌∙◌, sym, subst, arith}
 use Rattle.sd_planner.specs.Views.{net_of}
 use Rattle.sd_why.specs.Bridges.{CountsBelow}
 use Rattle.sd_why.proofs.BridgeCounts.{counts_more, counts_same}
