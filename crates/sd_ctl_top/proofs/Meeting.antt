@@ -2,9 +2,9 @@
 use Rattle.std.proofs.Common.{◌≡◌, ℕ, ◌∙◌, false, List, Option, Some, None, Result, Ok, Err, ap, arith, refl, sym, subst}
 use Rattle.std.specs.Prelude.{IfSome, IsTrue}
 use Rattle.sd_io.specs.outside.Causes.{RisesFor}
-use Rattle.sd_io.specs.outside.Pieces.{Pieces, piece_of}
+use Rattle.sd_io.specs.outside.Pieces.{Pieces}
 use Rattle.sd_drill_text.proofs.Commands.{leaves_written}
-use Rattle.sd_files.proofs.work.Leaving.{at_once, leaves_once}
+use Rattle.sd_files.proofs.work.Leaving.{leaves_once}
 use Rattle.sd_files.specs.Answering.{Allowed, AtOnce, InWrites}
 use Rattle.sd_files.specs.Statuses.{is_among, stop_of}
 use Rattle.sd_files.specs.Stops.{status_of}

@@ -1,5 +1,5 @@
 -- What is told of a reason is what may be written, and a reason means that there is no plan.
-use Rattle.std.proofs.Common.{◌≡◌, Option, Result, Some, Ok, Err}
+use Rattle.std.proofs.Common.{◌≡◌, Option, Result, Ok, Err}
 use Rattle.std.specs.Prelude.{IfErr, IfOk}
 use Rattle.sd_plan.specs.topo.Network.{Network}
 use Rattle.sd_files.specs.Writes.{IsAllowed}

@@ -6,7 +6,7 @@ use Rattle.sd_ctl_top.specs.Findings.{IsRenewing, IsSearch}
 use Rattle.sd_ctl_top.specs.Parsed.{named}
 use Rattle.sd_ctl_top.specs.Reasons.{IsReasoning}
 use Rattle.sd_ctl_top.specs.Words.{command_of, names_of}
-use Rattle.sd_ctl_top.specs.Words.Command.{Search, Renew, Why, Bounds, Resume, Record, Merge, Version}
+use Rattle.sd_ctl_top.specs.Words.Command.{Search, Renew, Why, Bounds, Resume, Record, Merge}
 use Rattle.sd_ctl_top.specs.declared.words.Command.{Command as Parsed}
 use Rattle.sd_ctl_top.proofs.Meeting.{made_once, meets, usage_meets, version_meets}
 use Rattle.sd_ctl_top.proofs.Served.{end_served, first_served, inner_served, last_served, middle_served, name_served, second_served, third_served}

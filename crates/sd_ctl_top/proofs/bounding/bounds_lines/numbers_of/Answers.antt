@@ -1,4 +1,4 @@
-use Rattle.std.proofs.Common.{◌∙◌, sym}
+use Rattle.std.proofs.Common.{sym}
 use Rattle.sd_drill.proofs.Shared.{bound_is}
 use Rattle.sd_ctl_top.proofs.bounding.bounds_lines.numbers_of.Goals as goal
 
