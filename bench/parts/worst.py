@@ -10,6 +10,7 @@ from .measuring import BenchFault, Command, run_once
 from .tables import Row, count
 
 BASE, HOLD = "800000", "3000000000"
+APART = "each listed domain takes the network apart"
 Words = Tuple[str, ...]
 
 
@@ -165,12 +166,12 @@ def halved(bench: Bench, devices: int) -> Words:
 
 def plan_rows(bench: Bench) -> List[Row]:
     """Checks of a plan whose devices are hit by each listed domain: half of them turn elsewhere, and half are cut off."""
-    devices, apart = bench.count(4096, 64), "each listed domain takes the network apart"
+    devices = bench.count(4096, 64)
     absent = bench.file("absent_y0", ['{"absent_devices":["y0"],"absent_links":[]}\n'])
     return [
-        beside_half(bench, f"`check`, {apart}", "devices", devices, lambda number: ("check", *halved(bench, number))),
-        beside_half(bench, f"`plan`, {apart}", "devices", devices, lambda number: ("plan", halved(bench, number)[0]), 1),
-        beside_half(bench, f"`renew`, {apart}", "devices", devices,
+        beside_half(bench, f"`check`, {APART}", "devices", devices, lambda number: ("check", *halved(bench, number))),
+        beside_half(bench, f"`plan`, {APART}", "devices", devices, lambda number: ("plan", halved(bench, number)[0]), 1),
+        beside_half(bench, f"`renew`, {APART}", "devices", devices,
                     lambda number: ("renew", *halved(bench, number), absent), 1),
     ]
 
@@ -178,11 +179,12 @@ def plan_rows(bench: Bench) -> List[Row]:
 def drill_rows(bench: Bench) -> List[Row]:
     """The numbers of such a network."""
     devices, other = bench.count(1024, 64), "half of it, with a quarter of the lines"
-    return [
-        beside_half(bench, f"`{command}`, each listed domain takes the network apart", "devices", devices,
-                    lambda number, command=command: (command, *halved(bench, number), BASE, HOLD), 0, program, other)
-        for command, program in (("drill", "sundial"), ("bounds", "sundialctl"))
-    ]
+
+    def row(command: str, program: str) -> Row:
+        return beside_half(bench, f"`{command}`, {APART}", "devices", devices,
+                           lambda number: (command, *halved(bench, number), BASE, HOLD), 0, program, other)
+
+    return [row("drill", "sundial"), row("bounds", "sundialctl")]
 
 
 def line_rows(bench: Bench) -> List[Row]:
