@@ -1,5 +1,5 @@
 -- Ports: the links over which messages come to a device, and which of these it may be given.
-use Rattle.std.specs.Prelude.{◌≡◌, ℕ, ◌+◌, ◌-◌, ◌*◌, ◌^◌, ◌≤◌, ◌<◌, ◌↔◌, Bool, false, ◌&&◌, nat_le, nat_lt, IsTrue}
+use Rattle.std.specs.Prelude.{◌≡◌, ℕ, ◌+◌, ◌*◌, ◌^◌, ◌≤◌, ◌<◌, ◌↔◌, Bool, false, ◌&&◌, nat_le}
 use Rattle.sd_num.specs.declared.Rates.{Rates}
 use Rattle.sd_num.specs.Numbers.{low}
 use Rattle.sd_plan.specs.topo.Limits.{IsRates}
