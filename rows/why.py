@@ -29,6 +29,13 @@ def period(length: int) -> str:
     return TRIANGLE.replace("period = 100000000", f"period = {length}")
 
 
+def ring(devices: str, chords: str = "", bridges: str = "") -> str:
+    """A ring of devices, with links across it, and a device p behind a bridge."""
+    names = devices.split()
+    round_it = " ".join(f"{one}{other}:{one}:{other}" for one, other in zip(names, [*names[1:], names[0]]))
+    return topology(10000000, 3, devices + (" p" if bridges else ""), f"{round_it} {chords} {bridges}")
+
+
 ROWS = [
     row("a triangle", TRIANGLE, "open", 0),
     row("a triangle of version 2", TRIANGLE_2, "open", 0),
@@ -55,6 +62,18 @@ ROWS = [
     row("a square one deep", depth(SQUARE, 1), "open", 0),
     row("a candidate in the middle", roots(depth(LINE, 1), '["a", "b"]', '["a", "b"]'), "open", 0),
     row("the candidates at the ends", roots(depth(LINE, 1), '["a", "b"]', '["a", "c"]'), "impossible deep a c 2 1"),
+    # links, bridges, devices, and the links besides bridges that a plan needs
+    row("a ring of four", ring("r b x y"), "open", 0),
+    row("a ring of five", ring("r b x y z"), "impossible few 5 0 5 6"),
+    row("a ring of five with a chord", ring("r b x y z", "rx:r:x"), "open", 0),
+    row("a ring of five with two links between two", ring("r b x y z", "rb2:r:b"), "open", 0),
+    row("a ring of five, and one behind a bridge", ring("r b x y z", "", "zp:z:p"), "impossible few 6 1 6 6"),
+    row("a ring of five with a chord, and one behind a bridge", ring("r b x y z", "rx:r:x", "zp:z:p"), "open", 0),
+    row("two rings of three at a bridge", topology(10000000, 3, "r b x y u v", "rb:r:b bx:b:x xr:x:r xy:x:y yu:y:u uv:u:v vy:v:y"), "open", 0),
+    row("a ring of six with a chord", ring("r b x y z u", "ry:r:y"), "open", 0),
+    row("a ring of seven with a chord", ring("r b x y z u v", "ry:r:y"), "impossible few 8 0 7 9"),
+    row("a ring of seven with two chords", ring("r b x y z u v", "ry:r:y bz:b:z"), "open", 0),
+    row("too few links, and a depth that is too small", depth(ring("r b x y z u v"), 2), "impossible deep r y 3 2"),
     Row("a plan as topology", "why topology", {"topology": FIRST}, "input topology NotToml\n", 3, "sundialctl"),
     Row("an empty topology", "why topology", {"topology": ""}, "input topology Missing version 0\n", 3, "sundialctl"),
 ]

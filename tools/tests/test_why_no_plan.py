@@ -20,7 +20,9 @@ from sundial_tools.plain.conditions import Conditions
 from sundial_tools.topology import topology_text
 
 # The kinds that `sundialctl why` knows, in its order.
-SAID = ("candidates", "timing", "shared", "apart", "deep")
+SAID = ("candidates", "timing", "shared", "apart", "deep", "few")
+# Of the 500 networks without a plan, so many have a reason that is said, and so many any reason.
+EXPLAINED = (135, 371)
 # By kind of network: how many there are, how many of them have no plan, and how many of these a reason explains.
 COUNTS = {
     "ring": (30, 30, 29), "tree": (30, 12, 7), "mesh": (30, 13, 0), "grid": (30, 27, 6), "torus": (30, 0, 0), "leaf-spine": (30, 0, 0),
@@ -47,6 +49,10 @@ class PlainReasons(unittest.TestCase):
             for place, counted in enumerate((True, not it.planned, bool(told))):
                 counts[it.kind][place] += counted
         self.assertEqual({kind: tuple(count) for kind, count in counts.items()}, COUNTS)
+
+    def test_how_many_without_a_plan_are_explained(self):
+        told = [set(reasons(it.network)) for it in decided() if not it.planned]
+        self.assertEqual((sum(bool(kinds & set(SAID)) for kinds in told), sum(map(bool, told))), EXPLAINED)
 
     def holds(self, kind, net):
         return KINDS[kind](net) is not None

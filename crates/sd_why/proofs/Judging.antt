@@ -1,13 +1,13 @@
 -- From what is found to the first reason.
-use Rattle.std.proofs.Common.{◌≡◌, ℕ, ◌<◌, ◌≤◌, inl, inr, true, false, List, length, get_or, Option, Some, None, is_none, find, refl, sym, ap, ◌∙◌, subst, arith, slice_get}
-use Rattle.std.specs.Prelude.{IfOk, IfSome, Ok, Err, Result, is_some, option_map}
-use Rattle.std.proofs.lemmas.Bool.{both_ways, cases_order}
+use Rattle.std.proofs.Common.{◌≡◌, ℕ, ◌+◌, ◌<◌, ◌≤◌, inl, inr, true, false, List, length, get_or, nat_eq, if◌then◌else◌, Option, Some, None, is_none, find, refl, sym, ap, ◌∙◌, subst, arith, slice_get}
+use Rattle.std.specs.Prelude.{IfOk, IfSome, Ok, Err, Result, is_some, option_map, IsTrue}
+use Rattle.std.proofs.lemmas.Bool.{both_ways, cases_lt, cases_order, lt-ltb, ltb-true}
 use Rattle.std.proofs.lemmas.Option.{same_Some, slice_get-get_or, slice_get_within}
 use Rattle.sd_num.specs.Lists.{below}
 use Rattle.sd_plan.specs.topo.Network.{Network}
 use Rattle.sd_plan.proofs.Numbered.{found_passes, none_found}
 use Rattle.sd_planner.proofs.Lists.{least_found}
-use Rattle.sd_why.specs.Kinds.{Holds, IsConnected, IsTooDeep, Kind, is_before, shared_domain, shares_all}
+use Rattle.sd_why.specs.Kinds.{Holds, IsConnected, IsTooDeep, Kind, is_before, place_of, shared_domain, shares_all}
 use Rattle.sd_why.specs.Kinds as kind
 use Rattle.sd_num.specs.declared.NoMemory.{NoMemory}
 use Rattle.sd_why.specs.Plans.{HasNoPlanOfCandidates}
@@ -36,7 +36,50 @@ found_law net (Ok None) is = tt
 found_law net (Ok (Some what)) is = no_plan net (kind_of what) is.is.holds
 found_law net (Err stop) is = tt
 
+-- the kind at a place
+kind_at : ℕ → Kind
+kind_at n =
+    if nat_eq n 1 then kind.candidates
+    else if nat_eq n 2 then kind.timing
+    else if nat_eq n 3 then kind.shared
+    else if nat_eq n 4 then kind.apart
+    else if nat_eq n 5 then kind.deep
+    else kind.few
+
+at_place : (k : Kind) → kind_at (place_of k) ≡ k
+unfolding kind_at
+at_place kind.candidates = refl
+at_place kind.timing = refl
+at_place kind.shared = refl
+at_place kind.apart = refl
+at_place kind.deep = refl
+at_place kind.few = refl
+
+-- none comes before the first kind
+none_first : {X : Type 0} (earlier : Kind) → IsTrue (is_before earlier kind.candidates) → X
+none_first kind.candidates less = cc
+none_first kind.timing less = cc
+none_first kind.shared less = cc
+none_first kind.apart less = cc
+none_first kind.deep less = cc
+none_first kind.few less = cc
+
 module _ (net : Network) where
+  -- where neither a kind holds nor one before it, none up to it does
+  none_to : (k : Kind) → NoneBefore net k → ¬ Holds net k → (earlier : Kind) → place_of earlier ≤ place_of k → ¬ Holds net earlier
+  none_to k before none earlier most = elim (cases_lt (place_of earlier) (place_of k)) [
+    | inl less ↦ before earlier (lt-ltb (place_of earlier) (place_of k) less)
+    | inr last ↦
+        (let same : place_of earlier ≡ place_of k = omega (arith, most, last) in
+        subst (λ j. ¬ Holds net j) (sym (sym (at_place earlier) ∙ ap kind_at same ∙ at_place k)) none)
+  ]
+
+  -- so it is of the next kind
+  before_next : (k next : Kind) → place_of next ≡ place_of k + 1 → NoneBefore net k → ¬ Holds net k → NoneBefore net next
+  before_next k next follows before none earlier less =
+      let before_it = ltb-true (place_of earlier) (place_of next) less in
+      none_to k before none earlier (omega (arith, follows, before_it))
+
   -- by the first domain that has all candidates, or none
   pub shared_judged : (found : Option ℕ) → found ≡ shared_domain net → Judges net kind.shared (option_map reason.Shared found)
   shared_judged None is = λ (k, within, all).
@@ -167,43 +210,31 @@ module _ (net : Network) where
       }
 
   pub before_candidates : NoneBefore net kind.candidates
-  before_candidates kind.candidates earlier = cc
-  before_candidates kind.timing earlier = cc
-  before_candidates kind.shared earlier = cc
-  before_candidates kind.apart earlier = cc
-  before_candidates kind.deep earlier = cc
+  before_candidates earlier less = none_first earlier less
 
   pub before_timing : ¬ Holds net kind.candidates → NoneBefore net kind.timing
-  before_timing none kind.candidates earlier = none
-  before_timing none kind.timing earlier = cc
-  before_timing none kind.shared earlier = cc
-  before_timing none kind.apart earlier = cc
-  before_timing none kind.deep earlier = cc
+  before_timing none = before_next kind.candidates kind.timing refl before_candidates none
 
   pub before_shared : NoneBefore net kind.timing → ¬ Holds net kind.timing → NoneBefore net kind.shared
-  before_shared before none kind.candidates earlier = before kind.candidates refl
-  before_shared before none kind.timing earlier = none
-  before_shared before none kind.shared earlier = cc
-  before_shared before none kind.apart earlier = cc
-  before_shared before none kind.deep earlier = cc
+  before_shared = before_next kind.timing kind.shared refl
 
   pub before_apart : NoneBefore net kind.shared → ¬ Holds net kind.shared → NoneBefore net kind.apart
-  before_apart before none kind.candidates earlier = before kind.candidates refl
-  before_apart before none kind.timing earlier = before kind.timing refl
-  before_apart before none kind.shared earlier = none
-  before_apart before none kind.apart earlier = cc
-  before_apart before none kind.deep earlier = cc
+  before_apart = before_next kind.shared kind.apart refl
 
   pub before_deep : NoneBefore net kind.apart → ¬ Holds net kind.apart → NoneBefore net kind.deep
-  before_deep before none kind.candidates earlier = before kind.candidates refl
-  before_deep before none kind.timing earlier = before kind.timing refl
-  before_deep before none kind.shared earlier = before kind.shared refl
-  before_deep before none kind.apart earlier = none
-  before_deep before none kind.deep earlier = cc
+  before_deep = before_next kind.apart kind.deep refl
 
-  pub none_at_all : NoneBefore net kind.deep → ¬ Holds net kind.deep → (k : Kind) → ¬ Holds net k
-  none_at_all before none kind.candidates = before kind.candidates refl
-  none_at_all before none kind.timing = before kind.timing refl
-  none_at_all before none kind.shared = before kind.shared refl
-  none_at_all before none kind.apart = before kind.apart refl
-  none_at_all before none kind.deep = none
+  pub before_few : NoneBefore net kind.deep → ¬ Holds net kind.deep → NoneBefore net kind.few
+  before_few = before_next kind.deep kind.few refl
+
+  -- the last kind
+  pub none_at_all : NoneBefore net kind.few → ¬ Holds net kind.few → (k : Kind) → ¬ Holds net k
+  none_at_all before none k = none_to kind.few before none k (last k)
+    where
+      last : (k : Kind) → place_of k ≤ place_of kind.few
+      last kind.candidates = omega arith
+      last kind.timing = omega arith
+      last kind.shared = omega arith
+      last kind.apart = omega arith
+      last kind.deep = omega arith
+      last kind.few = omega arith

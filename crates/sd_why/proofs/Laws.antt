@@ -24,6 +24,7 @@ use Rattle.sd_why.specs.Kinds.{Holds, IsApart, IsRushed, IsTooDeep, Kind, round_
 use Rattle.sd_why.specs.Kinds as kind
 use Rattle.sd_why.specs.Plans.{HasNoPlan, HasNoPlanOfCandidates, IsWhole}
 use Rattle.sd_why.specs.Ways.{Way}
+use Rattle.sd_why.proofs.Needed.{few_law}
 use Rattle.sd_why.proofs.Joining.{way_back, way_on, ways_join}
 
 -- a way of no link, to the device itself
@@ -140,3 +141,4 @@ module _ (net : Network) where
   no_plan kind.shared holds = shared_law holds
   no_plan kind.apart holds = none_of_candidates (apart_law holds)
   no_plan kind.deep holds = deep_law holds
+  no_plan kind.few holds = none_of_candidates (few_law net holds)

@@ -4,7 +4,7 @@ use Rattle.std.specs.List.{list_any}
 use Rattle.std.proofs.lemmas.Grind.{flat_map-append}
 use Rattle.std.proofs.lemmas.List.{append-nil}
 use Rattle.std.proofs.lemmas.List.Folds.{list_any-append}
-use Rattle.std.proofs.lemmas.Bool.{and_from, or_cases, or_left, or_right, eq-eqb, eqb-true, cases_lt}
+use Rattle.std.proofs.lemmas.Bool.{and_from, and_parts, or_cases, or_left, or_right, eq-eqb, eqb-true, cases_lt}
 use Rattle.sd_num.specs.Lists.{below, has}
 use Rattle.sd_num.proofs.Places.{has_below, kept_from}
 use Rattle.sd_plan.specs.topo.Network.{Network, joins, link_numbers}
@@ -37,21 +37,24 @@ any_map p f (y ∷ ys) x there passes = elim (or_cases (nat_eq x y) (has ys x) t
   | inr later ↦ or_right (p (f y)) (list_any p (map f ys)) (any_map p f ys x later passes)
 ]
 
--- a device next to d is one of its neighbours
-pub neighbour_at : (net : Network) (absent : Absent) (d e : ℕ) → absent ≡ nothing_absent → e < length net.devices → NextTo net d e
-    → (k : ℕ) × (neighbour : Neighbour) × (slice_get (neighbours_of net absent d) k ≡ Some neighbour) × (neighbour.device ≡ e)
+-- a device next to d is one of its neighbours, over each link that joins the two
+pub neighbour_at : (net : Network) (absent : Absent) (d e : ℕ) → absent ≡ nothing_absent → e < length net.devices
+    → (next : NextTo net d e)
+    → (k : ℕ) × (neighbour : Neighbour) × (slice_get (neighbours_of net absent d) k ≡ Some neighbour) × (neighbour.device ≡ e) × (neighbour.link ≡ next.link)
 neighbour_at net absent d e none within next =
     let usable : is_usable net absent next.link ≡ true = ap (λ (a : Absent). is_usable net a next.link) none in
     let joined : has (links_between net absent d e) next.link ≡ true =
     kept_from (λ l. is_usable net absent l && joins net l d e) (link_numbers net) next.link
     (and_from (is_usable net absent next.link) (joins net next.link d e) usable next.joined) (has_below (length net.links) next.link next.within) in
-    let leads : Neighbour → Bool = λ neighbour. nat_eq neighbour.device e in
+    let leads : Neighbour → Bool = λ neighbour. nat_eq neighbour.device e && nat_eq neighbour.link next.link in
     let over : ℕ → ℕ → Neighbour = λ y l. record { device = y; link = l } in
     let some : list_any leads (neighbours_of net absent d) ≡ true =
     any_flat leads (λ y. map (over y) (links_between net absent d y)) (length net.devices) e within
-    (any_map leads (over e) (links_between net absent d e) next.link joined (eq-eqb e e refl)) in
+    (any_map leads (over e) (links_between net absent d e) next.link joined
+    (and_from (nat_eq e e) (nat_eq next.link next.link) (eq-eqb e e refl) (eq-eqb next.link next.link refl))) in
     let (k, neighbour, at, is) = at_any leads (neighbours_of net absent d) some in
-    (k, neighbour, at, eqb-true neighbour.device e is)
+    let (device, link) = and_parts (nat_eq neighbour.device e) (nat_eq neighbour.link next.link) is in
+    (k, neighbour, at, eqb-true neighbour.device e device, eqb-true neighbour.link next.link link)
 
 -- and each neighbour is next to it
 pub neighbour_next : (net : Network) (absent : Absent) (d k : ℕ) (neighbour : Neighbour) → slice_get (neighbours_of net absent d) k ≡ Some neighbour

@@ -6,6 +6,7 @@ use Rattle.sd_plan.specs.topo.Network.{Network, Each, greatest_delay, least_low}
 use Rattle.sd_plan.specs.domain.Domains.{holds_device}
 use Rattle.sd_plan.specs.declared.domain.DomainId.TheVariants as domain
 use Rattle.sd_why.specs.Ways.{IsUnreached, Way}
+use Rattle.sd_why.specs.Bridges.{HasFewLinks}
 
 -- the kinds
 pub data Kind : Type 0 where
@@ -14,6 +15,7 @@ pub data Kind : Type 0 where
   shared : Kind
   apart : Kind
   deep : Kind
+  few : Kind
 
 -- the place of a kind in their order
 abbrev pub place_of : Kind → ℕ
@@ -22,6 +24,7 @@ place_of timing = 2
 place_of shared = 3
 place_of apart = 4
 place_of deep = 5
+place_of few = 6
 
 -- the kind is asked before the other one
 abbrev pub is_before : Kind → Kind → Bool
@@ -70,3 +73,4 @@ Holds net timing = IsRushed net
 Holds net shared = (k : ℕ) × (k < length net.domains) × (shares_all net k ≡ true)
 Holds net apart = (d : ℕ) × (d < length net.devices) × IsApart net d
 Holds net deep = Each (IsTooDeep net) net.roots
+Holds net few = HasFewLinks net

@@ -1,5 +1,6 @@
 pub mod Plans
 pub mod Ways
+pub mod Bridges
 pub mod Rings
 pub mod Kinds
 pub mod Reasons

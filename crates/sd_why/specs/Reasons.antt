@@ -4,6 +4,7 @@ use Rattle.sd_plan.specs.topo.Network.{Network}
 use Rattle.sd_why.specs.Kinds.{HasFewCandidates, Holds, IsApart, IsTooDeep, Kind, is_before, shared_domain}
 use Rattle.sd_why.specs.Kinds as kind
 use Rattle.sd_why.specs.Ways.{IsDistance, Way}
+use Rattle.sd_why.specs.Bridges.{CountsBridges}
 use Rattle.sd_why.specs.declared.Far.{Far}
 use Rattle.sd_why.specs.declared.Reason.{Reason}
 use Rattle.sd_why.specs.declared.Reason.TheVariants as reason
@@ -15,6 +16,7 @@ kind_of reason.Timing = kind.timing
 kind_of (reason.Shared k) = kind.shared
 kind_of (reason.Apart d) = kind.apart
 kind_of (reason.Deep far) = kind.deep
+kind_of (reason.Few bridges) = kind.few
 
 -- the first of the farthest devices from a candidate, farther than the depth
 pub record IsFarthestFrom (net : Network) (far : Far) : Type 0 where
@@ -31,6 +33,7 @@ Shows net reason.Timing = Unit {0}
 Shows net (reason.Shared k) = shared_domain net ≡ Some k
 Shows net (reason.Apart d) = (d < length net.devices) × IsApart net d × ((e : ℕ) → e < d → (n : ℕ) × Way net n 0 e)
 Shows net (reason.Deep far) = (slice_get net.roots 0 ≡ Some far.candidate) × IsFarthestFrom net far
+Shows net (reason.Few bridges) = CountsBridges net bridges
 
 -- a reason of a kind that holds, with its things
 pub record IsReasonOf (net : Network) (k : Kind) (what : Reason) : Type 0 where

@@ -7,7 +7,9 @@ ghost use Rattle.sd_why.specs.Kinds as kind;
 ghost use Rattle.sd_why.specs.Reasons.{FindsBefore, IsWhy, NoneBefore};
 ghost use Rattle.sd_why.specs.Plans.{HasNoPlanOfCandidates};
 
-use crate::{Reason, apart_device, deep_from_all, few_candidates, shared_domain, short_period};
+use crate::{
+    Reason, apart_device, deep_from_all, few_candidates, few_links, shared_domain, short_period,
+};
 use sd_num::NoMemory;
 use sd_plan::topo::Topology;
 use sd_plan::{Absent, DeviceList};
@@ -36,7 +38,10 @@ fn along_links(alloc: Global, present: &Present) -> Result<Option<Reason>, NoMem
     if let Some(reason) = apart_device(alloc, present)? {
         return Ok(Some(reason));
     }
-    deep_from_all(alloc, present)
+    if let Some(reason) = deep_from_all(alloc, present)? {
+        return Ok(Some(reason));
+    }
+    few_links(alloc, present)
 }
 
 /// The first reason why no plan is accepted that has all that there is, and whose root and backup

@@ -3,8 +3,10 @@
 #![tactic(auto)]
 
 mod apart;
+mod bridges;
 mod candidates;
 mod deep;
+mod few;
 mod first;
 mod shared;
 mod text;
@@ -14,6 +16,7 @@ mod ways;
 pub use apart::apart_device;
 pub use candidates::few_candidates;
 pub use deep::deep_from_all;
+pub use few::few_links;
 pub use first::why;
 pub use shared::shared_domain;
 pub use text::why_text;
@@ -41,4 +44,6 @@ pub enum Reason {
     Apart(u32),
     /// From each candidate some device is farther than the depth; this is so of the first one.
     Deep(Far),
+    /// This many links are bridges, and the others are fewer than a plan needs.
+    Few(u32),
 }

@@ -4,6 +4,7 @@ ghost use Rattle.sd_plan.specs.topo.Network as names;
 ghost use Rattle.sd_plan.specs.topo.Topologies.{network};
 ghost use Rattle.sd_why.specs.Text as text;
 
+use crate::few::needed_besides;
 use crate::{Far, Reason};
 use sd_plan::topo::Topology;
 use std::alloc::{AllocError, Global};
@@ -60,6 +61,17 @@ fn apart_text(alloc: Global, topo: &Topology, d: u32) -> Result<String, AllocErr
     Ok(line)
 }
 
+/// The line of links that are fewer than a plan needs.
+fn few_text(alloc: Global, topo: &Topology, bridges: u32) -> Result<String, AllocError>
+    ensures { IfOk result (λ line. string_bytes line ≡ text.few_text (network topo.now) bridges) }
+{
+    let links = topo.links();
+    let devices = topo.devices();
+    let needed = needed_besides(topo, bridges);
+    let line = format!(in alloc; "impossible few {links} {bridges} {devices} {needed}\n")?;
+    Ok(line)
+}
+
 /// The line of a reason.
 fn reason_text(alloc: Global, topo: &Topology, reason: Reason) -> Result<String, AllocError>
     ensures { IfOk result (λ line. string_bytes line ≡ text.reason_text (network topo.now) reason) }
@@ -70,6 +82,7 @@ fn reason_text(alloc: Global, topo: &Topology, reason: Reason) -> Result<String,
         Reason::Shared(k) => shared_text(alloc, topo, k),
         Reason::Apart(d) => apart_text(alloc, topo, d),
         Reason::Deep(far) => deep_text(alloc, topo, far),
+        Reason::Few(bridges) => few_text(alloc, topo, bridges),
     }
 }
 

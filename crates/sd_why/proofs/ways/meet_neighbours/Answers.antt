@@ -42,7 +42,7 @@ pub returns-clause-met : goal.returns-clause-met
 returns-clause-met c =
     λ e within next.
     let near = c.neighbours_of-neighbours.result.now in
-    let (k, neighbour, at, is) =
+    let (k, neighbour, at, is, by) =
     neighbour_at (net_of c.args.present.now) (left_out c.args.present.now) c.args.d e c.requires.whole within next in
     let here : slice_get near k ≡ Some neighbour =
     subst (λ (xs : List Neighbour). slice_get xs k ≡ Some neighbour) (sym c.neighbours_of-neighbours.ensures.are) at in
