@@ -32,25 +32,29 @@ use Rattle.sd_why.specs.Bridges.{AreBridges, HasFewLinks, IsBridge, JoinedWithou
 use Rattle.sd_why.specs.Plans.{HasNoPlan, IsWhole}
 use Rattle.sd_why.proofs.Counting.{ascending_apart, but, but_has, but_one, distinct_map, map_has, no_more}
 
--- which ends the two devices are that a link joins
-ends_are : (a b c d : ℕ) → ((nat_eq a c && nat_eq b d) || (nat_eq a d && nat_eq b c)) ≡ true → ((a ≡ c) × (b ≡ d)) ⊎ ((a ≡ d) × (b ≡ c))
-ends_are a b c d joined =
-    elim (or_cases (nat_eq a c && nat_eq b d) (nat_eq a d && nat_eq b c) joined) [
-      | inl forth ↦ (let (p, q) = and_parts (nat_eq a c) (nat_eq b d) forth in inl (eqb-true a c p, eqb-true b d q))
-      | inr back ↦ (let (p, q) = and_parts (nat_eq a d) (nat_eq b c) back in inr (eqb-true a d p, eqb-true b c q))
-    ]
+-- which ends of the link the two devices are that it joins
+ends_joined : (net : Network) (l c d : ℕ) → joins net l c d ≡ true
+    → (((link_of net l).end_a ≡ c) × ((link_of net l).end_b ≡ d)) ⊎ (((link_of net l).end_a ≡ d) × ((link_of net l).end_b ≡ c))
+ends_joined net l c d joined = by (link_of net l).end_a (link_of net l).end_b joined
+  where
+    by : (a b : ℕ) → ((nat_eq a c && nat_eq b d) || (nat_eq a d && nat_eq b c)) ≡ true → ((a ≡ c) × (b ≡ d)) ⊎ ((a ≡ d) × (b ≡ c))
+    by a b joined =
+        elim (or_cases (nat_eq a c && nat_eq b d) (nat_eq a d && nat_eq b c) joined) [
+          | inl forth ↦ (let (p, q) = and_parts (nat_eq a c) (nat_eq b d) forth in inl (eqb-true a c p, eqb-true b d q))
+          | inr back ↦ (let (p, q) = and_parts (nat_eq a d) (nat_eq b c) back in inr (eqb-true a d p, eqb-true b c q))
+        ]
 
 -- the links of two hops are joined to the same two devices
 same_ends : (net : Network) (l a b c d : ℕ) → joins net l a b ≡ true → joins net l c d ≡ true → (a ≡ c) ⊎ ((a ≡ d) × (b ≡ c))
 same_ends net l a b c d first second =
-    elim (ends_are (link_of net l).end_a (link_of net l).end_b a b first) [
+    elim (ends_joined net l a b first) [
       | inl p ↦
-          elim (ends_are (link_of net l).end_a (link_of net l).end_b c d second) [
+          elim (ends_joined net l c d second) [
             | inl q ↦ inl (sym p.0 ∙ q.0)
             | inr q ↦ inr (sym p.0 ∙ q.0, sym p.1 ∙ q.1)
           ]
       | inr p ↦
-          elim (ends_are (link_of net l).end_a (link_of net l).end_b c d second) [
+          elim (ends_joined net l c d second) [
             | inl q ↦ inr (sym p.1 ∙ q.1, sym p.0 ∙ q.0)
             | inr q ↦ inl (sym p.1 ∙ q.1)
           ]
@@ -76,7 +80,7 @@ one_side net l a b c d first second same =
   where
     ends : (x y : ℕ) → joins net l x y ≡ true → nat_eq (link_of net l).end_a x ≡ false → (link_of net l).end_b ≡ x
     ends x y is other =
-        elim (ends_are (link_of net l).end_a (link_of net l).end_b x y is) [
+        elim (ends_joined net l x y is) [
           | inl p ↦ absurd (both_ways (nat_eq (link_of net l).end_a x) other (eq-eqb (link_of net l).end_a x p.0))
           | inr p ↦ p.1
         ]
@@ -124,9 +128,12 @@ backup_within net plan d hop each is = by (slice_get plan.rows d) refl is
     by (Some (Some row)) at is = (each d (Some row) at).1 hop is
 
 -- a backup is there
-backup_there : (o : Option Hop) → map_or o false (λ hop. true) ≡ true → (hop : Hop) × (o ≡ Some hop)
-backup_there None there = cc
-backup_there (Some hop) there = (hop, refl)
+backup_there : (plan : Plan) (d : ℕ) → has_backup plan d ≡ true → (hop : Hop) × (backup_of plan d ≡ Some hop)
+backup_there plan d there = by (backup_of plan d) refl there
+  where
+    by : (o : Option Hop) → backup_of plan d ≡ o → map_or o false (λ hop. true) ≡ true → (hop : Hop) × (backup_of plan d ≡ Some hop)
+    by None is there = cc
+    by (Some hop) is there = (hop, is)
 
 backup_none : (o : Option Hop) → map_or o false (λ hop. true) ≡ false → o ≡ None
 backup_none None none = refl
@@ -172,7 +179,7 @@ module _ (net : Network) (plan : Plan) (whole : IsWhole net plan) (accepted : Is
 
   second : (d : ℕ) → d < length net.devices → has_backup plan d ≡ true → IsSecond d
   second d within there =
-      let (hop, is) = backup_there (backup_of plan d) there in
+      let (hop, is) = backup_there plan d there in
       let right : hop_is_right net plan d (backup_of plan d) ≡ true =
       (and_parts (hop_is_right net plan d (primary_of plan d)) (hop_is_right net plan d (backup_of plan d)) (rules.hops d within)).1 in
       let here : (is_member plan hop.parent && is_present plan hop.link && joins net hop.link d hop.parent) ≡ true =

@@ -1,5 +1,5 @@
 -- A search over links other than one meets what these join to the first device, and so tells whether the one is a bridge.
-use Rattle.std.proofs.Common.{◌≡◌, ℕ, ◌+◌, ◌<◌, ◌≤◌, inl, inr, Bool, true, false, not, List, [], ◌∷◌, ◌++◌, length, find, nat_eq, if◌then◌else◌, Option, Some, None, refl, sym, ap, ◌∙◌, subst, arith, slice_get, get_or, length-append}
+use Rattle.std.proofs.Common.{◌≡◌, ℕ, ◌+◌, ◌<◌, ◌≤◌, ◌⊎◌, inl, inr, Bool, true, false, not, List, [], ◌∷◌, ◌++◌, length, find, nat_eq, if◌then◌else◌, Option, Some, None, refl, sym, ap, ◌∙◌, subst, arith, slice_get, get_or, length-append}
 use Rattle.std.specs.Cmp.{nat_eq_equiv}
 use Rattle.std.specs.List.{IsDistinct}
 use Rattle.std.proofs.lemmas.Bool.{both_ways, cases_Bool, cases_lt, eq-eqb, eqb-true, false_from_ne_true, not-false, not-true, or_cases}
@@ -27,19 +27,17 @@ use Rattle.sd_why.proofs.Neighbours.{neighbour_at}
 
 -- a set and one more
 
-number_there : (xs : List ℕ) (n : ℕ) → has (with_number xs n) n ≡ true
-number_there xs n = by (has xs n) refl
-  where
-    by : (b : Bool) → has xs n ≡ b → has (if b then xs else xs ++ n ∷ []) n ≡ true
-    by true is = is
-    by false is = has_last xs n
-
-number_keeps : (xs : List ℕ) (n x : ℕ) → has xs x ≡ true → has (with_number xs n) x ≡ true
-number_keeps xs n x there = by (has xs n)
+number_has : (xs : List ℕ) (n x : ℕ) → (has xs x ≡ true) ⊎ (x ≡ n) → has (with_number xs n) x ≡ true
+number_has xs n x (inl there) = by (has xs n)
   where
     by : (b : Bool) → has (if b then xs else xs ++ n ∷ []) x ≡ true
     by true = there
     by false = has_before xs n x there
+number_has xs n x (inr same) = subst (λ y. has (with_number xs n) y ≡ true) (sym same) (by (has xs n) refl)
+  where
+    by : (b : Bool) → has xs n ≡ b → has (if b then xs else xs ++ n ∷ []) n ≡ true
+    by true is = is
+    by false is = has_last xs n
 
 grows_more : (P : ℕ → Type 0) (old new : List ℕ) (n : ℕ) → P n → Grows old new P → Grows old (with_number new n) P
 grows_more P old new n passes grows = by (has new n)
@@ -83,11 +81,11 @@ module _ (net : Network) (l : ℕ) where
       around_over neighbour at other around = record {
         grows = grows_more (IsBeside net l d) old new neighbour.device beside around.grows;
         met = λ k one less is differs. elim (cases_lt k i) [
-          | inl early ↦ number_keeps new neighbour.device one.device (around.met k one early is differs)
+          | inl early ↦ number_has new neighbour.device one.device (inl (around.met k one early is differs))
           | inr late ↦
               (let same : k ≡ i = omega (arith, less, late) in
               let this : neighbour ≡ one = same_Some neighbour one (sym at ∙ subst (λ (n : ℕ). slice_get neighbours n ≡ Some one) same is) in
-              subst (λ (x : Neighbour). has (with_number new neighbour.device) x.device ≡ true) this (number_there new neighbour.device))
+              subst (λ (x : Neighbour). has (with_number new neighbour.device) x.device ≡ true) this (number_has new neighbour.device neighbour.device (inr refl)))
         ];
       }
         where
