@@ -4,6 +4,7 @@ from typing import Dict, Union
 
 from rows import Ends, Made, Row
 from rows.texts import FABRIC, FABRIC_GREEDY, FABRIC_PLAN, FABRIC_RENEWED, FIRST, LINE, TRIANGLE, domain, topology, without
+from rows.why import ROW
 
 # A mesh of which some pairs of links may fail together. The greedy plan is refused under each pair of roots.
 MESH = topology(
@@ -16,6 +17,15 @@ MESH = topology(
     roots=12,
 ) + domain("f0", "", "k5 k14") + domain("f1", "", "k9 k14") + domain("f2", "", "k1 k9") + domain("f3", "", "k2 k6")
 REFUSED = Ends("refused plan 1 ", "\n")
+# The candidates of this triangle are on one feed, and of the other one there is one candidate.
+FED = TRIANGLE + domain("feed", "r b", "")
+LONE = TRIANGLE.replace('roots = ["r", "b"]', 'roots = ["r"]')
+IMPOSSIBLE = (
+    ("both candidates on a feed", FED, "impossible shared feed"),
+    ("a device without a link", topology(10000000, 3, "r b x y", "rb:r:b rx:r:x bx:b:x"), "impossible apart y"),
+    ("the last of a row", ROW, "impossible deep a h 7 3"),
+    ("a short period", TRIANGLE.replace("period = 100000000", "period = 96020205"), "impossible timing"),
+)
 
 
 def words(steps: int) -> str:
@@ -37,8 +47,7 @@ ROWS = [
     Row("the greedy plan without a move", words(0), {"topology": FABRIC}, FABRIC_GREEDY, program="sundialctl"),
     Row("the greatest numbers", "search topology 1152921504606846976 1152921504606846976 18446744073709551615 0",
         {"topology": FABRIC}, FABRIC_GREEDY, program="sundialctl"),
-    Row("one device", words(0), {"topology": topology(10000000, 3, "one", "")}, "refused plan 1 structure 1 device one\n", 1,
-        "sundialctl"),
+    Row("one device", words(0), {"topology": topology(10000000, 3, "one", "")}, "impossible candidates 1\n", 1, "sundialctl"),
     Row("an empty topology", words(0), {"topology": ""}, "input topology Missing version 0\n", 3, "sundialctl"),
     Row("a number as absent list", "renew topology plan absent 0 0 1 0", {"topology": TRIANGLE, "plan": FIRST, "absent": "0"},
         "input absent WrongKind absent 0\n", 3, "sundialctl"),
@@ -52,4 +61,14 @@ ROWS = [
         {"topology": MESH, "plan": Made(renewed(2000), LOST, "sundialctl")}, "accepted 12 20 36\n"),
     *[Row(f"no plan of three devices in a row, in {steps} steps", words(steps), {"topology": LINE}, REFUSED, 1, "sundialctl")
       for steps in (0, 300)],
+    # After the breach of the best plan comes the reason why there is none, where nothing is absent.
+    *[Row(f"{name}, in {steps} steps", words(steps), {"topology": network}, Ends("refused plan 1 ", f"\n{reason}\n"), 1, "sundialctl")
+      for steps in (0, 20) for name, network, reason in IMPOSSIBLE],
+    Row("a candidate alone", words(20), {"topology": LONE}, "impossible candidates 1\n", 1, "sundialctl"),
+    Row("a renewal over a feed that has all candidates", renewed(20), {"topology": FED, "plan": FIRST, "absent": without()},
+        Ends("refused plan 1 ", "\nimpossible shared feed\n"), 1, "sundialctl"),
+    Row("a renewal without a link", renewed(0), {"topology": FED, "plan": FIRST, "absent": without("", "bx")},
+        "refused plan 1 structure 6 device b\n", 1, "sundialctl"),
+    Row("a renewal of a candidate alone", renewed(0), {"topology": LONE, "plan": FIRST, "absent": without()},
+        "impossible candidates 1\n", 1, "sundialctl"),
 ]

@@ -57,9 +57,9 @@ def plan(root: str, backup_root: str, waits: Tuple[int, int], rows: str, absent:
     return json.dumps(value, sort_keys=True, separators=(",", ":")) + "\n"
 
 
-def without(devices: str) -> str:
-    """The absent list of some devices."""
-    return json.dumps({"absent_devices": devices.split(), "absent_links": []}, separators=(",", ":"))
+def without(devices: str = "", links: str = "") -> str:
+    """The absent list of some devices and links."""
+    return json.dumps({"absent_devices": devices.split(), "absent_links": links.split()}, separators=(",", ":"))
 
 
 FABRIC_ROWS = "s2:l1:b1:l2:b2 l1:s1:a1:s2:b1 l2:s1:a2:s2:b2"

@@ -131,6 +131,16 @@ class Why(unittest.TestCase):
         self.unclear("no domain feed-a: it is not the topology", "impossible shared feed-a\n", "t.toml", files={"t.toml": text})
         self.unclear("no device x: it is not the topology", "impossible orphans node1 x\n", "t.toml", files={"t.toml": text})
 
+    def test_one_candidate_alone(self):
+        """`plan` breaks the first rule of structure, and a search prints the reason itself."""
+        text = (TRIANGLE / "topology.toml").read_text()
+        lone = text.replace('roots = ["r", "b", "x"]', 'roots = ["b"]')
+        self.assertNotEqual(lone, text)
+        for line in ("refused plan 1 structure 1 device r\n", "impossible candidates 1\n"):
+            out = self.says("`roots` has only b.", line, "t.toml", files={"t.toml": lone})
+            self.assertIn("Change: name a second device in `roots`.", out)
+        self.says("The root and the backup root have to be two devices", "refused plan 1 structure 1 device r\n", "t.toml", files={"t.toml": text})
+
     def test_a_period_that_is_too_short_for_any_plan(self):
         text = (TRIANGLE / "topology.toml").read_text()
         self.unclear("it is not the topology of this output", "impossible timing\n", "t.toml", files={"t.toml": text})

@@ -147,7 +147,7 @@ def _asked(words: List[str]) -> Tuple[str, Tuple[str, ...]]:
     done = subprocess.run(words, stdout=subprocess.PIPE, check=False)
     said = done.stdout.decode("ascii", "replace").strip()
     if done.returncode == REFUSED:
-        return said.removeprefix("refused plan 1 "), ()
+        return said.partition("\n")[0].removeprefix("refused plan 1 "), ()
     if done.returncode != DONE:
         raise ToolError(f"{' '.join(words[:2])} ended with status {done.returncode}: {said[:200]}")
     return "", _roots_of(said)

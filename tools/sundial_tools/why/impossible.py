@@ -10,7 +10,7 @@ from sundial_tools.plain.conditions import Conditions
 from sundial_tools.plan import Plan
 from sundial_tools.topology import Topology
 from sundial_tools.why.refused import Refused
-from sundial_tools.why.said import listed
+from sundial_tools.why.said import listed, too_few_candidates
 
 MOST_NAMES = 5
 
@@ -31,8 +31,7 @@ class Impossible:
     # Candidates
 
     def _candidates(self, line: OutputLine) -> Iterator[str]:
-        yield f"A plan needs a root and a backup root, and `roots` has only {self._named(self.topology.roots)}."
-        yield "Change: name a second device in `roots`."
+        yield from too_few_candidates(self.topology)
 
     def _shared(self, line: OutputLine) -> Iterator[str]:
         name = line.fields["listed"]

@@ -8,7 +8,9 @@ from sundial_tools.outputs import OutputLine
 from sundial_tools.plain.device import grow
 from sundial_tools.plan import Hop, Plan
 from sundial_tools.topology import Device, Topology
-from sundial_tools.why.said import Failing, Names, Thing, all_domains, domain_of, epath, failing, listed, things_of, time, way, way_text
+from sundial_tools.why.said import (
+    Failing, Names, Thing, all_domains, domain_of, epath, failing, listed, things_of, time, too_few_candidates, way, way_text,
+)
 
 MOST_WAYS = 4
 WAITS = {2: "wait_first", 3: "wait_second", 4: "wait", 5: "wait"}
@@ -44,6 +46,9 @@ class Refused:
         yield from says.get(line.fields["rule"], lambda *_: iter(()))(device, name)
 
     def _two_roots(self, device: int, name: str) -> Iterator[str]:
+        if self.is_made and len(self.topology.roots) < 2:
+            yield from too_few_candidates(self.topology)
+            return
         yield f"The root and the backup root have to be two devices that the plan does not leave out. {name} breaks that."
         yield "Change: name another backup root. Where `plan` made the plan, name more devices in `roots`."
 

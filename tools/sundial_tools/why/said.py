@@ -23,6 +23,12 @@ def time(picoseconds: int) -> str:
     return f"{picoseconds} ps" if abs(picoseconds) < 1000 else f"{picoseconds} ps ({human(picoseconds)})"
 
 
+def too_few_candidates(topology: Topology) -> List[str]:
+    """That `roots` does not have two devices, and what to change."""
+    names = listed(topology.devices[it].name for it in topology.roots)
+    return [f"A plan needs a root and a backup root, and `roots` has only {names}.", "Change: name a second device in `roots`."]
+
+
 class Names:
     """The devices and links of a topology, by name."""
 
