@@ -150,8 +150,8 @@ int main(int count, char **words)
         }
         follow(which, at);
     }
-    printf("%-12s %12s %12s %8s\n", "call", "instructions", "stack, bytes", "calls");
+    printf("%-18s %12s %12s %8s\n", "call", "instructions", "stack, bytes", "calls");
     for (int i = 0; i < CALLS; i++)
-        printf("%-12s %12" PRIu64 " %12" PRIu64 " %8" PRIu64 "\n", CALL[i].name, most_instructions[i], most_stack[i], times[i]);
+        printf("%-18s %12" PRIu64 " %12" PRIu64 " %8" PRIu64 "\n", CALL[i].name, most_instructions[i], most_stack[i], times[i]);
     return 0;
 }
