@@ -1,9 +1,11 @@
 """sundial-watch: logs that are rotated, cut short, missing or many; references that are wrong; states of other makes."""
 
+import itertools
 import json
 import os
 import pickle
 import random
+import re
 import resource
 import subprocess
 import time
@@ -41,8 +43,8 @@ class Watched(unittest.TestCase):
         return self.fabric_of.watch(say=self.said.append, **more)
 
     def read(self, watch):
-        while watch.step():
-            pass
+        """Answers in how many steps all was read."""
+        return next(count for count in itertools.count(1) if not watch.step())
 
     def finish(self, watch):
         self.read(watch)
@@ -217,26 +219,42 @@ class Ahead(Watched):
         return json.dumps({**said, "reference_ps": said["reference_ps"] + more}) + "\n"
 
     def test_one_wrong_reference_costs_one_line(self):
+        """One of a year, or of the 37 seconds between TAI and UTC, also where the other logs come later, or all of them are read anew."""
         fabric = self.fabric(rounds=4, fails=[])
         mine = [at for at, (whose, text) in enumerate(fabric.lines) if whose == fabric.leaf and '"tick"' in text]
-        for place in mine[0], mine[4], mine[-1]:
-            for step in 10**6, 7, 1:
-                with self.subTest(place, step=step), directory() as self.path:
-                    fabric = self.fabric(rounds=4, fails=[])
-                    fabric.lines.insert(place, (fabric.leaf, self.wrong(fabric.lines[place][1])))
+        for place, more, step, bytes_of_a_log in [
+            (mine[at], more, step, 1 << 12) for at in (0, 4, -1) for more, step in ((YEAR, 10**6), (37 * SECOND, 10**6), (37 * SECOND, 7), (YEAR, 1))
+        ] + [(at, 37 * SECOND, 10**6, 200) for at in mine[1:9]]:
+            with self.subTest(place, more=more, step=step, bytes=bytes_of_a_log), directory() as self.path:
+                fabric = self.fabric(rounds=4, fails=[])
+                fabric.lines.insert(place, (fabric.leaf, self.wrong(fabric.lines[place][1], more)))
+                with mock.patch.object(watcher, "BYTES_OF_A_STEP", 1), mock.patch.object(watcher, "BYTES_OF_A_LOG", bytes_of_a_log):
                     watch = self.watch()
-                    for first in range(0, len(fabric.lines), step):
-                        fabric.write(fabric.lines[first:first + step])
-                        watch.step()
-                        watch.step()
-                    self.read(watch)
-                    text = watch.metrics_text()
-                    self.finish(watch)
-                    rows = [row for row in fabric.rows() if row["kind"] != "passed over"]
-                    self.assertEqual([(row["log"], row["reason"].split(":")[0]) for row in self.passed()], [(fabric.leaf_log, "ahead")])
-                    self.assertEqual(list(map(line_of, rows)), plain(fabric.made.topology, fabric.made.plans, fabric.made.lines)[:-1])
-                    behind = [float(line.rsplit(" ", 1)[1]) for line in text.splitlines() if line.startswith("sundial_log_behind_seconds{")]
-                    self.assertLess(max(behind), 1)
+                for first in range(0, len(fabric.lines), step):
+                    written = fabric.lines[first:first + step]
+                    for name in sorted({whose for whose, _ in written}):
+                        fabric.write(one for one in written if one[0] == name)
+                        if step < len(fabric.lines):
+                            watch.step()
+                            watch.step()
+                self.read(watch)
+                text = watch.metrics_text()
+                self.finish(watch)
+                rows = [row for row in fabric.rows() if row["kind"] != "passed over"]
+                self.assertEqual([(row["log"], row["reason"].split(":")[0]) for row in self.passed()], [(fabric.leaf_log, "ahead")])
+                self.assertEqual(list(map(line_of, rows)), plain(fabric.made.topology, fabric.made.plans, fabric.made.lines)[:-1])
+                passed = re.findall(r'sundial_passed_over_total\{log="(.*)"\} 1\n', text)
+                self.assertEqual(passed, [fabric.leaf_log])
+                behind = [float(line.rsplit(" ", 1)[1]) for line in text.splitlines() if line.startswith("sundial_log_behind_seconds{")]
+                self.assertLess(max(behind), 1)
+
+    def test_a_line_may_be_ahead_by_the_horizon(self):
+        """As by default: a horizon that is longer than this would wait for the other logs less than a wrong line is ahead."""
+        words = [DATA / "triangle.toml", "log", "--plan", DATA / "triangle-1.json", "-o", self.path / "s"]
+        for more, jump in ([], SECOND), (["--horizon", "5s"], 5 * SECOND), (["--horizon", "1ms"], SECOND), (["--jump", "9s"], 9 * SECOND):
+            with mock.patch("sundial_tools.watch.main.Watch", side_effect=lambda *given: self.fail(given[2].jump)), self.assertRaisesRegex(AssertionError, f"^{jump}$"):
+                with mock.patch.dict(os.environ, {"SUNDIAL": str(PROGRAM)}):
+                    run("sundial-watch", main, [*words, *more])
 
     def test_a_reference_that_stays_wrong(self):
         fabric = self.fabric(rounds=12, fails=[])
@@ -245,7 +263,7 @@ class Ahead(Watched):
             fabric.lines[at] = fabric.leaf, self.wrong(fabric.lines[at][1])
         fabric.write(fabric.lines[:-1])
         watch = self.watch(horizon=PERIOD)
-        self.read(watch)
+        self.assertLess(self.read(watch), 12)
         values = dict(line.rsplit(" ", 1) for line in watch.metrics_text().splitlines() if not line.startswith("#"))
         self.finish(watch)
         ahead = [row["log"] for row in self.passed() if row["reason"].startswith("ahead: ")]
@@ -262,6 +280,17 @@ class Ahead(Watched):
         self.assertEqual(self.passed(), [])
         self.assertIn("drift", {row["premise"] for row in fabric.rows() if row["kind"] == "broken"})
 
+    def test_devices_that_come_back_one_after_the_other_after_a_pause(self):
+        """Where all is read behind: the log that is furthest ahead waits until the others have come as far."""
+        fabric = self.fabric(fails=[])
+        at, late = 6 * PERIOD - 1000, {name: (9 - place) * 10 * SECOND for place, name in enumerate(fabric.made.topology.device_numbers)}
+        fabric.write(
+            (whose, self.wrong(text, 7200 * SECOND + late.get(whose, 0)) if json.loads(text)["reference_ps"] >= at else text) for whose, text in fabric.lines
+        )
+        fabric.write((name, json.dumps({"event": "tick", "device": name, "reference_ps": 7400 * SECOND, "counter_ps": 7400 * SECOND}) + "\n") for name in late)
+        self.finish(self.watch())
+        self.assertEqual([row for row in self.passed() if row["reason"].startswith("ahead")], [])
+
     def test_the_first_line_of_a_sparse_log_may_be_far_ahead_of_the_first_lines_of_the_others(self):
         fabric = self.fabric()
         first = next(json.loads(text)["reference_ps"] for whose, text in fabric.lines if whose == "fabric")
@@ -275,6 +304,42 @@ class Ahead(Watched):
         with mock.patch.object(watcher, "BYTES_OF_A_STEP", 1), mock.patch.object(watcher, "BYTES_OF_A_LOG", 300):
             self.finish(self.watch(jump=PERIOD // 100, horizon=PERIOD // 100))
         self.assertEqual(self.passed(), [])
+        self.judge()
+
+
+class Ended(Watched):
+    def told(self):
+        """How many lines of logs are in the schedule."""
+        return sum(not line.startswith("- ") for line in (self.fabric_of.state / "part-0001.journal").read_text().splitlines())
+
+    def test_of_a_log_that_ends_early_the_others_are_read_to_their_ends(self):
+        """As that of a device that failed. With --once nothing waits for it."""
+        for is_once in False, True:
+            with self.subTest(is_once), directory() as self.path:
+                fabric = self.fabric(3, rounds=16, fails=[])
+                lines = [one for at, one in enumerate(fabric.lines) if at < 60 or one[0] != fabric.leaf]
+                fabric.write(lines)
+                most = 0
+                with mock.patch.multiple(watcher, BYTES_OF_A_STEP=1, BYTES_OF_A_LOG=300, MOST_WAITING=12):
+                    watch = self.watch(horizon=3600 * SECOND)
+                    if is_once:
+                        watch.end_now()
+                    while watch.step():
+                        most = max(most, sum(len(tail.waiting) for tail in watch._tails))
+                    self.finish(watch)
+                self.assertEqual((self.told(), self.passed()), (len(lines), []))
+                self.assertEqual(most < len(lines) // 4, is_once)
+
+    def test_once_reads_what_was_there_when_it_began(self):
+        fabric = self.fabric()
+        half = len(fabric.lines) // 2
+        fabric.write(fabric.lines[:half])
+        watch = self.watch()
+        watch.end_now()
+        fabric.write(fabric.lines[half:])
+        self.finish(watch)
+        self.assertEqual(self.told(), half)
+        self.finish(self.watch())
         self.judge()
 
 
@@ -296,7 +361,7 @@ class States(Watched):
         said = json.loads(settings.read_text())
         for file, content in (
             (start, pickle.dumps(Trap())), (start, json.dumps({"version": VERSION - 1})), (start, json.dumps({"version": VERSION})),
-            (start, json.dumps({**json.loads(start.read_text()), "feed": []})), (start, "[" * 100), (settings, json.dumps({**said, "version": 1})),
+            (start, json.dumps({**json.loads(start.read_text()), "feed": []})), (start, "[" * 10**5), (settings, json.dumps({**said, "version": 1})),
             (settings, "{}"),
         ):
             before = file.read_bytes()

@@ -121,7 +121,7 @@ class Fabric:
 
     def options(self, **changes):
         plans = [str(plan) for plan in self.plans]
-        said = Options(str(self.topology), plans, self.logs, str(self.state), [str(PROGRAM), "replay"], 0, False, SECOND, 60 * SECOND, None, 10**6, 3, lambda _: None, lambda _: None)
+        said = Options(str(self.topology), plans, self.logs, str(self.state), [str(PROGRAM), "replay"], 0, False, SECOND, SECOND, None, 10**6, 3, lambda _: None, lambda _: None)
         return said._replace(**changes)
 
     def watch(self, **changes):

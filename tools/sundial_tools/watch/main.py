@@ -45,7 +45,7 @@ def _watched(said: argparse.Namespace, program: str) -> int:
     allow_files(len(said.logs))
     options = Options(
         said.topology, said.plan, said.logs, said.output, [program, "replay"], said.origin, said.counters == "life", said.horizon,
-        said.jump, said.ask, said.every, said.keep, _print if said.follow else lambda text: None, _say,
+        max(said.horizon, SECOND) if said.jump is None else said.jump, said.ask, said.every, said.keep, _print if said.follow else lambda text: None, _say,
     )
     shown = Shown(said.prometheus, said.listen)
     watch = Watch(topology, plans, options)
@@ -64,6 +64,8 @@ def _watched(said: argparse.Namespace, program: str) -> int:
 
 
 def _run(watch: Watch, shown: Shown, is_once: bool) -> int:
+    if is_once:
+        watch.end_now()
     while True:
         began = time.monotonic()
         came = watch.step()
@@ -148,11 +150,11 @@ def _parser() -> argparse.ArgumentParser:
     parser.add_argument("--bound", nargs=2, type=_time, metavar=("BASE", "HOLD"), help="also report the bounds of this drill of the last plan; with sundialctl there, also what a healthy fabric stays below")
     parser.add_argument("--ask", type=_time, metavar="TIME", help="ask each device at its first tick after this time, so that it reports")
     parser.add_argument("--horizon", type=_time, default=SECOND, metavar="TIME", help="how long to wait for a log that is silent (default: 1s)")
-    parser.add_argument("--jump", type=_time, default=60 * SECOND, metavar="TIME", help="pass over a line that is further ahead of all other logs (default: 60s)")
+    parser.add_argument("--jump", type=_time, metavar="TIME", help="pass over a line that is further ahead of all other logs (default: the horizon, and at least 1s)")
     parser.add_argument("--every", type=_count, default=30_000_000, metavar="N", help="cut at the first right place after N events of a part (default: 30000000)")
     parser.add_argument("--keep", type=_count, default=3, metavar="N", help="how many parts to keep (default: 3)")
     parser.add_argument("--origin", type=_time, help="the time that is 0 in the schedule (default: a whole second before the first reference)")
     parser.add_argument("--counters", choices=("keep", "life"), default="keep", help="keep counters, or count from each start and join")
-    parser.add_argument("--once", action="store_true", help="end when the logs have nothing more; a later run goes on")
+    parser.add_argument("--once", action="store_true", help="read what the logs have by now, and end; a later run goes on")
     parser.add_argument("--follow", "-f", action="store_true", help="also print each line")
     return parser

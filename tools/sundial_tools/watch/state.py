@@ -25,7 +25,7 @@ def read_state(path: str) -> Dict[str, Any]:
         text = file.read()
     try:
         said = json.loads(text)
-    except ValueError:
+    except (ValueError, RecursionError):
         said = {}
     if not isinstance(said, dict) or said.pop("version", None) != VERSION:
         raise ToolError(f"the state is not of version {VERSION}, which this sundial-watch writes: begin a new state", path)

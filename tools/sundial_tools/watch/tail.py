@@ -21,7 +21,6 @@ SPLICE: Any = getattr(os, "splice", None)
 NONBLOCK: int = getattr(os, "SPLICE_F_NONBLOCK", 0)
 MOST_SPLICED = 1 << 20
 MOST_LINE = 1 << 16
-MOST_WAITING = 1 << 12
 # What a log is called when it was rotated, after its name: .1, or -20261201.
 ROTATED = re.compile(r"[.-]\d[\d.:TZ_-]*")
 
@@ -44,12 +43,14 @@ class Waiting(NamedTuple):
 class Bounds(NamedTuple):
     """Between which references an event of a log may come: none is late before `floor`, and none is ahead up to `limit`.
 
-    An event that is ahead is held until it `is_judged`: all other logs were read as far as they go.
+    An event that is ahead is held until it `is_judged`: all other logs were read as far as they go. `is_far`: nothing is
+    read now, since other logs have something to be read that comes long before.
     """
 
     floor: Optional[int] = None
     limit: Optional[int] = None
     is_judged: bool = True
+    is_far: bool = False
 
 
 class Said(NamedTuple):
@@ -81,6 +82,8 @@ class Tail(Log):
         self.held: Optional[int] = None
         # It has nothing more now; all that it had when it was read was looked at.
         self.at_end = self.is_caught_up = False
+        # Up to which byte of which file it is read, where that is said.
+        self._until: Optional[Tuple[int, int]] = None
         self.waiting: Deque[Waiting] = deque()
 
     @property
@@ -88,18 +91,30 @@ class Tail(Log):
         """The latest reference that is known of it."""
         return self.last if self.held is None else self.held
 
+    @property
+    def is_over(self) -> bool:
+        """All that there was when it was to end has been read."""
+        return self._file >= 0 and self._until is not None and self._until[0] == self._read.file and self._until[1] <= self._end
+
+    def end_now(self) -> None:
+        """It is read as far as it goes now. What a file gets from here on is left to a later run."""
+        with contextlib.suppress(FileNotFoundError):
+            status = os.fstat(0) if self.path == "-" else os.stat(self.path)
+            self._until = (status.st_ino, status.st_size) if stat.S_ISREG(status.st_mode) else None
+
     def more(self, bounds: Bounds) -> Tuple[List[Bad], bool]:
         """Reads on. Answers the lines to pass over behind which nothing waits, and whether anything was done."""
-        self.at_end = False
         bad: List[Bad] = []
-        if not self._lines:
-            if len(self.waiting) > MOST_WAITING:
-                return bad, False
-            self.at_end = self.is_caught_up = not self._more_lines()
-        before, held = len(self._lines), self.held
-        while self._lines and self._line(self._lines[0], bounds, bad):
+        # (behind one line that is held the next one is read, too: it may say that this one is wrong)
+        kept, held = len(self._lines), self.held
+        reads = kept < 2 and not bounds.is_far
+        came = reads and not self.is_over and self._more_lines()
+        self.is_caught_up = reads and not came
+        self.at_end = self.is_caught_up and not kept
+        while self._lines and self._line(self._lines[0], bounds._replace(is_judged=bounds.is_judged and kept > 0), bad):
             self._lines.popleft()
-        return bad, len(self._lines) < before or self.held != held
+            kept, came = kept - 1, True
+        return bad, came or self.held != held
 
     def move_to(self, place: Place, ref: Optional[int]) -> None:
         """An earlier run told the log up to there. `ref` is the latest reference."""
@@ -159,7 +174,7 @@ class Tail(Log):
         """Whether an event that is ahead is wrong, and is waited for no longer: the next line says so, or the other logs do."""
         if bounds.limit is None or bounds.limit < 0:
             return False
-        if self.held is not None and bounds.is_judged:
+        if bounds.is_judged:
             return True
         try:
             following = self._event_of(self._lines[1], 0) if len(self._lines) > 1 else None
@@ -191,7 +206,7 @@ class Tail(Log):
             return False
         self._judge_same()
         data = self._bytes()
-        following = "" if data or self._fifo >= 0 else self._following()
+        following = "" if data or self._fifo >= 0 or self.is_over else self._following()
         if following and self._rest:
             self._lines.append(self._rest)
             self._rest = b""
@@ -200,14 +215,16 @@ class Tail(Log):
             os.close(self._file)
             self._begin(os.open(following, os.O_RDONLY))
             data = self._bytes()
-        self.is_caught_up = len(data) < self._most_bytes
-        if not self.is_caught_up:
+        if len(data) == self._most_bytes:
             self._status = None
         self._keep(data)
         return bool(data)
 
     def _bytes(self) -> bytes:
-        return os.pread(self._file, self._most_bytes, self._end)
+        most = self._most_bytes
+        if self._until is not None and self._until[0] == self._read.file:
+            most = max(0, min(most, self._until[1] - self._end))
+        return os.pread(self._file, most, self._end)
 
     def _keep(self, data: bytes) -> None:
         self._end += len(data)

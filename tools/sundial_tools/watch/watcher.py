@@ -37,6 +37,8 @@ MOST_REFS = 1 << 16
 SECONDS_OF_A_START = 5.0
 # So much is read of all logs in a step, and so much of each at least.
 BYTES_OF_A_STEP, BYTES_OF_A_LOG = 1 << 20, 1 << 12
+# Where so many events of all logs wait, a log is read no further than a part of the horizon ahead of those that have more.
+MOST_WAITING, STEPS = 1 << 16, 16
 
 
 class Options(NamedTuple):
@@ -126,8 +128,12 @@ class Watch(Hooks):
         # (what was written before the latest line that was known is read now)
         known, came = self._greatest or 0, False
         fronts = heapq.nlargest(2, (tail.front for tail in self._tails if tail.front is not None))
+        # (of those that are held the one that is furthest ahead is judged when the others have come as far)
+        least = min((tail.held for tail in self._tails if tail.held is not None), default=0)
+        behind = min((tail.last or 0 for tail in self._tails if not tail.is_caught_up and tail.held is None), default=None)
         for number, tail in enumerate(self._tails):
-            bad, some = tail.more(Bounds(self._feed.last, self._limit(tail, fronts), self._is_judged))
+            is_judged = self._is_judged and (tail.held or least) <= least
+            bad, some = tail.more(Bounds(self._feed.last, self._limit(tail, fronts), is_judged, self._is_far(tail, behind)))
             came = came or some
             for one in bad:
                 self._pass_over(number, one)
@@ -142,8 +148,7 @@ class Watch(Hooks):
             if max(lasts) > known:
                 self._fresh = time.monotonic()
             self._greatest = max(known, *lasts)
-            least = min(self._complete(tail, known) for tail in self._tails)
-            self._tell_below(self._greatest + 1 if is_last else least)
+            self._tell_below(self._greatest + 1 if is_last else min(self._complete(tail, known) for tail in self._tails))
         self._flush()
         return came
 
@@ -156,12 +161,24 @@ class Watch(Hooks):
             return None if self._is_judged else -1
         return max(front, tail.last or 0) + self._options.jump + int((time.monotonic() - self._fresh) * SECOND)
 
+    def _is_far(self, tail: Tail, behind: Optional[int]) -> bool:
+        """Whether a log of which many events wait is ahead of another one that has more to be read, from `behind` on."""
+        is_full = len(tail.waiting) * len(self._tails) > MOST_WAITING
+        return is_full and behind is not None and (tail.last or 0) > behind + self._options.horizon // STEPS
+
     def _complete(self, tail: Tail, known: int) -> int:
         """Below which reference the log brings nothing more. One that is silent is waited for up to the horizon."""
+        if tail.is_over and tail.held is None:
+            return (self._greatest or 0) + 1
         last = -1 if tail.last is None else tail.last
         if tail.held is not None and not self._is_judged:
             return tail.held
         return max(last, known - self._options.horizon) if tail.at_end else last
+
+    def end_now(self) -> None:
+        """What the logs have by now is all that is read."""
+        for tail in self._tails:
+            tail.end_now()
 
     @property
     def ended(self) -> bool:
