@@ -104,9 +104,15 @@ def severed(sizes: Sizes) -> Iterator[str]:
         yield domain(f"d{number}", [], ["first", "second"])
 
 
+def _halves(sizes: Sizes) -> Tuple[int, int]:
+    """How many devices `halved` cuts off, and how many turn elsewhere."""
+    far = (sizes.devices - 6) // 2
+    return far, sizes.devices - 6 - far
+
+
 def halved(sizes: Sizes) -> Iterator[str]:
-    """Each listed domain has two devices, which nearly all devices follow. Half of these turn elsewhere. The others are
-    cut off, and both halves have as many links. The devices come in an order by chance."""
+    """Each listed domain has the two devices that nearly all others follow, and some of these. One half turns elsewhere,
+    and the other is cut off. Both have as many links. The devices come in an order by chance."""
     draw = random.Random(1)
     far, near = _halves(sizes)
     names = ["r", "b", "g", "u", "c0", "c1"] + [f"x{place}" for place in range(far)] + [f"y{place}" for place in range(near)]
@@ -144,12 +150,6 @@ def at_the_limits(version: int, second_root: str, scale: float) -> Iterator[str]
     for number in range(devices):
         names = [f"d{(number + place) % devices}" for place in range(each // 2)]
         yield domain(f"m{number}", names, [f"l{(8 * number + place) % links}" for place in range(each // 2)])
-
-
-def _halves(sizes: Sizes) -> Tuple[int, int]:
-    """How many devices `halved` cuts off, and how many turn elsewhere."""
-    far = (sizes.devices - 6) // 2
-    return far, sizes.devices - 6 - far
 
 
 def chain(links: int) -> Iterator[str]:
