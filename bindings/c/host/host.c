@@ -206,8 +206,8 @@ static void keep(void)
 static int restore(void)
 {
     uint8_t bytes[SUNDIAL_KEPT_SIZE(MOST_LINKS) + 1];
-    int file = state_path[0] != '\0' ? open(state_path, O_RDONLY | O_CLOEXEC) : -1;
-    if (file < 0)
+    int file = open(state_path, O_RDONLY | O_CLOEXEC);
+    if (file < 0 && errno == ENOENT) /* (also where the file names none) */
         return 0;
     ssize_t size = read(file, bytes, sizeof bytes);
     close(file);
@@ -575,8 +575,8 @@ static void obey(void)
         if (made(sundial_give(&device, &duties[plan - 1]), "give"))
             sundial_record_give(&recorder, reference_of(raw), number);
     } else if (strcmp(text, "commit") == 0) {
-        uint32_t answer = sundial_acts(&device, &acts) == SUNDIAL_DONE && acts ? sundial_commit(&device, counter) : SUNDIAL_NOT_ROOT;
-        if (made(answer, "commit"))
+        int is_root = sundial_acts(&device, &acts) == SUNDIAL_DONE && acts;
+        if (made(is_root ? sundial_commit(&device, counter) : SUNDIAL_NOT_ROOT, "commit"))
             sundial_record_commit(&recorder, reference_of(raw), number, hardware_at(raw));
     } else if (strcmp(text, "seal") == 0) {
         if (made(sundial_seal(&device), "seal"))
