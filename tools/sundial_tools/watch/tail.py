@@ -110,7 +110,8 @@ class Tail(Log):
         came = reads and not self.is_over and self._more_lines()
         self.is_caught_up = reads and not came
         self.at_end = self.is_caught_up and not kept
-        while self._lines and self._line(self._lines[0], bounds._replace(is_judged=bounds.is_judged and kept > 0), bad):
+        unjudged = bounds._replace(is_judged=False)
+        while self._lines and self._line(self._lines[0], bounds if kept > 0 else unjudged, bad):
             self._lines.popleft()
             kept, came = kept - 1, True
         return bad, came or self.held != held
