@@ -7,9 +7,9 @@ from typing import Callable, Deque, Optional
 
 from sundial_tools.cut.marks import Mark, Marks
 from sundial_tools.cut.opening import Kept, Opening, Refused, judge, judge_exact, opening_of_marks, opening_of_rounds
-from sundial_tools.cut.spoiled import Spoiled
 from sundial_tools.fleet.device import ACTING
 from sundial_tools.fleet.fleet import Fleet
+from sundial_tools.fleet.spoiled import Spoiled
 from sundial_tools.schedule import Event
 from sundial_tools.topology import Topology
 
@@ -73,6 +73,7 @@ class Cutter:
     def after(self, line: int, event: Event, done: str) -> None:
         word = event.word
         self.marks.after(line, event, done)
+        self._spoiled.before(event)
         self._spoiled.after(event)
         if self._spoiled.is_broken:
             self.marks.broken.add("loss")

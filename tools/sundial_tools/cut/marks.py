@@ -4,10 +4,10 @@ from __future__ import annotations
 
 from typing import Any, Dict, List, NamedTuple, Set, Tuple
 
-from sundial_tools.fleet.device import MILLION, Device
+from sundial_tools.fleet.device import Device
+from sundial_tools.fleet.drift import Drift
 from sundial_tools.fleet.fleet import Fleet
 from sundial_tools.schedule import Event
-from sundial_tools.topology import Device as Rates
 
 Thing = Tuple[str, int]
 
@@ -20,34 +20,6 @@ class Mark(NamedTuple):
     counter: int
     clock: int
     eps: int
-
-
-class Drift:
-    """The readings of a device since its start that a later one must keep its rate with: those with the two least offsets.
-
-    `fast` is least where the counter was slowest so far, `slow` where it was fastest. `rates` are 10^6 less ppm, and more.
-    """
-
-    __slots__ = ("rates", "_grain", "fast", "fast_at", "slow", "slow_at")
-
-    def __init__(self, rates: Rates, ref: int, counter: int) -> None:
-        self.rates, self._grain = (MILLION - rates.ppm, MILLION + rates.ppm), MILLION * rates.grain
-        self.fast, self.slow = self.rates[0] * counter - MILLION * ref, MILLION * ref - self.rates[1] * counter
-        self.fast_at = self.slow_at = ref, counter
-
-    def read(self, ref: int, counter: int) -> bool:
-        """Takes a reading. Answers whether it keeps the rate with all before it."""
-        fast, slow = self.rates[0] * counter - MILLION * ref, MILLION * ref - self.rates[1] * counter
-        keeps = fast <= self.fast + self._grain and slow <= self.slow + self._grain
-        if fast <= self.fast:
-            self.fast, self.fast_at = fast, (ref, counter)
-        if slow <= self.slow:
-            self.slow, self.slow_at = slow, (ref, counter)
-        return keeps
-
-    def hull(self, counter: int) -> Tuple[int, int]:
-        """The first and the last reference at which a reading of this counter lowers neither offset."""
-        return -((-self.slow - self.rates[1] * counter) // MILLION), (self.rates[0] * counter - self.fast) // MILLION
 
 
 class Marks:
@@ -121,7 +93,7 @@ class Marks:
     def state(self) -> Dict[str, Any]:
         """What has to be kept of it over a cut, as data."""
         return {
-            "drifts": {number: [*it.fast_at, *it.slow_at] for number, it in self.drifts.items()},
+            "drifts": {number: [*it.fast_at[:2], *it.slow_at[:2]] for number, it in self.drifts.items()},
             "since": [[*thing, ref] for thing, ref in self.failed_since.items()], "before": self.failed_before,
             "broken": sorted(self.broken),
         }

@@ -7,11 +7,12 @@ from bisect import bisect
 from math import gcd
 from typing import Any, Dict, Iterable, Iterator, List, NamedTuple, Optional, Sequence, Tuple
 
-from sundial_tools.cut.marks import Drift, Mark, Marks, Thing
-from sundial_tools.cut.spoiled import Spoiled
+from sundial_tools.cut.marks import Mark, Marks, Thing
 from sundial_tools.fleet.book import Flight
 from sundial_tools.fleet.device import ACTING, MILLION, PRIMARY, Device
+from sundial_tools.fleet.drift import Drift
 from sundial_tools.fleet.fleet import Fleet
+from sundial_tools.fleet.spoiled import Spoiled
 from sundial_tools.schedule import Event, event_line, parse_event
 from sundial_tools.topology import Device as Rates
 
@@ -92,7 +93,7 @@ def judge(marks: Marks, spoiled: Spoiled, ref: int) -> None:
 
 def judge_exact(marks: Marks, spoiled: Spoiled) -> None:
     """Raises Refused where what an opening cannot bring back may count behind it."""
-    if "loss" not in marks.broken and spoiled.has(marks.fleet.up[marks.fleet.plan.root].stamp):
+    if "loss" not in marks.broken and marks.fleet.up[marks.fleet.plan.root].stamp in spoiled.rounds:
         raise Refused("a message of the latest round was lost or late")
 
 
@@ -189,6 +190,7 @@ class _Telling:
     def _say(self, event: Event) -> None:
         self._events.append(event)
         self._latest = event.ref
+        self._spoiled.before(event)
         self._fleet.happen(event)
         self._spoiled.after(event)
         for flight in self._fleet.sent_now:
@@ -303,9 +305,9 @@ class _Telling:
             if least <= most:
                 yield Kept(before.line + 0.5, Event("fix", max(least, min(ref, most)), state.number, counter, clock, eps))
 
-    def _asks(self, device: int, readings: Sequence[Kept], at: Tuple[int, int], rate: int) -> Iterator[Kept]:
+    def _asks(self, device: int, readings: Sequence[Kept], at: Tuple[int, int, int], rate: int) -> Iterator[Kept]:
         """Asks on the line of this rate through a reading that is not told. Of two readings that are told, the latest comes first."""
-        (ref, counter), part = at, gcd(MILLION, rate)
+        (ref, counter, _), part = at, gcd(MILLION, rate)
         steps = rate // part, MILLION // part
         for before, after in reversed(list(zip(readings, readings[1:]))):
             first = max(-((ref - before.event.ref) // steps[0]), -((counter - (before.event.counter or 0)) // steps[1]))
@@ -333,7 +335,7 @@ class _Telling:
         if not alike or root is None or any(not _are_alike(whole.up[it], state, root) for it, state in mine.up.items()):
             raise Refused("the opening brings back another state")
         spoiled = self._spoiled
-        if self._is_exact and "loss" not in self._marks.broken and (spoiled.is_broken or spoiled.open or spoiled.has(root.stamp)):
+        if self._is_exact and "loss" not in self._marks.broken and (spoiled.is_broken or spoiled.open or root.stamp in spoiled.rounds):
             raise Refused("the opening loses too many messages")
 
 

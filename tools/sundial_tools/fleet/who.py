@@ -5,19 +5,16 @@
 
 from __future__ import annotations
 
-import heapq
-from typing import Callable, Dict, List, NamedTuple, Optional, Set, Tuple
+from typing import Callable, Dict, NamedTuple, Optional, Set, Tuple
 
-from sundial_tools.fleet.book import Flight
 from sundial_tools.fleet.device import ACTING, MILLION
+from sundial_tools.fleet.drift import Drift
 from sundial_tools.fleet.fleet import Fleet
+from sundial_tools.fleet.spoiled import Spoiled
 from sundial_tools.schedule import Event
 from sundial_tools.units import few
 
 Thing = Tuple[str, int]
-Stamp = Tuple[int, int]
-# Spoiled rounds that are remembered: more than `loss` can be.
-MOST_ROUNDS = 256
 MOST_NAMES = 6
 
 
@@ -32,43 +29,6 @@ class Cause(NamedTuple):
     text: str
 
 
-class Reading(NamedTuple):
-    line: int
-    ref: int
-    counter: int
-
-
-class Life:
-    """The readings of one life of a device that are furthest off, one in each direction: a later one is judged by them.
-
-    Two readings keep the drift rule exactly where `ahead` and `behind` of the later one are at most `grain` more than
-    those of the earlier one (both times a million).
-    """
-
-    def __init__(self, ppm: int) -> None:
-        self._ppm = ppm
-        self._ahead: Optional[Tuple[int, Reading]] = None
-        self._behind: Optional[Tuple[int, Reading]] = None
-
-    def add(self, reading: Reading) -> None:
-        ahead, behind = self._values(reading)
-        if self._ahead is None or ahead < self._ahead[0]:
-            self._ahead = ahead, reading
-        if self._behind is None or behind < self._behind[0]:
-            self._behind = behind, reading
-
-    def worst(self, reading: Reading) -> Optional[Reading]:
-        """The earlier reading against which this one is furthest off."""
-        if self._ahead is None or self._behind is None:
-            return None
-        ahead, behind = self._values(reading)
-        return self._ahead[1] if ahead - self._ahead[0] >= behind - self._behind[0] else self._behind[1]
-
-    def _values(self, reading: Reading) -> Tuple[int, int]:
-        counted, passed = reading.counter, reading.ref
-        return counted * (MILLION - self._ppm) - passed * MILLION, passed * MILLION - counted * (MILLION + self._ppm)
-
-
 class Watch:
     """Follows the events of a schedule beside a fleet: `before` an event, then `explain`, then `after` it."""
 
@@ -78,15 +38,12 @@ class Watch:
             "start": self._start, "drift": self._drift, "delay": self._delay, "tick": self._tick, "loss": self._loss,
             "domain": self._domain, "renew": self._renew,
         }
-        self._lives: Dict[int, Life] = {}
+        self._drifts: Dict[int, Drift] = {}
         self._alive: Dict[int, Tuple[int, int]] = {}
         self._touched: Set[int] = set()
         self._first: Optional[int] = None
         self._failed: Dict[Thing, int] = {}
-        self._fails: Dict[Thing, int] = {}
-        self._due: List[Tuple[int, int, Flight, int]] = []
-        self._taken: Set[int] = set()
-        self._spoiled: Dict[Stamp, List[Flight]] = {}
+        self._spoiled = Spoiled(fleet)
         self._staged_once = self._mended = self._sealed = False
         self._given: Dict[int, int] = {}
         self._joins: Dict[int, int] = {}
@@ -97,13 +54,7 @@ class Watch:
         """Notes the messages that are overdue with this event."""
         if self._first is None:
             self._first = event.ref
-        while self._due and self._due[0][0] < event.ref:
-            _, number, flight, line = heapq.heappop(self._due)
-            if number in self._taken:
-                self._taken.discard(number)
-            elif event.message != number or event.word != "recv":
-                if not self._is_excused(flight, line, event):
-                    self._spoil(flight)
+        self._spoiled.before(event)
 
     def explain(self, premise: str, event: Event, line: int) -> Cause:
         """Why the premise broke with this event, which comes next."""
@@ -114,15 +65,12 @@ class Watch:
         word, device = event.word, event.device
         if device is not None and event.counter is not None:
             if word in ("start", "join"):
-                self._lives[device] = Life(self._topology.devices[device].ppm)
-            self._lives[device].add(Reading(line, event.ref, event.counter))
+                self._drifts[device] = Drift(self._topology.devices[device], event.ref, event.counter, line)
+            self._drifts[device].read(event.ref, event.counter, line)
             if word in ("start", "join", "tick"):
                 self._alive[device] = event.ref, line
-        for flight in self._fleet.sent_now:
-            heapq.heappush(self._due, (flight.due, flight.number, flight, line))
-        if word == "recv" and event.message is not None:
-            self._taken.add(event.message)
-        elif word not in ("tick", "ask"):
+        self._spoiled.after(event)
+        if word not in ("tick", "ask", "recv"):
             self._after_rare(event, line)
         if happened == "close":
             self._failed.clear()
@@ -145,21 +93,8 @@ class Watch:
             self._mended = self._mended or word == "mend"
             if word == "fail":
                 self._failed.setdefault(thing, line)
-                self._fails[thing] = line
                 if thing[0] == "device":
                     self._touched.add(thing[1])
-
-    def _is_excused(self, flight: Flight, line: int, event: Event) -> bool:
-        ends = ("device", flight.sender), ("device", flight.receiver), ("link", flight.link)
-        return any(
-            self._fails.get(thing, 0) > line or (event.word == "fail" and (event.thing, event.number) == thing)
-            for thing in ends
-        )
-
-    def _spoil(self, flight: Flight) -> None:
-        self._spoiled.setdefault(flight.stamp, []).append(flight)
-        while len(self._spoiled) > MOST_ROUNDS:
-            del self._spoiled[next(iter(self._spoiled))]
 
     # The premises
 
@@ -188,16 +123,15 @@ class Watch:
         return self._cause("start", [device], [], event.eps, off, text)
 
     def _drift(self, event: Event, line: int) -> Cause:
-        device, reading = event.device or 0, Reading(line, event.ref, event.counter or 0)
+        device = event.device or 0
         rates = self._topology.devices[device]
-        life = self._lives.get(device)
-        before = life.worst(reading) if life is not None else None
-        if before is None:
+        if device not in self._drifts:
             return self._cause("drift", [device], [], None, None, f"the counter of {self._device(device)} breaks the drift rule")
-        counted, passed = reading.counter - before.counter, reading.ref - before.ref
+        ref, counter, since = self._drifts[device].worst(event.ref, event.counter or 0)
+        counted, passed = (event.counter or 0) - counter, event.ref - ref
         allowed, seen = rates.ppm * counted // MILLION + rates.grain, abs(counted - passed)
         text = (
-            f"the counter of {self._device(device)} advanced by {counted:,} ps since line {before.line}, while {passed:,} ps "
+            f"the counter of {self._device(device)} advanced by {counted:,} ps since line {since}, while {passed:,} ps "
             f"passed: {seen:,} ps apart, and {rates.ppm} ppm with a grain of {rates.grain:,} ps allow {allowed:,} ps"
         )
         return self._cause("drift", [device], [], allowed, seen, text)
@@ -233,34 +167,23 @@ class Watch:
 
     def _loss(self, event: Event, line: int) -> Cause:
         allowed = self._topology.loss
-        rounds = self._run(allowed + 1)
-        flights = [flight for stamp in rounds for flight in self._spoiled[stamp]]
+        spoiled = self._spoiled.rounds
+        rounds = next((run for run in map(self._spoiled.run, reversed(spoiled)) if len(run) > allowed), [])
+        flights = [flight for stamp in rounds for flight in spoiled[stamp]]
         links = list(dict.fromkeys(flight.link for flight in flights))
         devices = list(dict.fromkeys(flight.receiver for flight in flights))
         if not rounds:
             return self._cause("loss", [], [], allowed, None, "more rounds in a row were spoiled than are allowed")
         term, first, last = rounds[0][0], rounds[0][1], rounds[-1][1]
         lost = "; ".join(
-            f"round {stamp[1]} to {self._names([flight.receiver for flight in self._spoiled[stamp]])} over "
-            f"{self._links([flight.link for flight in self._spoiled[stamp]])}" for stamp in rounds[:4]
+            f"round {stamp[1]} to {self._names([flight.receiver for flight in spoiled[stamp]])} over "
+            f"{self._links([flight.link for flight in spoiled[stamp]])}" for stamp in rounds[:4]
         )
         text = (
             f"{len(rounds)} rounds in a row of term {term} were spoiled, {first} to {last}, and at most {allowed} may be. "
             f"Messages that did not come in time: {lost}"
         )
         return self._cause("loss", devices, links, allowed, len(rounds), text)
-
-    def _run(self, wanted: int) -> List[Stamp]:
-        """The latest rounds in a row that are spoiled, as many as are too many."""
-        for term, last in reversed(self._spoiled):
-            run = [(term, last)]
-            while (term, run[0][1] - 1) in self._spoiled:
-                run.insert(0, (term, run[0][1] - 1))
-            while (term, run[-1][1] + 1) in self._spoiled:
-                run.append((term, run[-1][1] + 1))
-            if len(run) >= wanted:
-                return run
-        return []
 
     def _domain(self, event: Event, line: int) -> Cause:
         things = dict(self._failed)

@@ -40,7 +40,6 @@ class Growing(Log):
         self.is_file = stat.S_ISREG(os.fstat(self.file).st_mode)
         self._rest, self._line = b"", 0
         self.ended = False
-        self.last: Optional[int] = None
         self.waiting: Deque[LogEvent] = deque()
 
     def read(self) -> bool:
@@ -63,17 +62,11 @@ class Growing(Log):
 
     def _take(self, line: bytes) -> None:
         self._line += 1
-        try:
-            text = line.decode("utf-8")
-        except UnicodeDecodeError:
-            raise self._refuse("no UTF-8", self._line) from None
-        if not text or text.isspace():
-            return
-        event = self._event(text, self._line)
-        if self.last is not None and event.ref < self.last:
-            raise event.refuse(f"out of order: its reference is {self.last - event.ref} ps before that of the line before")
-        self.last = event.ref
-        self.waiting.append(event)
+        event = self._event_of(line, self._line)
+        if event is not None:
+            self._in_order(event)
+            self.last = event.ref
+            self.waiting.append(event)
 
 
 class Feed:

@@ -65,6 +65,8 @@ class Log:
         self._device_count, self._link_count = len(topology.devices), len(topology.links)
         # The forms of ticks, asks and receipts that were read: a log has few.
         self._shapes: List[Shape] = []
+        # The latest reference, where lines are read as they come.
+        self.last: Optional[int] = None
 
     def __iter__(self) -> Iterator[LogEvent]:
         before: Optional[LogEvent] = None
@@ -88,6 +90,18 @@ class Log:
 
     def _refuse(self, reason: str, line: int) -> ToolError:
         return ToolError(reason, self._path, line)
+
+    def _event_of(self, text: bytes, line: int) -> Optional[LogEvent]:
+        """The event of the bytes of a line, and None of an empty one."""
+        try:
+            said = text.decode("utf-8")
+        except UnicodeDecodeError:
+            raise self._refuse("no UTF-8", line) from None
+        return None if not said or said.isspace() else self._event(said, line)
+
+    def _in_order(self, event: LogEvent) -> None:
+        if self.last is not None and event.ref < self.last:
+            raise event.refuse(f"out of order: its reference is {self.last - event.ref} ps before that of the line before")
 
     def _event(self, text: str, line: int) -> LogEvent:
         # (a third of the time of sundial-record is here: as few calls as there can be, and a tuple in place of the class,

@@ -76,7 +76,6 @@ class Tail(Log):
         self._end, self._seen, self._lines, self._rest = 0, b"", deque(), b""  # type: int, bytes, Deque[bytes], bytes
         self._status: Optional[Tuple[int, int, int]] = None
         self._is_missing = False
-        self.last: Optional[int] = None
         self.told: Optional[int] = None
         # The reference of a line that is held, since it is ahead of all other logs.
         self.held: Optional[int] = None
@@ -111,7 +110,8 @@ class Tail(Log):
         came = reads and not self.is_over and self._more_lines()
         self.is_caught_up = reads and not came
         self.at_end = self.is_caught_up and not kept
-        while self._lines and self._line(self._lines[0], bounds._replace(is_judged=bounds.is_judged and kept > 0), bad):
+        unjudged = bounds._replace(is_judged=False)
+        while self._lines and self._line(self._lines[0], bounds if kept > 0 else unjudged, bad):
             self._lines.popleft()
             kept, came = kept - 1, True
         return bad, came or self.held != held
@@ -145,8 +145,7 @@ class Tail(Log):
             event = self._event_of(line, self._read.line)
             if event is None:
                 return True
-            if self.last is not None and event.ref < self.last:
-                raise event.refuse(f"out of order: its reference is {self.last - event.ref} ps before that of the line before")
+            self._in_order(event)
             if bounds.floor is not None and event.ref < bounds.floor:
                 raise event.refuse(f"late: its reference is {bounds.floor - event.ref} ps before what was told; a greater --horizon waits longer")
             if bounds.limit is not None and event.ref > bounds.limit:
@@ -161,14 +160,6 @@ class Tail(Log):
             self.waiting.append(Waiting(event, self._read, []))
         self.held = None
         return True
-
-    def _event_of(self, line: bytes, number: int) -> Optional[LogEvent]:
-        """The event of a line, and None of an empty one."""
-        try:
-            text = line.decode("utf-8")
-        except UnicodeDecodeError:
-            raise ToolError("no UTF-8") from None
-        return None if not text or text.isspace() else self._event(text[:-1] if text[-1] == "\n" else text, number)
 
     def _is_wrong(self, event: LogEvent, bounds: Bounds) -> bool:
         """Whether an event that is ahead is wrong, and is waited for no longer: the next line says so, or the other logs do."""

@@ -62,9 +62,6 @@ class Failing(NamedTuple):
     text: str
     things: Set[Thing]
 
-    def is_listed(self) -> bool:
-        return self.text.startswith("the domain")
-
 
 def failing(topology: Topology, domain: "dict[str, str]") -> Failing:
     """The fault domain that a line names."""
